@@ -1,0 +1,29 @@
+-- A table of f's values holds f k at place k.
+-- Assumes nothing.
+use mathlib.Core.Path.{_≡_, ap, _∙_, sym}
+use mathlib.Core.List.{List}
+use Prim.Native.Nat.{ℕ, zero, suc, _+_, _<_}
+use native.Mathlib.Nat.{add-zero, zero-add, add-suc, suc-add, le-of-suc-le-suc, not-suc-le-zero}
+use lib.ListN.{getD}
+use Rattle.crc.specs.Crc.{idBits}
+use Rattle.crc.specs.Reflected.{reflected, turns}
+use Rattle.crc.specs.Tables.{valuesFrom, sromTable, idTable}
+
+from : (f : ℕ → ℕ) (n i k : ℕ) → k < n → getD (valuesFrom f i n) k 0 ≡ f (i + k)
+from f zero i k h = absurd (not-suc-le-zero h)
+from f (suc n) i zero h = ap f (sym (add-zero i))
+from f (suc n) i (suc k) h =
+    from f n (suc i) k (le-of-suc-le-suc h) ∙ ap f (suc-add i k ∙ sym (add-suc i k))
+
+-- a list that is such a table has f k at k
+module _ (xs : List ℕ) (k : ℕ) where
+  at : (f : ℕ → ℕ) (n : ℕ) → xs ≡ valuesFrom f 0 n → k < n → getD xs k 0 ≡ f k
+  at f n e h = rw e (from f n 0 k h ∙ ap f (zero-add k))
+
+  pub srom-entry : xs ≡ sromTable → k < 256 → getD xs k 0 ≡ turns reflected 8 k
+  unfolding sromTable
+  srom-entry e h = at (turns reflected 8) 256 e h
+
+  pub id-entry : xs ≡ idTable → k < 256 → getD xs k 0 ≡ idBits 8 k 0
+  unfolding idTable
+  id-entry e h = at (λ (r : ℕ). idBits 8 r 0) 256 e h

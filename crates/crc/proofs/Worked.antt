@@ -1,0 +1,8 @@
+-- The worked image, by computation. Assumes nothing.
+use mathlib.Core.Path.{refl}
+use Rattle.crc.specs.Crc.{sromCrc, idCrc}
+use Rattle.crc.specs.Claims.{Worked}
+
+pub worked : Worked
+unfolding sromCrc idCrc
+worked = (refl, refl)

@@ -1,0 +1,23 @@
+-- What the CRC calls answer: refusal 1 only, for an image that is not 128 bytes.
+use Prim.Native.Nat.{ℕ}
+use mathlib.Core.Bool.{not}
+use mathlib.Core.List.{List, [], _∷_}
+use lib.Dec.{eqb}
+use lib.ListN.{length}
+use Rattle.rom.specs.Bytes.{pick}
+use Rattle.rom.specs.Refusal.{Cause, _⇒_, firstMet}
+use Rattle.crc.specs.declared.Checksum.{Checksum}
+use Rattle.crc.specs.Crc.{sromCrc, idCrc}
+
+unfoldable pub causes : List ℕ → List Cause
+causes image = (1 ⇒ not (eqb (length image) 128)) ∷ []
+
+-- the CRC, or the refusal's number and 0
+unfoldable pub answer : ℕ → ℕ → Checksum
+answer number crc = record { number = number; value = pick (eqb number 0) crc 0 }
+
+unfoldable pub sromAnswer : List ℕ → Checksum
+sromAnswer image = answer (firstMet (causes image)) (sromCrc image)
+
+unfoldable pub idAnswer : List ℕ → Checksum
+idAnswer image = answer (firstMet (causes image)) (idCrc image)

@@ -1,0 +1,85 @@
+-- The SROM CRC and the ID CRC of an image (document 01, 'The image'). A register is a number below 2 to the power of its
+-- width; a shift is a product or a quotient, XOR the machine's.
+use mathlib.Core.List.{List, [], _∷_}
+use Prim.Native.Nat.{ℕ, zero, suc, _+_, _-_, _*_, _/_, _%_, _^_}
+use lib.Bits.{bitXor}
+use lib.ListN.{take}
+use Rattle.rom.specs.Bytes.{byteAt, wordAt}
+
+-- ## One bit, for a register of any width
+
+-- x, XORed with the polynomial if the taken bit is 1
+unfoldable pub xorIf : ℕ → ℕ → ℕ → ℕ
+xorIf zero polynomial x = x
+xorIf (suc t) polynomial x = bitXor x polynomial
+
+-- the top bit XOR the data bit is taken, the register of top + 1 bits shifts left, and if the taken bit is 1 it is XORed
+-- with the polynomial
+unfoldable pub step : ℕ → ℕ → ℕ → ℕ → ℕ
+unfolding xorIf
+step top polynomial r d = xorIf (bitXor (r / 2 ^ top) d) polynomial (r * 2 ^ 1 % 2 ^ (top + 1))
+
+-- all ones at first
+abbrev pub ones : ℕ → ℕ
+ones width = 2 ^ width - 1
+
+-- ## The SROM CRC
+
+abbrev pub sromPolynomial : ℕ
+sromPolynomial = 0x04C11DB7
+
+-- n bits of x, from its lowest
+unfoldable pub sromBits : ℕ → ℕ → ℕ → ℕ
+unfolding step
+sromBits zero r x = r
+sromBits (suc n) r x = sromBits n (step 31 sromPolynomial r (x % 2)) (x / 2)
+
+unfoldable pub sromBytes : ℕ → List ℕ → ℕ
+unfolding sromBits
+sromBytes r [] = r
+sromBytes r (x ∷ xs) = sromBytes (sromBits 8 r x) xs
+
+-- the n low bits of x in reverse, behind the bits of front
+unfoldable pub reversed : ℕ → ℕ → ℕ → ℕ
+reversed zero front x = front
+reversed (suc n) front x = reversed n (front * 2 + x % 2) (x / 2)
+
+-- every bit of a register of that width turned over
+abbrev pub complement : ℕ → ℕ → ℕ
+complement width x = ones width - x
+
+-- bytes 0 to 125
+abbrev pub checkedLength : ℕ
+checkedLength = 126
+
+-- the register after the checked bytes, its 32 bits reversed and complemented; the low 16 are stored
+unfoldable pub sromCrc : List ℕ → ℕ
+unfolding sromBytes reversed
+sromCrc image = complement 32 (reversed 32 0 (sromBytes (ones 32) (take checkedLength image))) % 2 ^ 16
+
+-- ## The ID CRC
+
+abbrev pub idPolynomial : ℕ
+idPolynomial = 0x07
+
+-- the n low bits of x, from their top bit
+unfoldable pub idBits : ℕ → ℕ → ℕ → ℕ
+unfolding step
+idBits zero r x = r
+idBits (suc n) r x = idBits n (step 7 idPolynomial r (x / 2 ^ n % 2)) x
+
+-- word w covers bytes 2w and 2w+1
+unfoldable pub word : List ℕ → ℕ → ℕ
+unfolding wordAt
+word image w = wordAt image (2 * w)
+
+-- n words from word w on
+unfoldable pub idWords : ℕ → ℕ → ℕ → List ℕ → ℕ
+unfolding idBits word
+idWords zero w r image = r
+idWords (suc n) w r image = idWords n (w + 1) (idBits 16 r (word image w)) image
+
+-- words 0 to 7 and then byte 17, the high byte of word 8; uncomplemented
+unfoldable pub idCrc : List ℕ → ℕ
+unfolding idWords
+idCrc image = idBits 8 (idWords 8 0 (ones 8) image) (byteAt image 17)

@@ -1,0 +1,5 @@
+pub mod Crc
+pub mod Answer
+pub mod Claims
+pub mod Reflected
+pub mod Tables

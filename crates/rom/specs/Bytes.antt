@@ -1,0 +1,28 @@
+-- Bytes, words and bits of a list of bytes. A word is 16 bits, low byte first.
+use Prim.Native.Nat.{ℕ, _+_, _*_, _/_, _%_, _^_}
+use mathlib.Core.List.{List, [], _∷_}
+use mathlib.Core.Bool.{Bool, true, false, _||_}
+use lib.ListN.{getD}
+use lib.Dec.{eqb}
+
+-- x where the test holds, else y
+unfoldable pub pick {ℓ} : {X : Type ℓ} → Bool → X → X → X
+pick true x y = x
+pick false x y = y
+
+-- byte i, 0 past the end
+abbrev pub byteAt : List ℕ → ℕ → ℕ
+byteAt s i = getD s i 0
+
+-- the word whose low byte is byte i
+unfoldable pub wordAt : List ℕ → ℕ → ℕ
+wordAt s i = byteAt s i + 256 * byteAt s (i + 1)
+
+-- bit k of x
+unfoldable pub bit : ℕ → ℕ → Bool
+bit k x = eqb (x / 2 ^ k % 2) 1
+
+-- whether x stands in the list
+unfoldable pub isIn : ℕ → List ℕ → Bool
+isIn x [] = false
+isIn x (y ∷ ys) = eqb y x || isIn x ys

@@ -1,0 +1,38 @@
+// Why a call is refused (document 01): numbers in the order in which their causes are tried. 0 is acceptance.
+pub const ACCEPTED: u8 = 0;
+
+pub const IMAGE_LENGTH: u8 = 1;
+
+pub const VERSION: u8 = 2;
+
+pub const SROM_CRC: u8 = 3;
+
+pub const ID_CRC: u8 = 4;
+
+pub const CONTROLLER_COUNT: u8 = 5;
+
+pub const CONTROLLER: u8 = 6;
+
+pub const CHIP: u8 = 7;
+
+pub const LEVEL: u8 = 8;
+
+pub const ADDRESS: u8 = 9;
+
+pub const LEAF_HEADER: u8 = 10;
+
+pub const CONNECTION_TYPE: u8 = 11;
+
+pub const ARRAY_LENGTH: u8 = 12;
+
+pub const BLOCK_END: u8 = 13;
+
+pub const BLOCK_TYPE: u8 = 14;
+
+pub const BLOCK_LENGTH: u8 = 15;
+
+pub const BLOCK_CODE: u8 = 16;
+
+pub const ADVERTISEMENT: u8 = 17;
+
+pub const CLASH: u8 = 18;
