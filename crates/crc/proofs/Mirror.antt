@@ -10,8 +10,8 @@ use lib.Bits.{bitXor, xor-block, xor-zero-r}
 use lib.Pow.{shl-shr, shr-shr, shr-lt, field, mod-mod-pow}
 use lib.Dec.{lit<}
 use Rattle.crc.specs.Crc.{xorIf, step, ones, sromPolynomial, sromBits, sromBytes, reversed}
-use Rattle.crc.specs.Reflected.{reflected, turn, bitsIn, bytesIn}
-use Rattle.crc.proofs.Xor.{xor-half, xor-odd, odd-lt, step-lt}
+use Rattle.crc.specs.Reflected.{reflected, turn, turns, bitsIn, bytesIn}
+use Rattle.crc.proofs.Xor.{xor-half, xor-odd, odd-lt, step-lt, bitsIn-turns}
 use lib.ListN.{length, take, drop, getD}
 use lib.Seq.{drop-cons, getD-take, length-take-le, drop-length}
 
@@ -111,16 +111,28 @@ pub mirror-ones : (xs : List ℕ) → bytesIn reflected (ones 32) xs ≡ reverse
 unfolding reversed
 mirror-ones xs = mirror-bytes xs (ones 32) (lit< tt)
 
-pub bytesIn-more : (p m : ℕ) (s : List ℕ) (i r : ℕ) → m ≤ length s → i < m
-    → bytesIn p r (drop i (take m s)) ≡ bytesIn p (bitsIn p 8 r (getD s i 0)) (drop (i + 1) (take m s))
-unfolding bytesIn
-bytesIn-more p m s i r hm hi =
-    let long : i < length (take m s) = rw (length-take-le m s hm) hi in
-    rw (drop-cons (take m s) i 0 long, getD-take m s i 0, add-one)
+-- ## Byte by byte, each XORed into the register before its eight steps
 
-pub bytesIn-done : (p m : ℕ) (s : List ℕ) (i r : ℕ) → m ≤ length s → i ≤ m → m ≤ i
-    → r ≡ bytesIn p r (drop i (take m s))
-unfolding bytesIn
-bytesIn-done p m s i r hm hi hj =
-    let e : i ≡ length (take m s) = rw (length-take-le m s hm) (omega arith) in
-    rw (e, drop-length (take m s))
+module _ (p m : ℕ) (s : List ℕ) (long : m ≤ length s) where
+  -- one byte more, with i of the first m taken
+  more : (i r : ℕ) → i < m → getD s i 0 < 256
+      → bytesIn p r (drop i (take m s)) ≡ bytesIn p (turns p 8 (bitXor r (getD s i 0))) (drop (i + 1) (take m s))
+  unfolding bytesIn
+  more i r h byte =
+      let inside : i < length (take m s) = rw (length-take-le m s long) h in
+      rw (drop-cons (take m s) i 0 inside, getD-take m s i 0 h, ← bitsIn-turns p 8 r (getD s i 0) byte, add-one)
+
+  pub first-byte : (r mixed : ℕ) → 0 < m → getD s 0 0 < 256 → mixed ≡ bitXor r (getD s 0 0)
+      → bytesIn p (turns p 8 mixed) (drop 1 (take m s)) ≡ bytesIn p r (take m s)
+  first-byte r mixed h byte e = rw e (sym (more 0 r h byte))
+
+  pub next-byte : (i mixed next whole : ℕ) → i < m → getD s i 0 < 256 → next ≡ bitXor (turns p 8 mixed) (getD s i 0)
+      → bytesIn p (turns p 8 mixed) (drop i (take m s)) ≡ whole
+      → bytesIn p (turns p 8 next) (drop (i + 1) (take m s)) ≡ whole
+  next-byte i mixed next whole h byte e w = rw e (sym (more i (turns p 8 mixed) h byte) ∙ w)
+
+  pub last-byte : (i r : ℕ) → i ≤ m → m ≤ i → r ≡ bytesIn p r (drop i (take m s))
+  unfolding bytesIn
+  last-byte i r h g =
+      let e : i ≡ length (take m s) = rw (length-take-le m s long) (omega arith) in
+      rw (e, drop-length (take m s))

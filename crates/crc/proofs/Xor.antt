@@ -106,9 +106,6 @@ bitsIn-turns p (suc n) r x h =
     (sym (turn-even p (bitXor r (x % 2)) (x / 2))
     ∙ ap (turn p) (xor-assoc r (x % 2) (x / 2 * 2) ∙ ap (bitXor r) (sym (parts 1 x))))
 
--- n bits at once: the entry at the n low bits, XOR the rest
-pub by-table : (p n r x : ℕ) → x < 2 ^ n
-    → bitsIn p n r x ≡ bitXor (turns p n (bitXor r x % 2 ^ n)) (bitXor r x / 2 ^ n)
-by-table p n r x h =
-    bitsIn-turns p n r x h ∙ ap (turns p n) (parts n (bitXor r x))
-    ∙ turns-high p n (bitXor r x % 2 ^ n) (bitXor r x / 2 ^ n)
+-- n steps at once: the entry at the n low bits, XOR the rest
+pub by-table : (p n x : ℕ) → turns p n x ≡ bitXor (turns p n (x % 2 ^ n)) (x / 2 ^ n)
+by-table p n x = ap (turns p n) (parts n x) ∙ turns-high p n (x % 2 ^ n) (x / 2 ^ n)

@@ -2,9 +2,10 @@
 use rom::ByteOffset;
 ghost use mathlib.Core.Path.{_≡_};
 ghost use Prim.Native.Nat.{_≤_};
+ghost use lib.Bits.{bitXor};
 ghost use lib.ListN.{length, take};
 ghost use Rattle.crc.specs.Crc.{sromBytes, reversed, ones, checkedLength, sromCrc};
-ghost use Rattle.crc.specs.Reflected.{reflected, bitsIn};
+ghost use Rattle.crc.specs.Reflected.{reflected, turns};
 ghost use Rattle.crc.specs.Tables.{sromTable};
 
 // What eight steps make of each value of the eight lowest bits.
@@ -274,13 +275,12 @@ fn table() -> [u32; 256]
     TABLE
 }
 
-// The register after one byte more.
-fn feed(table: &[u32; 256], register: u32, byte: u8) -> u32
+// The register after eight steps, with the byte that comes next XORed in. XORed in here, that byte is not waited for.
+fn turned(table: &[u32; 256], mixed: u32, next: u8) -> u32
     requires { ⌜ now table ≡ sromTable ⌝ }
-    ensures { λ r. ⌜ r ≡ bitsIn reflected 8 register byte ⌝ }
+    ensures { λ r. ⌜ r ≡ bitXor (turns reflected 8 mixed) next ⌝ }
 {
-    let mixed = register ^ (byte as u32);
-    table[(mixed % 256) as usize] ^ (mixed >> 8)
+    table[(mixed % 256) as usize] ^ ((mixed >> 8) ^ (next as u32))
 }
 
 // The register after the checked bytes.
@@ -289,13 +289,13 @@ fn register_of(image: &[u8]) -> u32
     ensures { λ r. ⌜ r ≡ reversed 32 0 (sromBytes (ones 32) (take checkedLength (now (image .entry)))) ⌝ }
 {
     let table = table();
-    let mut register: u32 = 0xFFFF_FFFF;
-    let mut at: usize = 0;
+    let mut mixed: u32 = 0xFFFF_FFFF ^ (rom::byte_at(image, ByteOffset(0)) as u32);
+    let mut at: usize = 1;
     while at < rom::CHECKED_LENGTH {
-        register = feed(&table, register, rom::byte_at(image, ByteOffset(at)));
+        mixed = turned(&table, mixed, rom::byte_at(image, ByteOffset(at)));
         at += 1;
     }
-    register
+    turned(&table, mixed, 0)
 }
 
 // The CRC that an image's last word should hold.

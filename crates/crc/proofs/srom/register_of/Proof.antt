@@ -1,36 +1,48 @@
--- The loop keeps the register read in reverse; what is left to feed is the rest of the checked bytes. Assumes nothing.
+-- The loop keeps the register read in reverse, the next byte already XORed in; what is left to feed is the rest of the
+-- checked bytes. Assumes nothing.
 use Prim.Native.Nat.{_≤_, _-_}
 use mathlib.Core.Path.{_≡_, _∙_}
+use lib.Bits.{xor-zero-r}
+use lib.Dec.{lit<}
 use lib.ListN.{take, drop}
 use native.Mathlib.Omega.{arith}
 use borrow.Author.Needs.{needs}
 use Rattle.crc.specs.Crc.{ones, checkedLength}
-use Rattle.crc.specs.Reflected.{reflected, bytesIn}
+use Rattle.crc.specs.Reflected.{reflected, turns, bytesIn}
 use Rattle.crc.specs.Tables.{sromTable}
-use Rattle.crc.proofs.Mirror.{bytesIn-more, bytesIn-done, mirror-ones}
+use Rattle.crc.proofs.Mirror.{first-byte, next-byte, last-byte, mirror-ones}
 use Rattle.crc.proofs.srom.register_of.Statement.{statement}
 use Rattle.crc.proofs.srom.register_of.Tie as tie
 
 abbrev Inv-loop : tie.InvT-loop
-Inv-loop image table register₀ at₀ register at =
+Inv-loop image table mixed₀ at₀ mixed at =
     (at ≤ checkedLength)
-    × (bytesIn reflected register (drop at (take checkedLength image)) ≡ bytesIn reflected (ones 32) (take checkedLength image))
+    × (bytesIn reflected (turns reflected 8 mixed) (drop at (take checkedLength image)) ≡ bytesIn reflected (ones 32) (take checkedLength image))
     × (table ≡ sromTable)
 
 abbrev μ-loop : tie.MeasureT-loop
-μ-loop image table register₀ at₀ register at = checkedLength - at
+μ-loop image table mixed₀ at₀ mixed at = checkedLength - at
 
 table-requires : tie.Need-table-requires Inv-loop μ-loop
 table-requires c κs = search needs
 
-loop-holds : tie.Need-loop-holds Inv-loop μ-loop
-loop-holds c = search needs
-
 byte-at-requires : tie.Need-byte-at-requires Inv-loop μ-loop
 byte-at-requires c κs = search needs
 
-feed-requires : tie.Need-feed-requires Inv-loop μ-loop
-feed-requires c κs = search needs
+cast-mixed : tie.Need-cast-mixed Inv-loop μ-loop
+cast-mixed c = search needs
+
+loop-holds : tie.Need-loop-holds Inv-loop μ-loop
+loop-holds c =
+    let known = c .before .before in
+    let e = known .before in
+    (omega arith, first-byte reflected checkedLength (e .args .image .now) (e .pre) (ones 32) _ (lit< tt) (known .shared-slice-known .given 0 .fits) (cc), c .before .table .ensures)
+
+byte-at-requires-2 : tie.Need-byte-at-requires-2 Inv-loop μ-loop
+byte-at-requires-2 c κs = search needs
+
+turned-requires : tie.Need-turned-requires Inv-loop μ-loop
+turned-requires c κs = search needs
 
 add-at : tie.Need-add-at Inv-loop μ-loop
 add-at c = search needs
@@ -40,16 +52,24 @@ loop-less c = search needs
 
 loop-again : tie.Need-loop-again Inv-loop μ-loop
 loop-again c =
-    let t = c .before .before .before in
-    let l = t .before .loop in
-    let e = t .before .before .before .before in
-    (omega arith, cc (bytesIn-more reflected checkedLength (e .args .image .now) (l .at) (l .register) (e .pre) (omega arith)), l .inv .2)
+    let l = c .before .before .before .before .loop in
+    let known = c .before .before .before .before .before .before .before in
+    let e = known .before in (
+      omega arith,
+      next-byte reflected checkedLength (e .args .image .now) (e .pre) (l .at) (l .mixed) (c .turned .result) _ (omega arith)
+          (known .shared-slice-known .given (l .at) .fits) (cc) (l .inv .1),
+      l .inv .2,
+    )
+
+turned-requires-2 : tie.Need-turned-requires-2 Inv-loop μ-loop
+turned-requires-2 c κs = search needs
 
 returns : tie.Need-returns Inv-loop μ-loop
 returns c =
-    let l = c .before .loop in
-    let e = c .before .before .before .before in
-    bytesIn-done reflected checkedLength (e .args .image .now) (l .at) (l .register) (e .pre) (l .inv .0) (omega arith)
+    let l = c .before .before .before .loop in
+    let e = c .before .before .before .before .before .before .before in
+    c .turned2 .ensures ∙ xor-zero-r (turns reflected 8 (l .mixed))
+    ∙ last-byte reflected checkedLength (e .args .image .now) (e .pre) (l .at) (turns reflected 8 (l .mixed)) (l .inv .0) (omega arith)
     ∙ l .inv .1 ∙ mirror-ones (take checkedLength (e .args .image .now))
 
 pub register-of-spec : {M : Type 1} → statement M
@@ -59,10 +79,13 @@ register-of-spec =
     Inv-loop
     μ-loop
     table-requires
-    loop-holds
     byte-at-requires
-    feed-requires
+    cast-mixed
+    loop-holds
+    byte-at-requires-2
+    turned-requires
     add-at
     loop-less
     loop-again
+    turned-requires-2
     returns)
