@@ -1,2 +1,3 @@
 pub mod First
+pub mod Fewer
 pub mod Past

@@ -1,0 +1,4 @@
+pub mod Format
+pub mod Block
+pub mod Answer
+pub mod Claims
