@@ -9,6 +9,9 @@ ghost use Rattle.block.specs.Format.{rowOf, isConnection, isPermitted};
 // By their decimal numbers, in the order of their rows. The 21140A counts as 21140.
 const CHIPS: [u16; 5] = [21041, 21140, 21142, 21143, 21145];
 
+// How many there are: the row of what is no chip.
+pub const CHIP_COUNT: usize = 5;
+
 // The chip with a block form of its own.
 pub const ROW_21041: usize = 0;
 
@@ -114,7 +117,7 @@ pub fn row_of(chip: u16) -> usize
 pub fn is_connection(row: usize, code: u16) -> bool
     ensures { λ r. ⌜ r ≡ isConnection row code ⌝ }
 {
-    if CHIPS.len() <= row {
+    if CHIP_COUNT <= row {
         return false;
     }
     is_in(code, &CONNECTION_TYPES[row])
@@ -124,7 +127,7 @@ pub fn is_connection(row: usize, code: u16) -> bool
 pub fn is_permitted(row: usize, kind: u16) -> bool
     ensures { λ r. ⌜ r ≡ isPermitted row kind ⌝ }
 {
-    if CHIPS.len() <= row {
+    if CHIP_COUNT <= row {
         return false;
     }
     is_in(kind, &PERMITTED[row])

@@ -4,13 +4,14 @@ use mathlib.Core.Bool.{not}
 use mathlib.Core.List.{List, [], _∷_}
 use lib.Dec.{eqb}
 use lib.ListN.{length}
+use Rattle.rom.specs.Geometry.{imageLength}
 use Rattle.rom.specs.Bytes.{pick}
 use Rattle.rom.specs.Refusal.{Cause, _⇒_, firstMet}
 use Rattle.crc.specs.declared.Checksum.{Checksum}
 use Rattle.crc.specs.Crc.{sromCrc, idCrc}
 
 unfoldable pub causes : List ℕ → List Cause
-causes image = (1 ⇒ not (eqb (length image) 128)) ∷ []
+causes image = (1 ⇒ not (eqb (length image) imageLength)) ∷ []
 
 -- the CRC, or the refusal's number and 0
 unfoldable pub answer : ℕ → ℕ → Checksum

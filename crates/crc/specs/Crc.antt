@@ -4,6 +4,7 @@ use mathlib.Core.List.{List, [], _∷_}
 use Prim.Native.Nat.{ℕ, zero, suc, _+_, _-_, _*_, _/_, _%_, _^_}
 use lib.Bits.{bitXor}
 use lib.ListN.{take}
+use Rattle.rom.specs.Geometry.{checkedLength}
 use Rattle.rom.specs.Bytes.{byteAt, wordAt}
 
 -- ## One bit, for a register of any width
@@ -48,11 +49,7 @@ reversed (suc n) front x = reversed n (front * 2 + x % 2) (x / 2)
 abbrev pub complement : ℕ → ℕ → ℕ
 complement width x = ones width - x
 
--- bytes 0 to 125
-abbrev pub checkedLength : ℕ
-checkedLength = 126
-
--- the register after the checked bytes, its 32 bits reversed and complemented; the low 16 are stored
+-- the register after bytes 0 to 125, its 32 bits reversed and complemented; the low 16 are stored
 unfoldable pub sromCrc : List ℕ → ℕ
 unfolding sromBytes reversed
 sromCrc image = complement 32 (reversed 32 0 (sromBytes (ones 32) (take checkedLength image))) % 2 ^ 16

@@ -4,7 +4,8 @@ ghost use mathlib.Core.Path.{_≡_};
 ghost use Prim.Native.Nat.{_≤_};
 ghost use lib.Bits.{bitXor};
 ghost use lib.ListN.{length, take};
-ghost use Rattle.crc.specs.Crc.{sromBytes, reversed, ones, checkedLength, sromCrc};
+ghost use Rattle.rom.specs.Geometry.{checkedLength};
+ghost use Rattle.crc.specs.Crc.{sromBytes, reversed, ones, sromCrc};
 ghost use Rattle.crc.specs.Reflected.{reflected, turns};
 ghost use Rattle.crc.specs.Tables.{sromTable};
 

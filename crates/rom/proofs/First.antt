@@ -84,3 +84,12 @@ after-refused (c ∷ cs) ds n h e = go (c .met) (after-refused cs ds n h) e
     go : (t : Bool) → (firstMet cs ≡ n → firstMet (cs ++ ds) ≡ n) → pick t (c .number) (firstMet cs) ≡ n → pick t (c .number) (firstMet (cs ++ ds)) ≡ n
     go true ih e = e
     go false ih e = ih e
+
+-- both parts of an accepted list are accepted
+pub both-accepted : (cs ds : List Cause) → Numbered cs → firstMet (cs ++ ds) ≡ 0 → (firstMet cs ≡ 0) × (firstMet ds ≡ 0)
+unfolding firstMet pick
+both-accepted [] ds h e = (refl, e)
+both-accepted (c ∷ cs) ds h e =
+    let n = none-here c (cs ++ ds) (h .0) e in
+    let r = both-accepted cs ds (h .1) (n .1) in
+    (rw (n .0) (r .0), r .1)

@@ -1,3 +1,4 @@
 pub mod First
 pub mod Fewer
 pub mod Past
+pub mod Reached

@@ -1,2 +1,3 @@
+pub mod Geometry
 pub mod Bytes
 pub mod Refusal

@@ -5,11 +5,32 @@ ghost use mathlib.Core.Path.{_≡_};
 ghost use Prim.Native.Nat.{_+_, _*_};
 ghost use Rattle.rom.specs.Bytes.{byteAt, wordAt};
 
+// ## Geometry (document 01, 'The image')
+
 // The bytes of an image.
 pub const IMAGE_LENGTH: usize = 128;
 
-// The bytes that the SROM CRC covers, which stands behind them.
+// The bytes that the SROM CRC covers; it stands behind them.
 pub const CHECKED_LENGTH: usize = 126;
+
+// Leaves end, with all their blocks, before the maker's bytes.
+pub const LEAVES_END: usize = 124;
+
+pub const ID_CRC_AT: usize = 16;
+
+pub const VERSION_AT: usize = 18;
+
+pub const CONTROLLER_COUNT_AT: usize = 19;
+
+// The base address, most significant byte first.
+pub const ADDRESS_AT: usize = 20;
+
+// Three bytes a controller: device number, leaf offset.
+pub const CONTROLLERS_AT: usize = 26;
+
+pub const MOST_CONTROLLERS: u8 = 32;
+
+// ## Bytes and words
 
 // A byte's offset in the bytes at hand.
 pub struct ByteOffset(pub usize);

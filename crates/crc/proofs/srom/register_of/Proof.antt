@@ -7,7 +7,8 @@ use lib.Dec.{lit<}
 use lib.ListN.{take, drop}
 use native.Mathlib.Omega.{arith}
 use borrow.Author.Needs.{needs}
-use Rattle.crc.specs.Crc.{ones, checkedLength}
+use Rattle.rom.specs.Geometry.{checkedLength}
+use Rattle.crc.specs.Crc.{ones}
 use Rattle.crc.specs.Reflected.{reflected, turns, bytesIn}
 use Rattle.crc.specs.Tables.{sromTable}
 use Rattle.crc.proofs.Mirror.{first-byte, next-byte, last-byte, mirror-ones}

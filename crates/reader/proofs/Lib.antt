@@ -1,0 +1,10 @@
+pub mod Headers
+pub mod Cuts
+pub mod Tables
+pub mod Counts
+pub mod Filling
+pub mod Finding
+pub mod Older
+pub mod OlderAnswer
+pub mod Worked
+pub mod Readings

@@ -1,0 +1,162 @@
+-- The older answer's counts, block by block, and its default number. Assumes nothing.
+use Prim.Native.Nat.{ℕ, suc, _+_, _-_, _≤_}
+use native.Mathlib.Omega.{arith}
+use native.Mathlib.Nat.{le-refl, sub-zero}
+use mathlib.Core.List.{List, [], _∷_}
+use mathlib.Core.Path.{_≡_, refl, sym, _∙_}
+use mathlib.Core.Bool.{Bool, true, false, _&&_, not}
+use lib.Dec.{eqb, ltb}
+use lib.ListN.{getD}
+use borrow.Author.Tests.{eqb-true}
+use Rattle.rom.specs.Bytes.{pick}
+use Rattle.block.specs.Block.{kindOf, isKnown, factsOf}
+use Rattle.block.proofs.Levels.{known-up}
+use Rattle.reader.specs.Leaf.{isListed, isReset, isSkipped, isDefault, one, countOf, firstFrom}
+use Rattle.reader.specs.Claims.{OlderCounts, OlderDefault}
+
+count-sum : (p q r : List ℕ → Bool) → ((s : List ℕ) → one (p s) + one (q s) ≡ one (r s)) → (bs : List (List ℕ)) → countOf p bs + countOf q bs ≡ countOf r bs
+unfolding countOf
+count-sum p q r h [] = refl
+count-sum p q r h (s ∷ bs) = omega (arith, h s, count-sum p q r h bs)
+
+count-if : (t : Bool) (p q : List ℕ → Bool) → ((s : List ℕ) → p s ≡ (t && q s)) → (bs : List (List ℕ)) → countOf p bs ≡ pick t (countOf q bs) 0
+unfolding countOf pick
+count-if true p q h [] = refl
+count-if false p q h [] = refl
+count-if true p q h (s ∷ bs) = rw (h s, count-if true p q h bs)
+count-if false p q h (s ∷ bs) = rw (h s, count-if false p q h bs)
+
+-- k is what the newest knows, l what the older does
+kept-removed : (k l x : Bool) → (l ≡ true → k ≡ true) → one (l && x) + one ((k && x) && not l) ≡ one (k && x)
+kept-removed k true x h = rw (h refl) (go x)
+  where
+    go : (x : Bool) → one x + one (x && false) ≡ one x
+    go true = refl
+    go false = refl
+kept-removed true false true h = refl
+kept-removed true false false h = refl
+kept-removed false false x h = refl
+
+skipped-more : (k l : Bool) → (l ≡ true → k ≡ true) → one (not k) + one (k && not l) ≡ one (not l)
+skipped-more k true h = rw (h refl)
+skipped-more true false h = refl
+skipped-more false false h = refl
+
+type-5 : (older newest kind : ℕ) → older ≤ newest → (isKnown older kind && eqb kind 5) ≡ (ltb 5 older && (isKnown newest kind && eqb kind 5))
+unfolding isKnown
+type-5 older newest kind h = go (eqb kind 5) (eqb-true kind 5)
+  where
+    at-5 : (isKnown older 5 && true) ≡ (ltb 5 older && (isKnown newest 5 && true))
+    at-5 = five (ltb 5 older) (ltb 5 newest) (known-up older newest 5 h)
+      where
+        five : (l k : Bool) → (l ≡ true → k ≡ true) → (l && true) ≡ (l && (k && true))
+        five true k g = rw (g refl)
+        five false k g = refl
+
+    go : (t : Bool) → (t ≡ true → kind ≡ 5) → (isKnown older kind && t) ≡ (ltb 5 older && (isKnown newest kind && t))
+    go true e = rw (e refl) at-5
+    go false e = never (isKnown older kind) (isKnown newest kind) (ltb 5 older)
+      where
+        never : (a b c : Bool) → (a && false) ≡ (c && (b && false))
+        never true true true = refl
+        never true true false = refl
+        never true false true = refl
+        never true false false = refl
+        never false true true = refl
+        never false true false = refl
+        never false false true = refl
+        never false false false = refl
+
+pub older-counts : OlderCounts
+unfolding isListed isReset isSkipped
+older-counts row older newest bs h = (
+  count-if (ltb 5 older) _ _ (λ s. type-5 older newest (kindOf row s) h) bs,
+  count-sum _ _ _ (λ s. kept-removed (isKnown newest (kindOf row s)) (isKnown older (kindOf row s)) (not (eqb (kindOf row s) 5)) (known-up older newest (kindOf row s) h)) bs,
+  count-sum _ _ _ (λ s. skipped-more (isKnown newest (kindOf row s)) (isKnown older (kindOf row s)) (known-up older newest (kindOf row s) h)) bs,
+)
+
+-- ## The default number
+
+-- what is default at an older level is default at the newest
+and-false : (k l x : Bool) → (l ≡ true → k ≡ true) → (k && x) ≡ false → (l && x) ≡ false
+and-false k true x h e = rw (h refl) at e
+and-false k false x h e = refl
+
+default-less : (row older newest : ℕ) (s : List ℕ) → older ≤ newest → isDefault row newest s ≡ false → isDefault row older s ≡ false
+unfolding isDefault
+default-less row older newest s h = and-false (isKnown newest (kindOf row s)) (isKnown older (kindOf row s)) (factsOf (kindOf row s) s .isDefault) (known-up older newest (kindOf row s) h)
+
+-- a default of the newest level is the older one's where that knows it
+default-known : (row older newest : ℕ) (s : List ℕ) → isDefault row newest s ≡ true → isDefault row older s ≡ isKnown older (kindOf row s)
+unfolding isDefault
+default-known row older newest s = go (isKnown newest (kindOf row s)) (isKnown older (kindOf row s)) (factsOf (kindOf row s) s .isDefault)
+  where
+    go : (k l x : Bool) → (k && x) ≡ true → (l && x) ≡ l
+    go true true x e = e
+    go true false x e = refl
+    go false l x e = let z : _≡_ {A = ℕ} 0 1 = cc in absurd (omega arith)
+
+no-default : (row older newest k : ℕ) (bs : List (List ℕ)) → older ≤ newest → countOf (isDefault row newest) bs ≡ 0 → firstFrom (isDefault row older) k bs ≡ 255
+unfolding countOf firstFrom pick
+no-default row older newest k [] h e = refl
+no-default row older newest k (s ∷ bs) h e = go (isDefault row newest s) refl e (no-default row older newest (k + 1) bs h)
+  where
+    go : (t : Bool) → isDefault row newest s ≡ t → one t + countOf (isDefault row newest) bs ≡ 0 → (countOf (isDefault row newest) bs ≡ 0 → firstFrom (isDefault row older) (k + 1) bs ≡ 255)
+        → pick (isDefault row older s) k (firstFrom (isDefault row older) (k + 1) bs) ≡ 255
+    go true f e ih = absurd (omega arith)
+    go false f e ih = rw (default-less row older newest s h f) (ih (omega arith))
+
+-- a number that is found is not below the first
+data Found (k : ℕ) : ℕ → Type 0 where
+  none : Found k 255
+  some : {n : ℕ} → k ≤ n → Found k n
+
+found-from : (p : List ℕ → Bool) (k : ℕ) (bs : List (List ℕ)) → Found k (firstFrom p k bs)
+unfolding firstFrom pick
+found-from p k [] = none
+found-from p k (s ∷ bs) = go (p s) (found-from p (k + 1) bs)
+  where
+    up : {n : ℕ} → Found (k + 1) n → Found k n
+    up none = none
+    up (some {n} l) = let m : k ≤ n = omega arith in some m
+
+    go : (t : Bool) → Found (k + 1) (firstFrom p (k + 1) bs) → Found k (pick t k (firstFrom p (k + 1) bs))
+    go true f = some (le-refl _)
+    go false f = up f
+
+module _ (row older : ℕ) where
+  kept-number : List (List ℕ) → ℕ → ℕ → ℕ
+  kept-number bs k n = pick (isKnown older (kindOf row (getD bs (n - k) []))) n 255
+
+  past-first : (s : List ℕ) (bs : List (List ℕ)) (k n : ℕ) → Found (k + 1) n → kept-number bs (k + 1) n ≡ kept-number (s ∷ bs) k n
+  unfolding kept-number pick
+  past-first s bs k n none = same (isKnown older (kindOf row (getD bs (255 - (k + 1)) []))) ∙ sym (same (isKnown older (kindOf row (getD (s ∷ bs) (255 - k) []))))
+    where
+      same : (t : Bool) → _≡_ {A = ℕ} (pick t 255 255) 255
+      same true = refl
+      same false = refl
+  past-first s bs k n (some l) =
+      let e : n - k ≡ suc (n - (k + 1)) = omega arith in
+      rw e
+
+  default-from : (newest k : ℕ) (bs : List (List ℕ)) → older ≤ newest → countOf (isDefault row newest) bs ≤ 1 → firstFrom (isDefault row older) k bs ≡ kept-number bs k (firstFrom (isDefault row newest) k bs)
+  unfolding countOf firstFrom pick kept-number
+  default-from newest k [] h l = go (isKnown older (kindOf row (getD [] (255 - k) [])))
+    where
+      go : (t : Bool) → _≡_ {A = ℕ} 255 (pick t 255 255)
+      go true = refl
+      go false = refl
+  default-from newest k (s ∷ bs) h l = go (isDefault row newest s) refl l (default-from newest (k + 1) bs h)
+    where
+      go : (t : Bool) → isDefault row newest s ≡ t → one t + countOf (isDefault row newest) bs ≤ 1
+          → (countOf (isDefault row newest) bs ≤ 1 → firstFrom (isDefault row older) (k + 1) bs ≡ kept-number bs (k + 1) (firstFrom (isDefault row newest) (k + 1) bs))
+          → pick (isDefault row older s) k (firstFrom (isDefault row older) (k + 1) bs) ≡ kept-number (s ∷ bs) k (pick t k (firstFrom (isDefault row newest) (k + 1) bs))
+      go true f l ih =
+          let z : countOf (isDefault row newest) bs ≡ 0 = omega arith in
+          let e : k - k ≡ 0 = omega arith in
+          rw (default-known row older newest s f, no-default row older newest (k + 1) bs h z, e)
+      go false f l ih = rw (default-less row older newest s h f) (ih (omega arith) ∙ past-first s bs k _ (found-from (isDefault row newest) (k + 1) bs))
+
+pub older-default : OlderDefault
+unfolding kept-number
+older-default row older newest bs h l = default-from row older newest 0 bs h l ∙ rw sub-zero

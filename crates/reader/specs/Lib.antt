@@ -1,0 +1,7 @@
+pub mod Leaf
+pub mod Tally
+pub mod Table
+pub mod Image
+pub mod Reading
+pub mod Claims
+pub mod Cases

@@ -1,0 +1,157 @@
+-- What is read of a controller's leaf with a chip, a controller and a level (document 01, 'Levels and the table', 'Why a call
+-- is refused').
+use Prim.Native.Nat.{ℕ, _+_}
+use mathlib.Core.List.{List, [], _∷_, _++_}
+use mathlib.Core.Bool.{Bool, _||_}
+use lib.Dec.{eqb, ltb}
+use lib.ListN.{length, take, drop}
+use Rattle.rom.specs.Bytes.{pick, wordAt}
+use Rattle.rom.specs.Refusal.{Cause, _⇒_, firstMet}
+use Rattle.block.specs.Format.{rowOf}
+use Rattle.reader.specs.declared.Arguments.{Arguments}
+use Rattle.reader.specs.declared.Answer.{Answer}
+use Rattle.reader.specs.declared.header.Header.{Header}
+use Rattle.reader.specs.declared.Reading.{Reading}
+use Rattle.reader.specs.declared.leaf.Tally.{Tally}
+use Rattle.reader.specs.declared.Part.{Part}
+use Rattle.reader.specs.Image.{addressOf, leafAt, controlByte, blocksAt, blockCount, restFrom, imageCauses, argumentCauses, leafHeaderCauses}
+use Rattle.reader.specs.Leaf.{Place, cut, isListed, isReset, isSkipped, isDefault, countOf, firstFrom, leafCauses}
+use Rattle.reader.specs.Table.{kindAt, startAt, tableOf, written, noPart, entryPart}
+
+-- ## The leaf that the arguments name
+
+abbrev pub rowFor : Arguments → ℕ
+rowFor a = rowOf (a .chip)
+
+abbrev pub leafFor : List ℕ → Arguments → ℕ
+leafFor image a = leafAt image (a .controller)
+
+abbrev pub startFor : List ℕ → Arguments → ℕ
+startFor image a = blocksAt (rowFor a) (leafFor image a)
+
+abbrev pub countFor : List ℕ → Arguments → ℕ
+countFor image a = blockCount image (rowFor a) (leafFor image a)
+
+-- its blocks
+abbrev pub blocksFor : List ℕ → Arguments → List (List ℕ)
+blocksFor image a = cut (rowFor a) (countFor image a) (restFrom image (startFor image a))
+
+-- its media table
+abbrev pub tableFor : List ℕ → Arguments → List Place
+tableFor image a = tableOf (rowFor a) (a .level) (countFor image a) (startFor image a) (restFrom image (startFor image a))
+
+-- ## Why a reading is refused
+
+-- 1 to 11
+unfoldable pub headerCauses : List ℕ → Arguments → List Cause
+headerCauses image a = imageCauses image ++ (argumentCauses image a ++ leafHeaderCauses image (rowFor a) (leafFor image a))
+
+-- 13 to 18, the blocks one after another
+unfoldable pub leafCausesFor : List ℕ → Arguments → List Cause
+leafCausesFor image a = leafCauses (rowFor a) (a .level) (blocksFor image a)
+
+-- the reader's numbers, 12 apart
+unfoldable pub judgeCauses : List ℕ → Arguments → List Cause
+judgeCauses image a = headerCauses image a ++ leafCausesFor image a
+
+-- the reader's numbers, for lent arrays of these lengths
+unfoldable pub readCauses : List ℕ → Arguments → ℕ → ℕ → List Cause
+readCauses image a kinds offsets =
+    headerCauses image a ++ (12 ⇒ ltb kinds (countFor image a) || ltb offsets (countFor image a)) ∷ leafCausesFor image a
+
+-- ## What is answered
+
+-- a refusal's other fields are 0
+unfoldable pub refusedAnswer : ℕ → Answer
+refusedAnswer n = record { number = n; connection = 0; control = 0; address = 0; blocks = 0; listed = 0; resets = 0; skipped = 0; «default_number» = 0 }
+
+unfoldable pub acceptedAnswer : List ℕ → Arguments → Answer
+acceptedAnswer image a = record {
+  number = 0;
+  connection = wordAt image (leafFor image a);
+  control = controlByte image (rowFor a) (leafFor image a);
+  address = addressOf image (a .controller);
+  blocks = countFor image a;
+  listed = countOf (isListed (rowFor a) (a .level)) (blocksFor image a);
+  resets = countOf (isReset (rowFor a) (a .level)) (blocksFor image a);
+  skipped = countOf (isSkipped (rowFor a) (a .level)) (blocksFor image a);
+  «default_number» = firstFrom (isDefault (rowFor a) (a .level)) 0 (blocksFor image a);
+}
+
+unfoldable pub answerFor : ℕ → List ℕ → Arguments → Answer
+answerFor n image a = pick (eqb n 0) (acceptedAnswer image a) (refusedAnswer n)
+
+-- of judging, without arrays
+unfoldable pub judgeAnswer : List ℕ → Arguments → Answer
+judgeAnswer image a = answerFor (firstMet (judgeCauses image a)) image a
+
+-- of reading into arrays of these lengths
+unfoldable pub readAnswer : List ℕ → Arguments → ℕ → ℕ → Answer
+readAnswer image a kinds offsets = answerFor (firstMet (readCauses image a kinds offsets)) image a
+
+-- an array after the reading: the table's numbers at its front, or unchanged on a refusal
+unfoldable pub readInto : (Place → ℕ) → ℕ → List ℕ → Arguments → List ℕ → List ℕ
+readInto f n image a array = pick (eqb n 0) (written f (tableFor image a) array) array
+
+unfoldable pub readKinds : List ℕ → Arguments → List ℕ → List ℕ → List ℕ
+readKinds image a kinds offsets = readInto (kindAt (rowFor a)) (firstMet (readCauses image a (length kinds) (length offsets))) image a kinds
+
+unfoldable pub readOffsets : List ℕ → Arguments → List ℕ → List ℕ → List ℕ
+readOffsets image a kinds offsets = readInto startAt (firstMet (readCauses image a (length kinds) (length offsets))) image a offsets
+
+-- ## The block view
+
+-- the part of an entry's block, the empty one where the reading is refused, 12 apart, or there is no such entry
+unfoldable pub partFor : List ℕ → Arguments → ℕ → Part
+partFor image a entry = pick (eqb (firstMet (judgeCauses image a)) 0) (entryPart (rowFor a) (tableFor image a) entry) noPart
+
+abbrev pub bytesOf : List ℕ → Part → List ℕ
+bytesOf image p = take (p .length) (drop (p .start) image)
+
+unfoldable pub viewFor : List ℕ → Arguments → ℕ → List ℕ
+viewFor image a entry = bytesOf image (partFor image a entry)
+
+-- ## What the code keeps of a header
+
+unfoldable pub noHeader : ℕ → Header
+noHeader n = record { number = n; row = 0; start = 0; connection = 0; control = 0; address = 0; blocks = 0 }
+
+unfoldable pub foundHeader : List ℕ → Arguments → Header
+foundHeader image a = record {
+  number = 0;
+  row = rowFor a;
+  start = startFor image a;
+  connection = wordAt image (leafFor image a);
+  control = controlByte image (rowFor a) (leafFor image a);
+  address = addressOf image (a .controller);
+  blocks = countFor image a;
+}
+
+unfoldable pub headerFor : List ℕ → Arguments → Header
+headerFor image a = pick (eqb (firstMet (headerCauses image a)) 0) (foundHeader image a) (noHeader (firstMet (headerCauses image a)))
+
+-- ## What the code keeps of a reading: the chip's row and where the blocks start, beside the answer
+
+-- the answer that an accepted header and the tally of its leaf make
+unfoldable pub answerFrom : Header → Tally → Answer
+answerFrom h t = record {
+  number = 0;
+  connection = h .connection;
+  control = h .control;
+  address = h .address;
+  blocks = h .blocks;
+  listed = t .listed;
+  resets = t .resets;
+  skipped = t .skipped;
+  «default_number» = t .«default_number»;
+}
+
+unfoldable pub refusedReading : ℕ → Reading
+refusedReading n = record { answer = refusedAnswer n; row = 0; start = 0 }
+
+unfoldable pub readingFor : List ℕ → Arguments → ℕ → ℕ → Reading
+readingFor image a kinds offsets = let n = firstMet (readCauses image a kinds offsets) in record {
+  answer = readAnswer image a kinds offsets;
+  row = pick (eqb n 0) (rowFor a) 0;
+  start = pick (eqb n 0) (startFor image a) 0;
+}

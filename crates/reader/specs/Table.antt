@@ -1,0 +1,42 @@
+-- The media table in the two lent arrays, and an entry of it as a part of the image.
+use Prim.Native.Nat.{ℕ, _-_}
+use mathlib.Core.List.{List, _++_, map}
+use lib.ListN.{length, drop, set, getD}
+use Rattle.block.specs.declared.Block.{Block}
+use Rattle.block.specs.declared.Block.the-variants.{Listed, Reset, Unknown, Refused}
+use Rattle.block.specs.Block.{sizeOf, kindOf}
+use Rattle.reader.specs.declared.Part.{Part}
+use Rattle.reader.specs.Leaf.{Place, cut, placed, table}
+
+-- the table of so many blocks, of which the first stands at byte `at` of the image
+unfoldable pub tableOf : ℕ → ℕ → ℕ → ℕ → List ℕ → List Place
+tableOf row level count at s = table row level (placed row at (cut row count s))
+
+abbrev pub kindAt : ℕ → Place → ℕ
+kindAt row b = kindOf row (b .rest)
+
+abbrev pub startAt : Place → ℕ
+startAt b = b .start
+
+-- an array with the table's numbers at its front, and its other elements unchanged
+unfoldable pub written : (Place → ℕ) → List Place → List ℕ → List ℕ
+written f t a = map f t ++ drop (length t) a
+
+-- the store that one block makes before place `free`, if it is listed
+abbrev pub stored : ℕ → Block → ℕ → List ℕ → List ℕ
+stored v (Listed kind size invalid marked resets) free a = set a (free - 1) v
+stored v (Reset size) free a = a
+stored v (Unknown size) free a = a
+stored v (Refused n) free a = a
+
+-- ## An entry's block as a part of the image
+
+abbrev pub noPart : Part
+noPart = record { start = 0; length = 0 }
+
+abbrev pub partAt : ℕ → Place → Part
+partAt row b = record { start = b .start; length = sizeOf row (b .rest) }
+
+-- the part of entry number e, counted from 0 in table order; the empty part where there is no such entry
+unfoldable pub entryPart : ℕ → List Place → ℕ → Part
+entryPart row t e = getD (map (partAt row) t) e noPart
