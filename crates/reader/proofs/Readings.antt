@@ -21,7 +21,7 @@ use Rattle.reader.specs.Image.{restFrom, imageCauses, argumentCauses, le
 use Rattle.reader.specs.Leaf.{Place, cut, blockCauses}
 use Rattle.reader.specs.Table.{tableOf, written, noPart, entryPart}
 use Rattle.reader.specs.Tally.{tallyOf, counts}
-use Rattle.reader.specs.Reading.{rowFor, leafFor, startFor, countFor, blocksFor, tableFor, headerCauses, leafCausesFor, judgeCauses, readCauses, refusedAnswer, acceptedAnswer, answerFor, judgeAnswer, readAnswer, readInto, partFor, viewFor, noHeader, foundHeader, headerFor, answerFrom, refusedReading, readingFor}
+use Rattle.reader.specs.Reading.{rowFor, leafFor, startFor, countFor, blocksFor, tableFor, headerCauses, leafCausesFor, judgeCauses, readCauses, refusedAnswer, acceptedAnswer, answerFor, judgeAnswer, readAnswer, readInto, partFor, viewFor, noHeader, foundHeader, headerFor, answerFrom, refusedReading, acceptedReading, readingWith, readingFor, judgedReading}
 use Rattle.reader.proofs.Headers.{image-numbered, argument-numbered, header-numbered}
 use Rattle.reader.proofs.Cuts.{accepted-blocks}
 use Rattle.reader.proofs.Counts.{tally-number, tally-accepted, sorts-add-up}
@@ -67,12 +67,11 @@ module _ (image : List ℕ) (a : Arguments) (k o : ℕ) where
   behind = (12 ⇒ ltb k (countFor image a) || ltb o (countFor image a)) ∷ leafCausesFor image a
 
   refused-reading : (n : ℕ) → (n ≡ 0 → ⊥) → firstMet (readCauses image a k o) ≡ n → refusedReading n ≡ readingFor image a k o
-  unfolding readingFor refusedReading readAnswer answerFor pick
+  unfolding readingFor readingWith pick
   refused-reading n h e = rw e (simp (ne-eqb n 0 h))
 
-  accepted-reading : firstMet (readCauses image a k o) ≡ 0
-      → record { answer = acceptedAnswer image a; row = rowFor a; start = startFor image a } ≡ readingFor image a k o
-  unfolding readingFor readAnswer answerFor pick
+  accepted-reading : firstMet (readCauses image a k o) ≡ 0 → acceptedReading image a ≡ readingFor image a k o
+  unfolding readingFor readingWith pick
   accepted-reading e = rw e
 
   module _ (z : firstMet (headerCauses image a) ≡ 0) where
@@ -151,94 +150,104 @@ module _ (image : List ℕ) (a : Arguments) (k o : ℕ) (h : Header) (eh : h ≡
       both e = rw (found, all e)
 
       pub assess-done : t .number ≡ 0 → (r : Answer) → r ≡ answerFrom h t → record { answer = r; row = h .row; start = h .start } ≡ readingFor image a k o
-      unfolding foundHeader
+      unfolding foundHeader acceptedReading
       assess-done e r er = rw (er ∙ both e, found) (accepted-reading image a k o (all-causes ∙ e))
 
+-- ## The number and the answer of a reading
+
+module _ (n : ℕ) (image : List ℕ) (a : Arguments) (r : Reading) (er : r ≡ readingWith n image a) where
+  pub reading-answer : r .answer ≡ answerFor n image a
+  unfolding readingWith acceptedReading refusedReading answerFor pick
+  reading-answer = rw er (go n)
+    where
+      go : (n : ℕ) → pick (eqb n 0) (acceptedReading image a) (refusedReading n) .answer ≡ pick (eqb n 0) (acceptedAnswer image a) (refusedAnswer n)
+      go zero = refl
+      go (suc n) = rw (eqb·suc-zero n)
+
+  pub reading-number : r .answer .number ≡ n
+  unfolding answerFor acceptedAnswer refusedAnswer pick
+  reading-number = rw reading-answer (go n)
+    where
+      go : (n : ℕ) → pick (eqb n 0) (acceptedAnswer image a) (refusedAnswer n) .number ≡ n
+      go zero = refl
+      go (suc n) = rw (eqb·suc-zero n)
+
+  is-accepted : r .answer .number ≡ 0 → r ≡ acceptedReading image a
+  unfolding readingWith pick
+  is-accepted z = er ∙ rw (sym reading-number ∙ z)
+
 -- ## What an accepted reading says
+
+pub record Accepted (image : List ℕ) (a : Arguments) (r : Reading) : Type 0 where
+  pub known : r ≡ acceptedReading image a
+  pub header : firstMet (headerCauses image a) ≡ 0
+  pub leaf : firstMet (leafCausesFor image a) ≡ 0
 
 -- the leaf's rest, as the code cuts it out
 abbrev pub restOf : List ℕ → Reading → List ℕ
 restOf image r = take (leavesEnd - r .start) (drop (r .start) image)
 
-neither : (p q : Bool) → (p || q) ≡ false → (p ≡ false) × (q ≡ false)
-neither false q e = (refl, e)
-neither true q e = let z : _≡_ {A = ℕ} 0 1 = cc in absurd (omega arith)
+module _ {image : List ℕ} {a : Arguments} {r : Reading} (c : Accepted image a r) where
+  pub reading-start : r .start ≤ leavesEnd
+  unfolding acceptedReading
+  reading-start = rw (c .known) (start-fits image a (c .header))
 
-answer-number : (n : ℕ) (image : List ℕ) (a : Arguments) → answerFor n image a .number ≡ n
-unfolding answerFor acceptedAnswer refusedAnswer pick
-answer-number zero image a = refl
-answer-number (suc n) image a = rw (eqb·suc-zero n)
+  pub reading-end : leavesEnd ≤ length image
+  reading-end = omega (arith, whole-image image a (c .header))
 
-module _ (image : List ℕ) (a : Arguments) (k o : ℕ) (r : Reading) (er : r ≡ readingFor image a k o) where
-  pub reading-answer : r .answer ≡ readAnswer image a k o
-  unfolding readingFor
-  reading-answer = rw er
+  pub reading-blocks : firstMet (blockCauses (r .row) (a .level) (cut (r .row) (r .answer .blocks) (restOf image r))) ≡ 0
+  unfolding acceptedReading acceptedAnswer leafCausesFor restFrom
+  reading-blocks = rw (c .known) (accepted-blocks (rowFor a) (a .level) (blocksFor image a) (c .leaf))
 
-  reading-number : r .answer .number ≡ firstMet (readCauses image a k o)
-  unfolding readAnswer
-  reading-number = rw reading-answer (answer-number (firstMet (readCauses image a k o)) image a)
+  pub reading-listed : r .answer .listed ≡ length (tableOf (r .row) (a .level) (r .answer .blocks) (r .start) (restOf image r))
+  unfolding acceptedReading acceptedAnswer restFrom
+  reading-listed = rw (c .known) (sym (listed-length (rowFor a) (a .level) (countFor image a) (startFor image a) (restFrom image (startFor image a))))
 
-  pub unchanged : (f : Place → ℕ) (array : List ℕ) → (r .answer .number ≡ 0 → ⊥) → array ≡ readInto f (firstMet (readCauses image a k o)) image a array
-  unfolding readInto pick
-  unchanged f array n = simp (ne-eqb (firstMet (readCauses image a k o)) 0 (λ e. n (reading-number ∙ e)))
+  pub reading-few : r .answer .listed ≤ countFor image a
+  unfolding acceptedReading acceptedAnswer
+  reading-few = rw (c .known) (omega (arith, sorts-add-up (rowFor a) (a .level) (countFor image a) (restFrom image (startFor image a))))
 
-  module _ (z : r .answer .number ≡ 0) where
-    none-met : firstMet (readCauses image a k o) ≡ 0
-    none-met = sym reading-number ∙ z
+  pub reading-short : r .start + length (restOf image r) < 65536
+  reading-short = omega (arith, reading-start, length-take (leavesEnd - r .start) (drop (r .start) image))
 
-    header-met : firstMet (headerCauses image a) ≡ 0
-    unfolding readCauses
-    header-met = both-accepted (headerCauses image a) _ (header-numbered image a) none-met .0
+  pub reading-table : tableOf (r .row) (a .level) (r .answer .blocks) (r .start) (restOf image r) ≡ tableFor image a
+  unfolding acceptedReading acceptedAnswer restFrom
+  reading-table = rw (c .known)
 
-    known : r ≡ record { answer = acceptedAnswer image a; row = rowFor a; start = startFor image a }
-    known = er ∙ sym (accepted-reading image a k o none-met)
+  pub reading-row : r .row ≡ rowFor a
+  unfolding acceptedReading
+  reading-row = rw (c .known)
 
-    room-met : (countFor image a ≤ k) × (countFor image a ≤ o) × (firstMet (leafCausesFor image a) ≡ 0)
-    unfolding readCauses
-    room-met =
-        let b = none-here _ (leafCausesFor image a) (lit< tt) (both-accepted (headerCauses image a) _ (header-numbered image a) none-met .1) in
-        let n = neither (ltb k (countFor image a)) (ltb o (countFor image a)) (b .0) in
-        (ltb-false k (countFor image a) (n .0), ltb-false o (countFor image a) (n .1), b .1)
+-- ## Without arrays
 
-    pub reading-start : r .start ≤ leavesEnd
-    reading-start = rw known (start-fits image a header-met)
+module _ (image : List ℕ) (a : Arguments) where
+  pub accepted-judged : (r : Reading) → r ≡ judgedReading image a → r .answer .number ≡ 0 → Accepted image a r
+  unfolding judgedReading judgeCauses
+  accepted-judged r er z =
+      let n = firstMet (judgeCauses image a) in
+      let b = both-accepted (headerCauses image a) (leafCausesFor image a) (header-numbered image a) (sym (reading-number n image a r er) ∙ z) in
+      record { known = is-accepted n image a r er z; header = b .0; leaf = b .1 }
 
-    pub reading-end : leavesEnd ≤ length image
-    reading-end = omega (arith, whole-image image a header-met)
+  pub judged-answer : (r : Reading) → r ≡ judgedReading image a → r .answer ≡ judgeAnswer image a
+  unfolding judgedReading judgeAnswer
+  judged-answer r er = reading-answer (firstMet (judgeCauses image a)) image a r er
 
-    pub reading-blocks : firstMet (blockCauses (r .row) (a .level) (cut (r .row) (r .answer .blocks) (restOf image r))) ≡ 0
-    unfolding acceptedAnswer leafCausesFor restFrom
-    reading-blocks = rw known (accepted-blocks (rowFor a) (a .level) (blocksFor image a) (room-met .2))
+  pub no-part : (r : Reading) → r ≡ judgedReading image a → (e : ℕ) → (r .answer .number ≡ 0 → ⊥) → noPart ≡ partFor image a e
+  unfolding judgedReading partFor pick
+  no-part r er e n =
+      simp (ne-eqb (firstMet (judgeCauses image a)) 0 (λ z. n (reading-number (firstMet (judgeCauses image a)) image a r er ∙ z)))
 
-    pub reading-listed : r .answer .listed ≡ length (tableOf (r .row) (a .level) (r .answer .blocks) (r .start) (restOf image r))
-    unfolding acceptedAnswer restFrom
-    reading-listed = rw known (sym (listed-length (rowFor a) (a .level) (countFor image a) (startFor image a) (restFrom image (startFor image a))))
+  pub a-part : (r : Reading) → r ≡ judgedReading image a → (e : ℕ) → r .answer .number ≡ 0
+      → entryPart (r .row) (tableOf (r .row) (a .level) (r .answer .blocks) (r .start) (restOf image r)) e ≡ partFor image a e
+  unfolding judgedReading partFor pick
+  a-part r er e z =
+      let c = accepted-judged r er z in
+      rw (sym (reading-number (firstMet (judgeCauses image a)) image a r er) ∙ z, reading-table c, reading-row c)
 
-    few : r .answer .listed ≤ countFor image a
-    unfolding acceptedAnswer
-    few = rw known (omega (arith, sorts-add-up (rowFor a) (a .level) (countFor image a) (restFrom image (startFor image a))))
-
-    pub reading-kinds : r .answer .listed ≤ k
-    reading-kinds = omega (arith, few, room-met .0)
-
-    pub reading-offsets : r .answer .listed ≤ o
-    reading-offsets = omega (arith, few, room-met .1)
-
-    pub reading-short : r .start + length (restOf image r) < 65536
-    reading-short = omega (arith, reading-start, length-take (leavesEnd - r .start) (drop (r .start) image))
-
-    pub filled-in : (f : ℕ → Place → ℕ) (array : List ℕ)
-        → written (f (r .row)) (tableOf (r .row) (a .level) (r .answer .blocks) (r .start) (restOf image r)) array
-        ≡ readInto (f (rowFor a)) (firstMet (readCauses image a k o)) image a array
-    unfolding acceptedAnswer readInto restFrom pick
-    filled-in f array = rw (none-met, known)
-
--- ## Without arrays there is no 12
-
-module _ (image : List ℕ) (a : Arguments) (byte : countFor image a < 256) where
-  no-array : firstMet (readCauses image a 255 255) ≡ firstMet (judgeCauses image a)
-  unfolding readCauses judgeCauses
-  no-array = go (firstMet (headerCauses image a)) refl
+  -- a block count is a byte, so room for 255 is never too little
+  pub no-array : countFor image a < 256 → readingFor image a 255 255 ≡ judgedReading image a
+  unfolding readingFor judgedReading readCauses judgeCauses
+  no-array byte = ap (λ (n : ℕ). readingWith n image a) (go (firstMet (headerCauses image a)) refl)
     where
       go : (n : ℕ) → firstMet (headerCauses image a) ≡ n → firstMet (readCauses image a 255 255) ≡ firstMet (judgeCauses image a)
       go zero e =
@@ -248,19 +257,49 @@ module _ (image : List ℕ) (a : Arguments) (byte : countFor image a < 256) wher
           after-refused (headerCauses image a) _ (suc n) (λ z. omega arith) e
           ∙ sym (after-refused (headerCauses image a) (leafCausesFor image a) (suc n) (λ z. omega arith) e)
 
-  module _ (r : Reading) (er : r ≡ readingFor image a 255 255) where
-    pub judged : r .answer ≡ judgeAnswer image a
-    unfolding judgeAnswer readAnswer
-    judged = reading-answer image a 255 255 r er ∙ ap (λ (n : ℕ). answerFor n image a) no-array
+-- ## Into arrays
 
-    pub no-part : (e : ℕ) → (r .answer .number ≡ 0 → ⊥) → noPart ≡ partFor image a e
-    unfolding partFor pick
-    no-part e n = simp (ne-eqb (firstMet (judgeCauses image a)) 0 (λ z. n (reading-number image a 255 255 r er ∙ no-array ∙ z)))
+neither : (p q : Bool) → (p || q) ≡ false → (p ≡ false) × (q ≡ false)
+neither false q e = (refl, e)
+neither true q e = let z : _≡_ {A = ℕ} 0 1 = cc in absurd (omega arith)
 
-    pub a-part : (e : ℕ) → r .answer .number ≡ 0
-        → entryPart (r .row) (tableOf (r .row) (a .level) (r .answer .blocks) (r .start) (restOf image r)) e ≡ partFor image a e
-    unfolding partFor acceptedAnswer restFrom pick
-    a-part e z = rw (sym no-array ∙ none-met image a 255 255 r er z, known image a 255 255 r er z)
+module _ (image : List ℕ) (a : Arguments) (k o : ℕ) (r : Reading) (er : r ≡ readingFor image a k o) where
+  number-read : r .answer .number ≡ firstMet (readCauses image a k o)
+  unfolding readingFor
+  number-read = reading-number (firstMet (readCauses image a k o)) image a r er
+
+  pub answer-read : r .answer ≡ readAnswer image a k o
+  unfolding readingFor readAnswer
+  answer-read = reading-answer (firstMet (readCauses image a k o)) image a r er
+
+  pub unchanged : (f : Place → ℕ) (array : List ℕ) → (r .answer .number ≡ 0 → ⊥) → array ≡ readInto f (firstMet (readCauses image a k o)) image a array
+  unfolding readInto pick
+  unchanged f array n = simp (ne-eqb (firstMet (readCauses image a k o)) 0 (λ e. n (number-read ∙ e)))
+
+  module _ (z : r .answer .number ≡ 0) where
+    behind-met : (firstMet (headerCauses image a) ≡ 0) × (countFor image a ≤ k) × (countFor image a ≤ o) × (firstMet (leafCausesFor image a) ≡ 0)
+    unfolding readCauses
+    behind-met =
+        let b = both-accepted (headerCauses image a) _ (header-numbered image a) (sym number-read ∙ z) in
+        let c = none-here _ (leafCausesFor image a) (lit< tt) (b .1) in
+        let n = neither (ltb k (countFor image a)) (ltb o (countFor image a)) (c .0) in
+        (b .0, ltb-false k (countFor image a) (n .0), ltb-false o (countFor image a) (n .1), c .1)
+
+    pub accepted-read : Accepted image a r
+    unfolding readingFor
+    accepted-read = record { known = is-accepted (firstMet (readCauses image a k o)) image a r er z; header = behind-met .0; leaf = behind-met .3 }
+
+    pub room-kinds : r .answer .listed ≤ k
+    room-kinds = omega (arith, reading-few accepted-read, behind-met .1)
+
+    pub room-offsets : r .answer .listed ≤ o
+    room-offsets = omega (arith, reading-few accepted-read, behind-met .2)
+
+    pub filled-in : (f : ℕ → Place → ℕ) (array : List ℕ)
+        → written (f (r .row)) (tableOf (r .row) (a .level) (r .answer .blocks) (r .start) (restOf image r)) array
+        ≡ readInto (f (rowFor a)) (firstMet (readCauses image a k o)) image a array
+    unfolding readInto pick
+    filled-in f array = rw (sym number-read ∙ z, reading-table accepted-read, reading-row accepted-read)
 
 -- ## A part lies in the image
 

@@ -149,9 +149,16 @@ answerFrom h t = record {
 unfoldable pub refusedReading : ℕ → Reading
 refusedReading n = record { answer = refusedAnswer n; row = 0; start = 0 }
 
+unfoldable pub acceptedReading : List ℕ → Arguments → Reading
+acceptedReading image a = record { answer = acceptedAnswer image a; row = rowFor a; start = startFor image a }
+
+-- with the number n
+unfoldable pub readingWith : ℕ → List ℕ → Arguments → Reading
+readingWith n image a = pick (eqb n 0) (acceptedReading image a) (refusedReading n)
+
 unfoldable pub readingFor : List ℕ → Arguments → ℕ → ℕ → Reading
-readingFor image a kinds offsets = let n = firstMet (readCauses image a kinds offsets) in record {
-  answer = readAnswer image a kinds offsets;
-  row = pick (eqb n 0) (rowFor a) 0;
-  start = pick (eqb n 0) (startFor image a) 0;
-}
+readingFor image a kinds offsets = readingWith (firstMet (readCauses image a kinds offsets)) image a
+
+-- without arrays
+unfoldable pub judgedReading : List ℕ → Arguments → Reading
+judgedReading image a = readingWith (firstMet (judgeCauses image a)) image a

@@ -7,7 +7,7 @@ use leaf::Tally;
 use rom::refusal;
 ghost use mathlib.Core.Path.{_≡_};
 ghost use lib.ListN.{length};
-ghost use Rattle.reader.specs.Reading.{refusedAnswer, judgeAnswer, readAnswer, readKinds, readOffsets, partFor, viewFor, answerFrom, refusedReading, readingFor};
+ghost use Rattle.reader.specs.Reading.{refusedAnswer, judgeAnswer, readAnswer, readKinds, readOffsets, partFor, viewFor, answerFrom, refusedReading, readingFor, judgedReading};
 
 // What a reading is told beside the image: the chip by its decimal number, the controller from 0, and the reader's level.
 #[repr(C)]
@@ -38,11 +38,11 @@ pub struct Part {
     pub length: usize,
 }
 
-// An answer, with the chip's row and where the leaf's blocks start.
-struct Reading {
-    answer: Answer,
-    row: usize,
-    start: usize,
+// An answer, with the chip's row and where the leaf's blocks start; both are 0 on a refusal.
+pub struct Reading {
+    pub answer: Answer,
+    pub row: usize,
+    pub start: usize,
 }
 
 // More than any block count: room where no array is lent.
@@ -92,7 +92,7 @@ fn answer_of(h: Header, t: Tally) -> Answer
 }
 
 // A reading into arrays of these lengths, before anything is written: the first of refusals 1 to 18, or the answer.
-fn assess(image: &[u8], arguments: Arguments, kinds: usize, offsets: usize) -> Reading
+fn assess_for(image: &[u8], arguments: Arguments, kinds: usize, offsets: usize) -> Reading
     ensures { λ r. ⌜ r ≡ readingFor (now (image .entry)) arguments kinds offsets ⌝ }
 {
     let h = header::read_header(image, arguments);
@@ -121,11 +121,18 @@ fn assess(image: &[u8], arguments: Arguments, kinds: usize, offsets: usize) -> R
     }
 }
 
-// The reader's answer without arrays, and so without refusal 12.
+// A reading without arrays, and so without refusal 12: what the walk, the sheet maker and the writer go by.
+pub fn assess(image: &[u8], arguments: Arguments) -> Reading
+    ensures { λ r. ⌜ r ≡ judgedReading (now (image .entry)) arguments ⌝ }
+{
+    assess_for(image, arguments, NO_ARRAY, NO_ARRAY)
+}
+
+// The answer of such a reading.
 pub fn judge(image: &[u8], arguments: Arguments) -> Answer
     ensures { λ r. ⌜ r ≡ judgeAnswer (now (image .entry)) arguments ⌝ }
 {
-    assess(image, arguments, NO_ARRAY, NO_ARRAY).answer
+    assess(image, arguments).answer
 }
 
 // The media table of a controller's leaf: kinds and byte offsets from the last block to the first, in two lent arrays. A
@@ -135,7 +142,7 @@ pub fn read(image: &[u8], arguments: Arguments, kinds: &mut [u16], offsets: &mut
     ensures { λ r. ⌜ now (kinds .exit) ≡ readKinds (now (image .entry)) arguments (now (kinds .entry)) (now (offsets .entry)) ⌝ }
     ensures { λ r. ⌜ now (offsets .exit) ≡ readOffsets (now (image .entry)) arguments (now (kinds .entry)) (now (offsets .entry)) ⌝ }
 {
-    let reading = assess(image, arguments, kinds.len(), offsets.len());
+    let reading = assess_for(image, arguments, kinds.len(), offsets.len());
     let answer = reading.answer;
     if answer.number != refusal::ACCEPTED {
         return answer;
@@ -160,7 +167,7 @@ pub fn read(image: &[u8], arguments: Arguments, kinds: &mut [u16], offsets: &mut
 pub fn view_part(image: &[u8], arguments: Arguments, entry: usize) -> Part
     ensures { λ r. ⌜ r ≡ partFor (now (image .entry)) arguments entry ⌝ }
 {
-    let reading = assess(image, arguments, NO_ARRAY, NO_ARRAY);
+    let reading = assess(image, arguments);
     let answer = reading.answer;
     if answer.number != refusal::ACCEPTED {
         return Part {
