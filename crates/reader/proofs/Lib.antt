@@ -8,3 +8,4 @@ pub mod Older
 pub mod OlderAnswer
 pub mod Worked
 pub mod Readings
+pub mod Promised

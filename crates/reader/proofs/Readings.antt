@@ -155,6 +155,11 @@ module _ (image : List ℕ) (a : Arguments) (k o : ℕ) (h : Header) (eh : h ≡
 
 -- ## The number and the answer of a reading
 
+pub answer-number : (n : ℕ) (image : List ℕ) (a : Arguments) → answerFor n image a .number ≡ n
+unfolding answerFor acceptedAnswer refusedAnswer pick
+answer-number zero image a = refl
+answer-number (suc n) image a = rw (eqb·suc-zero n)
+
 module _ (n : ℕ) (image : List ℕ) (a : Arguments) (r : Reading) (er : r ≡ readingWith n image a) where
   pub reading-answer : r .answer ≡ answerFor n image a
   unfolding readingWith acceptedReading refusedReading answerFor pick
@@ -165,12 +170,7 @@ module _ (n : ℕ) (image : List ℕ) (a : Arguments) (r : Reading) (er : r ≡ 
       go (suc n) = rw (eqb·suc-zero n)
 
   pub reading-number : r .answer .number ≡ n
-  unfolding answerFor acceptedAnswer refusedAnswer pick
-  reading-number = rw reading-answer (go n)
-    where
-      go : (n : ℕ) → pick (eqb n 0) (acceptedAnswer image a) (refusedAnswer n) .number ≡ n
-      go zero = refl
-      go (suc n) = rw (eqb·suc-zero n)
+  reading-number = rw reading-answer (answer-number n image a)
 
   is-accepted : r .answer .number ≡ 0 → r ≡ acceptedReading image a
   unfolding readingWith pick

@@ -167,6 +167,13 @@ entry-inside row level count at s e h = go (tableOf row level count at s) e (eve
     go (p ∷ t) zero f = f .0 .within
     go (p ∷ t) (suc e) f = go t e (f .1)
 
+-- starts where they do, or later
+pub entry-after : (row level count at : ℕ) (s : List ℕ) (e : ℕ) → firstMet (blockCauses row level (cut row count s)) ≡ 0 → e < length (tableOf row level count at s)
+    → at ≤ entryPart row (tableOf row level count at s) e .start
+entry-after row level count at s e h l =
+    let d : Place = record { start = 0; rest = [] } in
+    rw (part-at row (tableOf row level count at s) e d l) (every-at (Lies row at s) (tableOf row level count at s) e d l (every-lies row level count at s h) .after)
+
 -- and holds its block's bytes
 pub entry-bytes : (row level count at : ℕ) (s : List ℕ) (e : ℕ) (d : Place) → firstMet (blockCauses row level (cut row count s)) ≡ 0 → e < length (tableOf row level count at s)
     → take (entryPart row (tableOf row level count at s) e .length) (drop (entryPart row (tableOf row level count at s) e .start - at) s)

@@ -5,3 +5,4 @@ pub mod Image
 pub mod Reading
 pub mod Claims
 pub mod Cases
+pub mod Promises

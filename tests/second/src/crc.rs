@@ -20,7 +20,9 @@ pub const WRONG_IMAGE_LENGTH: u8 = 1;
 const POLYNOMIAL_32: u32 = 0x04C1_1DB7;
 const POLYNOMIAL_8: u8 = 0x07;
 
-/// What a CRC call answers: number 0 with the CRC, or the refusal's number with value 0.
+/// What a CRC call answers: number 0 with the CRC, or the refusal's number with value 0. The
+/// library's C interface has the same layout.
+#[repr(C)]
 #[derive(Debug, Clone, Copy, PartialEq, Eq)]
 pub struct Checksum {
     pub number: u8,
@@ -78,6 +80,11 @@ pub fn crc32(bytes: &[u8]) -> u32 {
 /// Lays the ID CRC and then the SROM CRC, which covers it, into an image.
 pub fn lay_crcs(image: &mut [u8; IMAGE_LENGTH]) {
     image[ID_CRC_OFFSET] = id_crc(image).value as u8;
+    lay_srom_crc(image);
+}
+
+/// Lays the SROM CRC into an image.
+pub fn lay_srom_crc(image: &mut [u8; IMAGE_LENGTH]) {
     let stored = srom_crc(image).value.to_le_bytes();
     image[SROM_CRC_OFFSET..].copy_from_slice(&stored);
 }

@@ -23,6 +23,29 @@ impl Random {
         ((u128::from(self.bits()) * bound as u128) >> 64) as usize
     }
 
+    /// True once in so many calls.
+    pub fn one_in(&mut self, calls: usize) -> bool {
+        self.below(calls) == 0
+    }
+
+    /// One of the choices, of which there must be some.
+    pub fn pick<T: Copy>(&mut self, choices: &[T]) -> T {
+        choices[self.below(choices.len())]
+    }
+
+    pub fn byte(&mut self) -> u8 {
+        self.bits() as u8
+    }
+
+    pub fn word(&mut self) -> u16 {
+        self.bits() as u16
+    }
+
+    /// A row of so many random bytes.
+    pub fn row(&mut self, length: usize) -> Vec<u8> {
+        (0..length).map(|_| self.byte()).collect()
+    }
+
     /// So many random bytes.
     pub fn bytes<const LENGTH: usize>(&mut self) -> [u8; LENGTH] {
         let mut bytes = [0; LENGTH];

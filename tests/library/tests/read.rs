@@ -1,0 +1,353 @@
+//! Reading and the block view of the library against the second implementation.
+
+use second::crc::{IMAGE_LENGTH, lay_crcs};
+use second::images::{Card, DAMAGES, Image, Sample};
+use second::random::Random;
+use second::reader::{self, Answer, Arguments, CHIPS, NEWEST_LEVEL, header_size};
+use std::fmt::Write as _;
+use std::io::{self, Write as _};
+use std::thread;
+
+const HIGHEST_REFUSAL: usize = 18;
+const LEAST_OFTEN: usize = 1_000;
+const LEAST_CALLS: usize = 1_000_000;
+
+/// More elements than any block count, so that reading is never refused for the arrays.
+const ROOMY: usize = 300;
+
+/// Known levels and two that are none.
+const LEVELS: [u8; 9] = [0, 1, 2, 3, 4, 5, 6, 7, 255];
+
+/// How often reading answered each number, and how many calls of the library were compared.
+#[derive(Default)]
+struct Tally {
+    numbers: [usize; HIGHEST_REFUSAL + 1],
+    calls: usize,
+}
+
+impl Tally {
+    /// Compares a reading into arrays of so many elements.
+    fn compare_read(&mut self, image: &[u8], arguments: Arguments, lengths: (usize, usize)) {
+        let (mut kinds, mut offsets) = (pattern(0x5A00), pattern(0xC300));
+        let (mut second_kinds, mut second_offsets) = (kinds, offsets);
+        let answer = library::read(
+            image,
+            arguments,
+            &mut kinds[..lengths.0],
+            &mut offsets[..lengths.1],
+        );
+        let second_answer = reader::read(
+            image,
+            arguments,
+            &mut second_kinds[..lengths.0],
+            &mut second_offsets[..lengths.1],
+        );
+        assert!(
+            answer == second_answer && kinds == second_kinds && offsets == second_offsets,
+            "reading differs for arrays of {lengths:?}, {arguments:?}\n\
+             image   {}\n\
+             library {answer:?} {}\n\
+             second  {second_answer:?} {}",
+            hex(image),
+            entries(&kinds, &offsets, answer),
+            entries(&second_kinds, &second_offsets, second_answer),
+        );
+        self.numbers[usize::from(answer.number)] += 1;
+        self.calls += 1;
+    }
+
+    /// Compares a view, by its place in the image too: the second implementation hands back an
+    /// empty part at the image's start.
+    fn compare_view(&mut self, image: &[u8], arguments: Arguments, entry: usize) {
+        let part = library::view(image, arguments, entry);
+        let second_part = reader::view(image, arguments, entry);
+        assert!(
+            part.as_ptr_range() == second_part.as_ptr_range(),
+            "view of entry {entry} differs, {arguments:?}\n\
+             image   {}\n\
+             library {}\n\
+             second  {}",
+            hex(image),
+            place(image, part),
+            place(image, second_part),
+        );
+        self.calls += 1;
+    }
+
+    /// Compares readings into roomy arrays and into two pairs with lengths close to the block
+    /// count, and the views of every entry and of one past.
+    fn compare(&mut self, random: &mut Random, image: &[u8], arguments: Arguments) {
+        self.compare_read(image, arguments, (ROOMY, ROOMY));
+        let count = block_count(image, arguments).unwrap_or(0);
+        self.compare_read(image, arguments, (count, count));
+        let mut near = || random.pick(&[count.saturating_sub(1), count, count + 1, count / 2, 255]);
+        let lengths = (near(), near());
+        self.compare_read(image, arguments, lengths);
+        let (mut kinds, mut offsets) = ([0; 255], [0; 255]);
+        let listed = reader::read(image, arguments, &mut kinds, &mut offsets).listed;
+        for entry in 0..=usize::from(listed) {
+            self.compare_view(image, arguments, entry);
+        }
+    }
+}
+
+/// A name and the calls that go by it.
+type Family = (&'static str, fn() -> Tally);
+
+/// An array whose elements all differ.
+fn pattern(first: u16) -> [u16; ROOMY] {
+    std::array::from_fn(|index| first + index as u16)
+}
+
+/// The block count as it stands where the arguments point, right or wrong.
+fn block_count(image: &[u8], arguments: Arguments) -> Option<usize> {
+    let controller = 26 + 3 * usize::from(arguments.controller);
+    let leaf = u16::from_le_bytes([*image.get(controller + 1)?, *image.get(controller + 2)?]);
+    let count = image.get(usize::from(leaf) + header_size(arguments.chip) - 1)?;
+    Some((*count).into())
+}
+
+fn hex(image: &[u8]) -> String {
+    image.iter().map(|byte| format!("{byte:02x}")).collect()
+}
+
+/// The first elements of both arrays, one more than the answer lists.
+fn entries(kinds: &[u16], offsets: &[u16], answer: Answer) -> String {
+    let entries = kinds
+        .iter()
+        .zip(offsets)
+        .take(1 + usize::from(answer.listed));
+    entries
+        .map(|(kind, offset)| format!(" {kind}@{offset}"))
+        .collect()
+}
+
+fn place(image: &[u8], part: &[u8]) -> String {
+    let start = part.as_ptr().addr().wrapping_sub(image.as_ptr().addr());
+    format!("{} bytes at {start}: {}", part.len(), hex(part))
+}
+
+/// "accepts exactly the images": valid cards of every chip, with unknown types among their blocks,
+/// for each controller and one that is none, at every level, and for another chip.
+fn valid_cards() -> Tally {
+    let (mut tally, mut random) = (Tally::default(), Random::new(1));
+    for round in 0..2_500 {
+        let chip = CHIPS[round % CHIPS.len()];
+        let card = Card::valid(&mut random, chip);
+        let image = card.image();
+        for controller in 0..=card.count {
+            for level in LEVELS {
+                let arguments = Arguments {
+                    chip,
+                    controller,
+                    level,
+                };
+                tally.compare(&mut random, &image, arguments);
+            }
+            let arguments = Arguments {
+                chip: random.pick(&CHIPS),
+                controller,
+                level: NEWEST_LEVEL,
+            };
+            tally.compare(&mut random, &image, arguments);
+            // Entries that are far past the table, though not in their low bits.
+            for far in [1 << 8, 1 << 16, 1 << 32, usize::MAX] {
+                tally.compare_view(&image, arguments, far);
+            }
+        }
+    }
+    tally
+}
+
+/// "Elements after the listed ones": arrays of every length up to two past the block
+/// count, at every level; among the cards the longest leaf.
+fn array_lengths() -> Tally {
+    let (mut tally, mut random) = (Tally::default(), Random::new(2));
+    let mut samples: Vec<_> = (0..150).map(|_| Sample::valid(&mut random)).collect();
+    samples[0].card = Card::longest(&mut random);
+    samples[0].arguments.chip = 21041;
+    samples[0].arguments.controller = 0;
+    for sample in samples {
+        let image = sample.card.image();
+        for level in LEVELS {
+            let arguments = Arguments {
+                level,
+                ..sample.arguments
+            };
+            let count = block_count(&image, arguments).expect("a valid card has a leaf");
+            for length in 0..=count + 2 {
+                tally.compare_read(&image, arguments, (length, length));
+                tally.compare_read(&image, arguments, (length, ROOMY));
+                tally.compare_read(&image, arguments, (count, length));
+            }
+            for entry in 0..=count + 2 {
+                tally.compare_view(&image, arguments, entry);
+            }
+        }
+    }
+    tally
+}
+
+/// "a refusal is exact": each field damaged, the CRCs mended, so that the reader comes to it.
+fn damaged_fields() -> Tally {
+    let (mut tally, mut random) = (Tally::default(), Random::new(3));
+    for round in 0..64_000 {
+        let mut sample = Sample::damaged(&mut random, DAMAGES[round % DAMAGES.len()]);
+        let image = sample.card.image();
+        tally.compare(&mut random, &image, sample.arguments);
+        // The same at another level, where the damaged block may be unknown.
+        sample.arguments.level = random.pick(&LEVELS);
+        tally.compare(&mut random, &image, sample.arguments);
+    }
+    tally
+}
+
+/// "its cause met and no earlier cause": two fields damaged.
+fn two_damaged_fields() -> Tally {
+    let (mut tally, mut random) = (Tally::default(), Random::new(4));
+    for round in 0..20_000 {
+        let mut sample = Sample::damaged(&mut random, DAMAGES[round % DAMAGES.len()]);
+        let other = random.pick(&DAMAGES);
+        sample.damage(&mut random, other);
+        tally.compare(&mut random, &sample.card.image(), sample.arguments);
+    }
+    tally
+}
+
+/// Each byte of a valid image changed, before and after the CRCs are mended: to every value in the
+/// first images, to a few values in the others.
+fn changed_bytes() -> Tally {
+    let (mut tally, mut random) = (Tally::default(), Random::new(5));
+    for round in 0..150 {
+        let sample = Sample::valid(&mut random);
+        let image = sample.card.image();
+        for offset in 0..IMAGE_LENGTH {
+            let values: Vec<u8> = match round {
+                0..5 => (0..=255).collect(),
+                _ => {
+                    let byte = image[offset];
+                    let flipped = byte ^ 1 << random.below(8);
+                    vec![
+                        byte.wrapping_add(1),
+                        byte.wrapping_sub(1),
+                        flipped,
+                        random.byte(),
+                    ]
+                }
+            };
+            for value in values {
+                let mut changed = image;
+                changed[offset] = value;
+                tally.compare_read(&changed, sample.arguments, (ROOMY, ROOMY));
+                lay_crcs(&mut changed);
+                tally.compare_read(&changed, sample.arguments, (ROOMY, ROOMY));
+                tally.compare_view(&changed, sample.arguments, random.below(3));
+            }
+        }
+    }
+    tally
+}
+
+/// "Every call comes to an end on every input": leaves of random bytes and images of them, the
+/// CRCs mended.
+fn random_bytes() -> Tally {
+    let (mut tally, mut random) = (Tally::default(), Random::new(6));
+    for round in 0..80_000 {
+        let chip = CHIPS[round % CHIPS.len()];
+        let mut image = Card::wild(&mut random, chip).image();
+        if random.one_in(4) {
+            image = random_image(&mut random);
+        }
+        let arguments = Arguments {
+            chip,
+            controller: random.pick(&[0, 0, 0, 1]),
+            level: random.pick(&[0, 1, 2, 3, 4, 5, 6, 6, 6]),
+        };
+        tally.compare(&mut random, &image, arguments);
+    }
+    tally
+}
+
+/// Random bytes with both CRCs, and mostly with a version and a controller count.
+fn random_image(random: &mut Random) -> Image {
+    let mut image = random.bytes();
+    if !random.one_in(8) {
+        image[18] = random.pick(&[3, 4]);
+    }
+    if !random.one_in(8) {
+        let count = 1 + random.below(32);
+        image[19] = count as u8;
+        image[26 + 3 * count] = 0;
+    }
+    lay_crcs(&mut image);
+    image
+}
+
+/// "1 image not 128 bytes": every length up to 300, of a valid image with bytes after it and of
+/// random bytes, and two lengths that are 128 in their low bits.
+fn image_lengths() -> Tally {
+    let (mut tally, mut random) = (Tally::default(), Random::new(7));
+    for _ in 0..20 {
+        let sample = Sample::valid(&mut random);
+        let mut bytes = random.row(IMAGE_LENGTH + (1 << 16));
+        if random.one_in(2) {
+            bytes[..IMAGE_LENGTH].copy_from_slice(&sample.card.image());
+        }
+        for length in (0..=300).chain([IMAGE_LENGTH + (1 << 8), bytes.len()]) {
+            let lengths = random.pick(&[(0, 0), (1, ROOMY), (ROOMY, ROOMY)]);
+            tally.compare_read(&bytes[..length], sample.arguments, lengths);
+            tally.compare_view(&bytes[..length], sample.arguments, 0);
+        }
+    }
+    tally
+}
+
+/// A million calls, in which each refusal is met a thousand times. The table of them goes to the
+/// standard error stream itself, so that a run that passes shows it too.
+#[test]
+fn library_reads_as_second() {
+    let families: [Family; 7] = [
+        ("valid", valid_cards),
+        ("arrays", array_lengths),
+        ("damaged", damaged_fields),
+        ("twice", two_damaged_fields),
+        ("bytes", changed_bytes),
+        ("random", random_bytes),
+        ("lengths", image_lengths),
+    ];
+    let tallies: Vec<_> = thread::scope(|scope| {
+        let threads = families.map(|(_, family)| scope.spawn(family));
+        let joined = threads.map(|thread| thread.join());
+        joined
+            .into_iter()
+            .map(|tally| tally.expect("compares equal"))
+            .collect()
+    });
+    let names = families.map(|(name, _)| name);
+    let totals: Vec<usize> = (0..=HIGHEST_REFUSAL)
+        .map(|number| tallies.iter().map(|tally| tally.numbers[number]).sum())
+        .collect();
+    let calls: usize = tallies.iter().map(|tally| tally.calls).sum();
+    let mut table = row("number", &names, "total");
+    for (number, total) in totals.iter().enumerate() {
+        let cells: Vec<_> = tallies.iter().map(|tally| tally.numbers[number]).collect();
+        table += &row(&number.to_string(), &cells, &total.to_string());
+    }
+    let cells: Vec<_> = tallies.iter().map(|tally| tally.calls).collect();
+    table += &row("calls", &cells, &calls.to_string());
+    io::stderr()
+        .write_all(table.as_bytes())
+        .expect("standard error is open");
+    for (number, &total) in totals.iter().enumerate() {
+        assert!(total >= LEAST_OFTEN, "{number} was answered {total} times");
+    }
+    assert!(calls >= LEAST_CALLS, "only {calls} calls were compared");
+}
+
+fn row(first: &str, cells: &[impl ToString], last: &str) -> String {
+    let mut line = format!("{first:<8}");
+    for cell in cells {
+        write!(line, "{:>9}", cell.to_string()).expect("a string takes all");
+    }
+    line + &format!("{last:>10}\n")
+}

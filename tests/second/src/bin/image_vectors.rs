@@ -1,0 +1,129 @@
+//! Writes 400 records, each an image and the arguments to read it with, and a piece that is too
+//! short to one file, and to another what reading each must answer: `image_vectors INPUT OUTPUT`.
+//!
+//! A record has 132 bytes: the chip (a word, low byte first), the controller, the level, the image.
+
+use second::cases::cases;
+use second::images::{Card, DAMAGES, Image, Sample};
+use second::random::Random;
+use second::reader::{Arguments, read};
+use std::{env, fs, io, process};
+
+const RECORD_COUNT: usize = 400;
+const RECORD_LENGTH: usize = 132;
+const SHORT_LENGTH: usize = 57;
+const DAMAGED_COUNT: usize = 10;
+const VALID_COUNT: usize = 160;
+
+fn main() -> io::Result<()> {
+    let arguments: Vec<_> = env::args_os().skip(1).collect();
+    let [input, output] = arguments.as_slice() else {
+        eprintln!("usage: image_vectors INPUT OUTPUT");
+        process::exit(2);
+    };
+    let bytes = records();
+    let lines: String = bytes.chunks(RECORD_LENGTH).map(line).collect();
+    fs::write(input, bytes)?;
+    fs::write(output, lines)
+}
+
+/// The cases of document 01, the longest leaf, each field damaged, valid cards for readers of all
+/// levels, leaves of random bytes, and a record that is cut short.
+fn records() -> Vec<u8> {
+    let mut random = Random::new(1);
+    let mut records = Vec::new();
+    for case in cases() {
+        records.push(record(case.arguments, &case.image));
+    }
+    let oldest = Arguments {
+        chip: 21041,
+        controller: 0,
+        level: 0,
+    };
+    records.push(record(oldest, &Card::longest(&mut random).image()));
+    for number in DAMAGES {
+        for _ in 0..DAMAGED_COUNT {
+            let sample = Sample::damaged(&mut random, number);
+            records.push(record(sample.arguments, &sample.card.image()));
+        }
+    }
+    for _ in 0..VALID_COUNT {
+        let mut sample = Sample::valid(&mut random);
+        sample.arguments.level = random.pick(&[0, 1, 2, 3, 4, 5, 6, 6, 6, 6]);
+        records.push(record(sample.arguments, &sample.card.image()));
+    }
+    while records.len() < RECORD_COUNT {
+        let mut sample = Sample::valid(&mut random);
+        sample.arguments.controller = 0;
+        let card = Card::wild(&mut random, sample.arguments.chip);
+        records.push(record(sample.arguments, &card.image()));
+    }
+    let short = records[0][..SHORT_LENGTH].to_vec();
+    records.push(short);
+    records.concat()
+}
+
+fn record(arguments: Arguments, image: &Image) -> Vec<u8> {
+    let [low, high] = arguments.chip.to_le_bytes();
+    let first = [low, high, arguments.controller, arguments.level];
+    [first.as_slice(), image].concat()
+}
+
+/// The answer, its numbers up to the address in hex, and the table; or the refusal's number.
+fn line(record: &[u8]) -> String {
+    let (first, image) = record.split_at(4);
+    let arguments = Arguments {
+        chip: u16::from_le_bytes([first[0], first[1]]),
+        controller: first[2],
+        level: first[3],
+    };
+    let (mut kinds, mut offsets) = ([0; 255], [0; 255]);
+    let answer = read(image, arguments, &mut kinds, &mut offsets);
+    if answer.number != 0 {
+        return format!("refused {}\n", answer.number);
+    }
+    let entries = kinds.iter().zip(offsets).take(answer.listed.into());
+    let table: String = entries
+        .map(|(kind, offset)| format!(" {kind}@{offset}"))
+        .collect();
+    format!(
+        "accepted {:04x} {:02x} {:012x} {} {} {} {} {}{table}\n",
+        answer.connection,
+        answer.control,
+        answer.address,
+        answer.blocks,
+        answer.listed,
+        answer.resets,
+        answer.skipped,
+        answer.default_number,
+    )
+}
+
+#[cfg(test)]
+mod tests {
+    use super::*;
+
+    /// "Why a call is refused": the records meet 1 to 18, but for 12, and acceptance.
+    #[test]
+    fn every_refusal() {
+        let bytes = records();
+        assert_eq!(bytes.len(), RECORD_COUNT * RECORD_LENGTH + SHORT_LENGTH);
+        let lines: Vec<_> = bytes.chunks(RECORD_LENGTH).map(line).collect();
+        for number in (1..=18).filter(|&number| number != 12) {
+            assert!(lines.contains(&format!("refused {number}\n")), "{number}");
+        }
+        let accepted = lines.iter().filter(|line| line.starts_with("accepted"));
+        assert!(accepted.count() > VALID_COUNT);
+        assert_eq!(lines.last().map(String::as_str), Some("refused 1\n"));
+    }
+
+    /// Case b of document 01, in the form of a line.
+    #[test]
+    fn line_of_case_b() {
+        let case = &cases()[1];
+        assert_eq!(
+            line(&record(case.arguments, &case.image)),
+            "accepted 0800 00 08002b000000 3 2 0 1 255 2@42 2@33\n"
+        );
+    }
+}

@@ -1,0 +1,408 @@
+//! Images to test with: a builder that lays every field as it is told, and random cards that the
+//! newest reader accepts.
+
+pub mod block;
+mod damage;
+
+use crate::crc::{IMAGE_LENGTH, SROM_CRC_OFFSET, lay_crcs, lay_srom_crc};
+use crate::random::Random;
+use crate::reader::{
+    Arguments, CHIPS, LEAF_LIMIT, MOST_BLOCKS, NEWEST_LEVEL, connections, first_leaf, header_size,
+};
+use block::Deck;
+
+pub type Image = [u8; IMAGE_LENGTH];
+
+/// Where the writer puts the only leaf, right after the reserved byte.
+pub const TIDY_LEAF: usize = 30;
+
+/// The refusals that one damaged field of an image or of its arguments can cause: all but those
+/// for the image's length and for the arrays.
+pub const DAMAGES: [u8; 16] = [2, 3, 4, 5, 6, 7, 8, 9, 10, 11, 13, 14, 15, 16, 17, 18];
+
+/// What the header says of one controller.
+#[derive(Debug, Clone, Copy)]
+pub struct Controller {
+    pub device: u8,
+    pub leaf_offset: u16,
+}
+
+/// The leaf that is laid at an offset. The control byte is laid for the 21140 only.
+#[derive(Debug, Clone)]
+pub struct Leaf {
+    pub offset: usize,
+    pub chip: u16,
+    pub connection: u16,
+    pub control: u8,
+    pub count: u8,
+    pub blocks: Vec<Vec<u8>>,
+}
+
+impl Leaf {
+    /// A leaf with a true block count and control byte 0.
+    pub fn new(offset: usize, chip: u16, connection: u16, blocks: Vec<Vec<u8>>) -> Self {
+        Self {
+            offset,
+            chip,
+            connection,
+            control: 0,
+            count: blocks.len() as u8,
+            blocks,
+        }
+    }
+
+    fn bytes(&self) -> Vec<u8> {
+        let mut bytes = self.connection.to_le_bytes().to_vec();
+        if self.chip == 21140 {
+            bytes.push(self.control);
+        }
+        bytes.push(self.count);
+        bytes.extend(self.blocks.concat());
+        bytes
+    }
+
+    /// Where the block of that number starts in the image.
+    fn start(&self, number: usize) -> usize {
+        let before = self.blocks[..number].iter().map(Vec::len).sum::<usize>();
+        self.offset + header_size(self.chip) + before
+    }
+
+    fn end(&self) -> usize {
+        self.start(self.blocks.len())
+    }
+}
+
+/// All that an image holds. The later leaves are laid over the earlier ones, each as far as the
+/// limit.
+#[derive(Debug, Clone)]
+pub struct Card {
+    /// The bytes that no other field claims, the ID block's among them.
+    pub private: Image,
+    pub version: u8,
+    pub count: u8,
+    pub address: u64,
+    pub controllers: Vec<Controller>,
+    pub reserved: u8,
+    pub leaves: Vec<Leaf>,
+    pub maker: [u8; 2],
+    /// The bits by which the stored CRCs differ from the right ones.
+    pub id_crc_fault: u8,
+    pub srom_crc_fault: u16,
+}
+
+impl Card {
+    /// A card whose controllers have the leaves in turn, and zeros elsewhere.
+    pub fn new(controllers: usize, leaves: Vec<Leaf>) -> Self {
+        let controller = |index: usize| Controller {
+            device: index as u8,
+            leaf_offset: leaves[index % leaves.len()].offset as u16,
+        };
+        Self {
+            private: [0; IMAGE_LENGTH],
+            version: 4,
+            count: controllers as u8,
+            address: 0x0800_2B00_0000,
+            controllers: (0..controllers).map(controller).collect(),
+            reserved: 0,
+            leaves,
+            maker: [0; 2],
+            id_crc_fault: 0,
+            srom_crc_fault: 0,
+        }
+    }
+
+    /// A card with one controller, and the leaf in its tidy place.
+    pub fn tidy(chip: u16, connection: u16, blocks: Vec<Vec<u8>>) -> Self {
+        Self::new(1, vec![Leaf::new(TIDY_LEAF, chip, connection, blocks)])
+    }
+
+    /// The image, with both CRCs mended but for their faults.
+    pub fn image(&self) -> Image {
+        let mut image = self.private;
+        image[18] = self.version;
+        image[19] = self.count;
+        image[20..26].copy_from_slice(&self.address.to_be_bytes()[2..]);
+        for (index, controller) in self.controllers.iter().enumerate() {
+            let [low, high] = controller.leaf_offset.to_le_bytes();
+            image[26 + 3 * index..29 + 3 * index].copy_from_slice(&[controller.device, low, high]);
+        }
+        image[26 + 3 * self.controllers.len()] = self.reserved;
+        for leaf in &self.leaves {
+            let places = &mut image[leaf.offset..LEAF_LIMIT];
+            places
+                .iter_mut()
+                .zip(leaf.bytes())
+                .for_each(|(place, byte)| *place = byte);
+        }
+        image[LEAF_LIMIT..SROM_CRC_OFFSET].copy_from_slice(&self.maker);
+        lay_crcs(&mut image);
+        image[16] ^= self.id_crc_fault;
+        lay_srom_crc(&mut image);
+        image[126] ^= self.srom_crc_fault as u8;
+        image[127] ^= (self.srom_crc_fault >> 8) as u8;
+        image
+    }
+
+    /// A random card of one chip that the newest reader accepts for every controller.
+    pub fn valid(random: &mut Random, chip: u16) -> Self {
+        let most = (LEAF_LIMIT - header_size(chip) - first_leaf(0)) / 3;
+        let controllers = match random.below(10) {
+            0..5 => 1,
+            5..9 => 2 + random.below(3),
+            _ => 1 + random.below(most),
+        };
+        let leaves = leaves(random, chip, controllers);
+        let mut card = Self::new(controllers, leaves);
+        for controller in &mut card.controllers {
+            controller.device = random.byte();
+            if random.one_in(4) {
+                controller.leaf_offset = card.leaves[random.below(card.leaves.len())].offset as u16;
+            }
+        }
+        card.version = random.pick(&[3, 4]);
+        card.address = address(random, controllers);
+        if random.one_in(2) {
+            card.private = random.bytes();
+            card.maker = random.bytes();
+        }
+        card
+    }
+
+    /// The longest leaf: one-byte blocks from its first place to its last.
+    pub fn longest(random: &mut Random) -> Self {
+        let media = |_| block::media(random.pick(&[0, 1, 2, 4]), None);
+        Self::tidy(21041, 0x0800, (0..MOST_BLOCKS).map(media).collect())
+    }
+
+    /// A card whose header is right and whose leaf holds any bytes, with the starts of blocks among
+    /// them.
+    pub fn wild(random: &mut Random, chip: u16) -> Self {
+        const STARTS: [&[u8]; 12] = [
+            &[0x80],
+            &[0x85, 0x00],
+            &[0x8C, 0x01, 0x00, 0x00, 0x00],
+            &[0x8D, 0x01, 0x00, 0x00, 0x01],
+            &[0x86, 0x02],
+            &[0x8C, 0x02, 0x40],
+            &[0x8D, 0x03, 0x00, 0x00, 0x00],
+            &[0x8F, 0x03, 0x00, 0x01],
+            &[0x88, 0x04],
+            &[0x82, 0x05, 0x00],
+            &[0x84, 0x05, 0x01],
+            &[0x81, 0x06],
+        ];
+        let controllers = 1 + random.below(4);
+        let first = first_leaf(controllers);
+        let offset = first + random.below(LEAF_LIMIT - header_size(chip) - first + 1);
+        let mut bytes = Vec::new();
+        while bytes.len() < LEAF_LIMIT {
+            match random.below(6) {
+                0 => bytes.extend(random.pick(&STARTS)),
+                1 => bytes.push(random.byte()),
+                2 => bytes.push(random.below(9) as u8),
+                _ => bytes.push(0),
+            }
+        }
+        let start = random.pick(&STARTS);
+        bytes.splice(..start.len(), start.iter().copied());
+        let connection = connection(random, chip);
+        let mut leaf = Leaf::new(offset, chip, connection, vec![bytes]);
+        leaf.count = random.below(8) as u8;
+        let mut card = Self::new(controllers, vec![leaf]);
+        card.address = address(random, controllers);
+        card
+    }
+}
+
+/// A card and the arguments of a call that reads it.
+#[derive(Debug, Clone)]
+pub struct Sample {
+    pub card: Card,
+    pub arguments: Arguments,
+}
+
+impl Sample {
+    /// A card of any chip that the newest reader accepts, and such a reader.
+    pub fn valid(random: &mut Random) -> Self {
+        let chip = random.pick(&CHIPS);
+        let card = Card::valid(random, chip);
+        let controller = random.below(card.controllers.len()) as u8;
+        Self {
+            card,
+            arguments: Arguments {
+                chip,
+                controller,
+                level: NEWEST_LEVEL,
+            },
+        }
+    }
+
+    /// A valid sample in which one field is damaged so that a reader of its level refuses it with
+    /// this number, one of [`DAMAGES`].
+    pub fn damaged(random: &mut Random, number: u8) -> Self {
+        loop {
+            let mut sample = Self::valid(random);
+            if random.one_in(3) {
+                sample.arguments.level = random.below(7) as u8;
+            }
+            if sample.damage(random, number) {
+                return sample;
+            }
+        }
+    }
+}
+
+/// One shared leaf, or own leaves for up to four controllers, anywhere in the places there are.
+fn leaves(random: &mut Random, chip: u16, controllers: usize) -> Vec<Leaf> {
+    let (first, header) = (first_leaf(controllers), header_size(chip));
+    let places = LEAF_LIMIT - first;
+    let most = controllers.min(4).min(places / header);
+    let number = if random.one_in(2) { 1 } else { most };
+    let share = places / number;
+    let leaf = |index| {
+        let room = if number == 1 { places } else { share };
+        let blocks = blocks(random, chip, room - header);
+        let size = header + blocks.iter().map(Vec::len).sum::<usize>();
+        let gap = match random.below(3) {
+            0 => 0,
+            1 => room - size,
+            _ => random.below(room - size + 1),
+        };
+        let connection = connection(random, chip);
+        let mut leaf = Leaf::new(first + index * share + gap, chip, connection, blocks);
+        leaf.control = random.byte();
+        leaf
+    };
+    (0..number).map(leaf).collect()
+}
+
+/// Random blocks that may stand together and fill no more than the room: a few, as many as are
+/// drawn before one does not fit, or so many that no place is left.
+fn blocks(random: &mut Random, chip: u16, room: usize) -> Vec<Vec<u8>> {
+    let mut deck = Deck::new(random, chip);
+    let few = random.below(6);
+    let fills = random.one_in(3);
+    let mut left = room;
+    let mut blocks = Vec::new();
+    while fills || blocks.len() < few {
+        let block = deck.draw(random);
+        if block.len() > left {
+            break;
+        }
+        left -= block.len();
+        blocks.push(block);
+    }
+    if fills && random.one_in(2) {
+        blocks.extend(block::filling(random, chip, left));
+    }
+    blocks
+}
+
+fn connection(random: &mut Random, chip: u16) -> u16 {
+    random.pick(&connections(chip).collect::<Vec<_>>())
+}
+
+/// A base address that so many controllers can count on from, once in a while the highest.
+fn address(random: &mut Random, controllers: usize) -> u64 {
+    let highest = (1 << 48) - controllers as u64;
+    if random.one_in(8) {
+        return highest;
+    }
+    (random.bits() >> 16).min(highest)
+}
+
+#[cfg(test)]
+mod tests {
+    use super::*;
+    use crate::reader::{NO_DEFAULT, read};
+
+    fn newest(sample: &Sample) -> crate::reader::Answer {
+        let (mut kinds, mut offsets) = ([0; 255], [0; 255]);
+        read(
+            &sample.card.image(),
+            sample.arguments,
+            &mut kinds,
+            &mut offsets,
+        )
+    }
+
+    /// "Reading accepts exactly the images" that the format permits: so every valid card, for each
+    /// of its controllers, at each level; and each kind of block occurs in the table.
+    #[test]
+    fn valid_cards_are_accepted() {
+        let mut random = Random::new(1);
+        let (mut defaults, mut resets, mut skipped, mut last_places) = (0, 0, 0, 0);
+        for _ in 0..10_000 {
+            let mut sample = Sample::valid(&mut random);
+            let answer = newest(&sample);
+            assert_eq!(answer.number, 0, "{sample:02x?}");
+            defaults += usize::from(answer.default_number != NO_DEFAULT);
+            resets += usize::from(answer.resets);
+            skipped += usize::from(answer.skipped);
+            last_places += usize::from(sample.card.leaves.iter().any(|leaf| leaf.end() == 124));
+            for controller in 0..sample.card.count {
+                sample.arguments.controller = controller;
+                sample.arguments.level = random.below(7) as u8;
+                assert_eq!(newest(&sample).number, 0, "{sample:02x?}");
+            }
+        }
+        for (what, often) in [
+            ("defaults", defaults),
+            ("resets", resets),
+            ("unknown types", skipped),
+            ("leaves up to byte 123", last_places),
+        ] {
+            assert!(often > 500, "only {often} {what}");
+        }
+    }
+
+    /// "its cause met and no earlier cause": each damage is refused with its own number.
+    #[test]
+    fn damages_are_refused() {
+        let mut random = Random::new(2);
+        for number in DAMAGES {
+            for _ in 0..500 {
+                let sample = Sample::damaged(&mut random, number);
+                assert_eq!(newest(&sample).number, number, "{sample:02x?}");
+            }
+        }
+    }
+
+    /// "reader in this order": of two damaged fields the lower number is answered.
+    #[test]
+    fn lower_number_first() {
+        let mut random = Random::new(3);
+        for (place, &lower) in DAMAGES.iter().enumerate() {
+            for &higher in &DAMAGES[place + 1..] {
+                // Between 13 and 17 the first block that is refused decides, not the number.
+                if lower >= 13 && higher < 18 {
+                    continue;
+                }
+                let mut met = 0;
+                while met < 30 {
+                    let mut sample = Sample::damaged(&mut random, higher);
+                    if sample.damage(&mut random, lower) {
+                        assert_eq!(newest(&sample).number, lower, "{higher}: {sample:02x?}");
+                        met += 1;
+                    }
+                }
+            }
+        }
+    }
+
+    /// "at most 91 blocks": the longest leaf is accepted, every place listed from the last.
+    #[test]
+    fn longest_leaf() {
+        let image = Card::longest(&mut Random::new(4)).image();
+        let arguments = Arguments {
+            chip: 21041,
+            controller: 0,
+            level: 0,
+        };
+        let (mut kinds, mut offsets) = ([0; 91], [0; 91]);
+        let answer = read(&image, arguments, &mut kinds, &mut offsets);
+        assert_eq!((answer.number, answer.listed), (0, 91));
+        assert_eq!(kinds, [257; 91]);
+        assert!(offsets.iter().copied().eq((33..=123).rev()));
+    }
+}

@@ -1,0 +1,474 @@
+//! Reading an image: the header, the blocks of one leaf, the table and the block view (document 01,
+//! from "The image" to "Levels and the table").
+
+pub mod fast;
+
+use crate::crc::{self, ID_CRC_OFFSET, IMAGE_LENGTH, SROM_CRC_OFFSET};
+
+/// The chips that a leaf can be for.
+pub const CHIPS: [u16; 5] = [21041, 21140, 21142, 21143, 21145];
+
+/// The level that knows all six extended types.
+pub const NEWEST_LEVEL: u8 = 6;
+
+/// The default number where no block is the default.
+pub const NO_DEFAULT: u8 = 255;
+
+/// A compact block's kind in the table.
+pub const COMPACT: u16 = 256;
+
+/// A 21041 block's kind in the table.
+pub const MEDIA_21041: u16 = 257;
+
+/// The extended type of a reset sequence for the whole card.
+pub const RESET: u16 = 5;
+
+/// Leaves end before the maker's bytes, which start here.
+pub const LEAF_LIMIT: usize = 124;
+
+/// The most blocks that an accepted leaf can hold: one byte each, from the first place to the last.
+pub const MOST_BLOCKS: usize = 91;
+
+/// The top bit of a block's first byte, but for the 21041: the other bits are a length.
+pub const EXTENDED: u8 = 0x80;
+
+/// The bit of a code byte that says that six more bytes follow.
+pub const EXT: u8 = 0x40;
+
+/// The two top bits of a command word, of which only the lower is set in a default.
+pub const ACTIVE_INVALID: u16 = 0x8000;
+pub const DEFAULT: u16 = 0x4000;
+
+/// The command bits that are 0 in a compact block and in type 0.
+pub const COMMAND_RESERVED: u16 = 0x3F00;
+
+const VERSION_OFFSET: usize = 18;
+const COUNT_OFFSET: usize = 19;
+const ADDRESS_OFFSET: usize = 20;
+const CONTROLLERS_OFFSET: usize = 26;
+const CONTROLLER_SIZE: usize = 3;
+const HIGHEST_ADDRESS: u64 = (1 << 48) - 1;
+
+const CONNECTIONS_21041: [u16; 9] = [
+    0x0000, 0x0100, 0x0204, 0x0400, 0x0001, 0x0002, 0x0800, 0x0900, 0xFFFF,
+];
+const CONNECTIONS_21140: [u16; 19] = [
+    0x0000, 0x0100, 0x0204, 0x0001, 0x0003, 0x0205, 0x0006, 0x0007, 0x0208, 0x0009, 0x020A, 0x000D,
+    0x020E, 0x000F, 0x0010, 0x0211, 0x0800, 0x8800, 0xFFFF,
+];
+/// 10Base5, which the 21142 and the later chips have beside the 21140's connection types.
+const AUI: u16 = 0x0002;
+
+/// Whose leaf is read, for which chip, and how many extended types the reader knows. The library's
+/// C interface has the same layout.
+#[repr(C)]
+#[derive(Debug, Clone, Copy, PartialEq, Eq)]
+pub struct Arguments {
+    pub chip: u16,
+    pub controller: u8,
+    pub level: u8,
+}
+
+/// What reading answers: number 0 with the values, or the refusal's number with zeros. The library's
+/// C interface has the same layout.
+#[repr(C)]
+#[derive(Debug, Clone, Copy, Default, PartialEq, Eq)]
+pub struct Answer {
+    pub number: u8,
+    pub connection: u16,
+    pub control: u8,
+    pub address: u64,
+    pub blocks: u8,
+    pub listed: u8,
+    pub resets: u8,
+    pub skipped: u8,
+    pub default_number: u8,
+}
+
+impl Answer {
+    fn refused(refusal: Refusal) -> Self {
+        Self {
+            number: refusal as u8,
+            ..Self::default()
+        }
+    }
+}
+
+/// Why a reading is refused, by document 01's numbers.
+#[derive(Debug, Clone, Copy, PartialEq, Eq)]
+enum Refusal {
+    ImageLength = 1,
+    Version = 2,
+    SromCrc = 3,
+    IdCrc = 4,
+    CountOrReservedByte = 5,
+    Controller = 6,
+    Chip = 7,
+    Level = 8,
+    Address = 9,
+    LeafBounds = 10,
+    Connection = 11,
+    ShortArray = 12,
+    PastLeafLimit = 13,
+    NotPermitted = 14,
+    BlockLength = 15,
+    CodeOrReservedBits = 16,
+    Advertisement = 17,
+    Conflict = 18,
+}
+
+/// What stands before the blocks of a leaf.
+struct Header {
+    connection: u16,
+    control: u8,
+    address: u64,
+    count: u8,
+    first_block: usize,
+}
+
+/// A block that the reader accepts.
+#[derive(Debug, Clone, Copy)]
+struct Block {
+    start: usize,
+    size: usize,
+    /// None where the level does not know the type.
+    kind: Option<u16>,
+    is_default: bool,
+    resets_phy: bool,
+}
+
+/// The judged fields of a block whose type is known and whose length is right.
+enum Fields {
+    Medium {
+        code: u8,
+        command: Option<u16>,
+    },
+    Phy {
+        reset_length: u8,
+        capabilities: u16,
+        advertisement: u16,
+    },
+    Reset,
+}
+
+/// Reads the leaf of one controller and lists its known blocks, the last first: kinds and byte
+/// offsets go to the two arrays, which stay as they are where the image is refused.
+pub fn read(image: &[u8], arguments: Arguments, kinds: &mut [u16], offsets: &mut [u16]) -> Answer {
+    let shorter = kinds.len().min(offsets.len());
+    let (header, blocks) = match leaf(image, arguments, shorter) {
+        Ok(leaf) => leaf,
+        Err(refusal) => return Answer::refused(refusal),
+    };
+    let table = table(&blocks);
+    for (entry, block) in table.iter().enumerate() {
+        kinds[entry] = block.kind.expect("a listed block is known");
+        offsets[entry] = block.start as u16;
+    }
+    let count = |rule: fn(&Block) -> bool| blocks.iter().filter(|block| rule(block)).count() as u8;
+    let default = blocks.iter().position(|block| block.is_default);
+    Answer {
+        number: 0,
+        connection: header.connection,
+        control: header.control,
+        address: header.address,
+        blocks: header.count,
+        listed: table.len() as u8,
+        resets: count(|block| block.kind == Some(RESET)),
+        skipped: count(|block| block.kind.is_none()),
+        default_number: default.map_or(NO_DEFAULT, |number| number as u8),
+    }
+}
+
+/// The bytes of the block that an entry of the table names, in the image; an empty part, at the
+/// image's start, where the image is refused or the table has no such entry.
+pub fn view(image: &[u8], arguments: Arguments, entry: usize) -> &[u8] {
+    let Ok((_, blocks)) = leaf(image, arguments, usize::MAX) else {
+        return &image[..0];
+    };
+    match table(&blocks).get(entry) {
+        Some(block) => &image[block.start..block.start + block.size],
+        None => &image[..0],
+    }
+}
+
+/// The connection types that a leaf for the chip may name.
+pub fn connections(chip: u16) -> impl Iterator<Item = u16> {
+    let (row, more): (&[u16], _) = match chip {
+        21041 => (&CONNECTIONS_21041, None),
+        21140 => (&CONNECTIONS_21140, None),
+        _ => (&CONNECTIONS_21140, Some(AUI)),
+    };
+    row.iter().copied().chain(more)
+}
+
+pub fn is_connection(chip: u16, connection: u16) -> bool {
+    connections(chip).any(|permitted| permitted == connection)
+}
+
+/// The kinds of block that a leaf for the chip may hold, beside types that nobody knows yet.
+pub fn permitted_kinds(chip: u16) -> &'static [u16] {
+    match chip {
+        21041 => &[MEDIA_21041],
+        21140 => &[COMPACT, 0, 1, 5],
+        21142 => &[2, 3, 5],
+        _ => &[2, 3, 4, 5],
+    }
+}
+
+/// The size of what stands before the blocks: the 21140 has a control byte more.
+pub fn header_size(chip: u16) -> usize {
+    if chip == 21140 { 4 } else { 3 }
+}
+
+/// The first place where a leaf may start: after the controllers and the reserved byte.
+pub fn first_leaf(controllers: usize) -> usize {
+    CONTROLLERS_OFFSET + CONTROLLER_SIZE * controllers + 1
+}
+
+/// The header and the blocks of a leaf, or the first cause to refuse it, where the shorter array
+/// has so many elements.
+fn leaf(
+    image: &[u8],
+    arguments: Arguments,
+    shorter: usize,
+) -> Result<(Header, Vec<Block>), Refusal> {
+    frame(image)?;
+    let header = header(image, arguments)?;
+    refuse_if(shorter < usize::from(header.count), Refusal::ShortArray)?;
+    let mut blocks = Vec::new();
+    let mut start = header.first_block;
+    for _ in 0..header.count {
+        let block = block(image, start, arguments)?;
+        blocks.push(block);
+        start += block.size;
+    }
+    refuse_if(conflict(&blocks), Refusal::Conflict)?;
+    Ok((header, blocks))
+}
+
+/// Causes 1 to 4, which need no argument.
+fn frame(image: &[u8]) -> Result<(), Refusal> {
+    refuse_if(image.len() != IMAGE_LENGTH, Refusal::ImageLength)?;
+    refuse_if(!is_version(image), Refusal::Version)?;
+    let srom_crc = crc::srom_crc(image).value;
+    refuse_if(srom_crc != word(image, SROM_CRC_OFFSET), Refusal::SromCrc)?;
+    let id_crc = crc::id_crc(image).value;
+    refuse_if(id_crc != image[ID_CRC_OFFSET].into(), Refusal::IdCrc)
+}
+
+fn is_version(image: &[u8]) -> bool {
+    matches!(image[VERSION_OFFSET], 3 | 4)
+}
+
+/// Causes 5 to 11.
+fn header(image: &[u8], arguments: Arguments) -> Result<Header, Refusal> {
+    let Arguments {
+        chip,
+        controller,
+        level,
+    } = arguments;
+    let controllers = usize::from(image[COUNT_OFFSET]);
+    refuse_if(
+        !(1..=32).contains(&controllers) || image[first_leaf(controllers) - 1] != 0,
+        Refusal::CountOrReservedByte,
+    )?;
+    let index = usize::from(controller);
+    refuse_if(index >= controllers, Refusal::Controller)?;
+    refuse_if(!CHIPS.contains(&chip), Refusal::Chip)?;
+    refuse_if(level > NEWEST_LEVEL, Refusal::Level)?;
+    let base = image[ADDRESS_OFFSET..CONTROLLERS_OFFSET]
+        .iter()
+        .fold(0, |address, &byte| address << 8 | u64::from(byte));
+    let address = base + u64::from(controller);
+    refuse_if(address > HIGHEST_ADDRESS, Refusal::Address)?;
+    let start = usize::from(word(
+        image,
+        CONTROLLERS_OFFSET + CONTROLLER_SIZE * index + 1,
+    ));
+    let first_block = start + header_size(chip);
+    refuse_if(
+        start < first_leaf(controllers) || first_block > LEAF_LIMIT,
+        Refusal::LeafBounds,
+    )?;
+    let connection = word(image, start);
+    refuse_if(!is_connection(chip, connection), Refusal::Connection)?;
+    Ok(Header {
+        connection,
+        control: if chip == 21140 { image[start + 2] } else { 0 },
+        address,
+        count: image[first_block - 1],
+        first_block,
+    })
+}
+
+/// The block that starts at a place up to the limit, or the first of causes 13 to 17.
+fn block(image: &[u8], start: usize, arguments: Arguments) -> Result<Block, Refusal> {
+    let Arguments { chip, level, .. } = arguments;
+    let bytes = first_block(&image[start..LEAF_LIMIT], chip).ok_or(Refusal::PastLeafLimit)?;
+    let kind = kind(bytes, chip).ok_or(Refusal::NotPermitted)?;
+    let mut block = Block {
+        start,
+        size: bytes.len(),
+        kind: Some(kind),
+        is_default: false,
+        resets_phy: false,
+    };
+    if !is_known(kind, level) {
+        block.kind = None;
+        return Ok(block);
+    }
+    refuse_if(
+        !permitted_kinds(chip).contains(&kind),
+        Refusal::NotPermitted,
+    )?;
+    match fields(bytes, kind).ok_or(Refusal::BlockLength)? {
+        Fields::Medium { code, command } => {
+            let command = command.unwrap_or(0);
+            refuse_if(
+                !is_code(code, kind) || has_reserved_bits(command, kind),
+                Refusal::CodeOrReservedBits,
+            )?;
+            block.is_default = is_default(code, command);
+        }
+        Fields::Phy {
+            reset_length,
+            capabilities,
+            advertisement,
+        } => {
+            refuse_if(
+                advertises_too_much(capabilities, advertisement),
+                Refusal::Advertisement,
+            )?;
+            block.resets_phy = reset_length > 0;
+        }
+        Fields::Reset => {}
+    }
+    Ok(block)
+}
+
+/// The bytes of the block that opens the rest of a leaf; none where it runs past the rest.
+fn first_block(rest: &[u8], chip: u16) -> Option<&[u8]> {
+    let first = *rest.first()?;
+    let size = match chip {
+        21041 if first & EXT == 0 => 1,
+        21041 => 7,
+        _ if first & EXTENDED == 0 => 4,
+        _ => 1 + usize::from(first & !EXTENDED),
+    };
+    rest.get(..size)
+}
+
+/// The block's kind as the table has it; none for an extended block without a type byte.
+fn kind(block: &[u8], chip: u16) -> Option<u16> {
+    match chip {
+        21041 => Some(MEDIA_21041),
+        _ if block[0] & EXTENDED == 0 => Some(COMPACT),
+        _ => block.get(1).copied().map(u16::from),
+    }
+}
+
+/// A type is known at the levels above it, and a block without a type at all of them.
+fn is_known(kind: u16, level: u8) -> bool {
+    kind == COMPACT || kind == MEDIA_21041 || kind < level.into()
+}
+
+/// The fields of a block of a known kind; none where its length is wrong.
+fn fields(block: &[u8], kind: u16) -> Option<Fields> {
+    let length = block.len() - 1;
+    match kind {
+        MEDIA_21041 => Some(medium(block[0])),
+        COMPACT => Some(medium_with_command(block[0], word(block, 2))),
+        0 => (length == 5).then(|| medium_with_command(block[2], word(block, 4))),
+        1 => phy(block, 1, 8),
+        2 => {
+            let code = *block.get(2)?;
+            let right = if code & EXT == 0 { 6 } else { 12 };
+            (length == right).then(|| medium(code))
+        }
+        3 => phy(block, 2, 9),
+        4 => (length == 8).then(|| medium_with_command(block[2], word(block, 7))),
+        _ => {
+            let words = usize::from(*block.get(2)?);
+            (length == 2 * words + 2).then_some(Fields::Reset)
+        }
+    }
+}
+
+fn medium(code: u8) -> Fields {
+    Fields::Medium {
+        code,
+        command: None,
+    }
+}
+
+fn medium_with_command(code: u8, command: u16) -> Fields {
+    Fields::Medium {
+        code,
+        command: Some(command),
+    }
+}
+
+/// A PHY block, whose two sequences are counted in units of so many bytes and which ends with so
+/// many bytes after them.
+fn phy(block: &[u8], unit: usize, last_bytes: usize) -> Option<Fields> {
+    let select_length = *block.get(3)?;
+    let reset_offset = 4 + unit * usize::from(select_length);
+    let reset_length = *block.get(reset_offset)?;
+    let words = reset_offset + 1 + unit * usize::from(reset_length);
+    (block.len() == words + last_bytes).then(|| Fields::Phy {
+        reset_length,
+        capabilities: word(block, words),
+        advertisement: word(block, words + 2),
+    })
+}
+
+/// Whether the whole code byte is right: a media code of the kind, no reserved bit.
+fn is_code(code: u8, kind: u16) -> bool {
+    match kind {
+        MEDIA_21041 | 2 => matches!(code & !EXT, 0 | 1 | 2 | 4),
+        4 => matches!(code, 3 | 5..=8),
+        _ => matches!(code, 0 | 1 | 3..=8),
+    }
+}
+
+fn has_reserved_bits(command: u16, kind: u16) -> bool {
+    matches!(kind, COMPACT | 0) && command & COMMAND_RESERVED != 0
+}
+
+/// Full duplex media and those without a sense bit are never the default.
+fn is_default(code: u8, command: u16) -> bool {
+    command & (ACTIVE_INVALID | DEFAULT) == DEFAULT && !matches!(code, 4 | 5 | 8)
+}
+
+/// Bits 9 to 5 of the advertisement stand for the media of bits 15 to 11 of the capabilities.
+fn advertises_too_much(capabilities: u16, advertisement: u16) -> bool {
+    let (capable, advertised) = (capabilities >> 11, advertisement >> 5 & 0x1F);
+    advertised & !capable != 0
+}
+
+/// Cause 18: what only one known block of a leaf may say is said twice.
+fn conflict(blocks: &[Block]) -> bool {
+    let is_reset = |block: &&Block| block.kind == Some(RESET);
+    let resets = blocks.iter().filter(is_reset).count();
+    let defaults = blocks.iter().filter(|block| block.is_default).count();
+    let resets_phy = blocks.iter().any(|block| block.resets_phy);
+    resets > 1 || resets == 1 && resets_phy || defaults > 1
+}
+
+/// The blocks that the table lists, in its order.
+fn table(blocks: &[Block]) -> Vec<Block> {
+    let is_listed = |block: &&Block| block.kind.is_some_and(|kind| kind != RESET);
+    blocks.iter().rev().filter(is_listed).copied().collect()
+}
+
+fn refuse_if(cause: bool, refusal: Refusal) -> Result<(), Refusal> {
+    if cause { Err(refusal) } else { Ok(()) }
+}
+
+/// The word whose low byte stands at the offset.
+fn word(bytes: &[u8], offset: usize) -> u16 {
+    u16::from_le_bytes([bytes[offset], bytes[offset + 1]])
+}
+
+#[cfg(test)]
+mod tests;

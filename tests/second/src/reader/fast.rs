@@ -1,0 +1,94 @@
+//! The same reading with the CRCs by table, in one pass over the leaf and without allocation.
+
+use super::{
+    Answer, Arguments, LEAF_LIMIT, MOST_BLOCKS, NO_DEFAULT, RESET, Refusal, block, first_block,
+    header, is_version, refuse_if, word,
+};
+use crate::crc::{ID_CRC_OFFSET, IMAGE_LENGTH, SROM_CRC_OFFSET, fast};
+
+/// Kind and start of each known block but resets, the first block first.
+type Listed = [(u16, u16); MOST_BLOCKS];
+
+/// [`super::read`] in one pass.
+pub fn read(image: &[u8], arguments: Arguments, kinds: &mut [u16], offsets: &mut [u16]) -> Answer {
+    let mut listed = [(0, 0); MOST_BLOCKS];
+    let shorter = kinds.len().min(offsets.len());
+    match leaf(image, arguments, shorter, &mut listed) {
+        Ok(answer) => {
+            let entries = listed[..answer.listed.into()].iter().rev();
+            for ((&entry, kind), offset) in entries.zip(kinds).zip(offsets) {
+                (*kind, *offset) = entry;
+            }
+            answer
+        }
+        Err(refusal) => Answer::refused(refusal),
+    }
+}
+
+/// [`super::view`] in one pass.
+pub fn view(image: &[u8], arguments: Arguments, entry: usize) -> &[u8] {
+    let mut listed = [(0, 0); MOST_BLOCKS];
+    let Ok(answer) = leaf(image, arguments, usize::MAX, &mut listed) else {
+        return &image[..0];
+    };
+    match listed[..answer.listed.into()].iter().rev().nth(entry) {
+        Some(&(_, start)) => first_block(&image[start.into()..LEAF_LIMIT], arguments.chip)
+            .expect("an accepted block ends before the limit"),
+        None => &image[..0],
+    }
+}
+
+fn leaf(
+    image: &[u8],
+    arguments: Arguments,
+    shorter: usize,
+    listed: &mut Listed,
+) -> Result<Answer, Refusal> {
+    frame(image)?;
+    let header = header(image, arguments)?;
+    refuse_if(shorter < usize::from(header.count), Refusal::ShortArray)?;
+    let mut answer = Answer {
+        number: 0,
+        connection: header.connection,
+        control: header.control,
+        address: header.address,
+        blocks: header.count,
+        listed: 0,
+        resets: 0,
+        skipped: 0,
+        default_number: NO_DEFAULT,
+    };
+    let mut start = header.first_block;
+    let (mut defaults, mut resets_phy) = (0, false);
+    for number in 0..header.count {
+        let block = block(image, start, arguments)?;
+        match block.kind {
+            None => answer.skipped += 1,
+            Some(RESET) => answer.resets += 1,
+            Some(kind) => {
+                listed[usize::from(answer.listed)] = (kind, start as u16);
+                answer.listed += 1;
+            }
+        }
+        if block.is_default {
+            answer.default_number = number;
+            defaults += 1;
+        }
+        resets_phy |= block.resets_phy;
+        start += block.size;
+    }
+    refuse_if(
+        answer.resets > 1 || answer.resets == 1 && resets_phy || defaults > 1,
+        Refusal::Conflict,
+    )?;
+    Ok(answer)
+}
+
+fn frame(image: &[u8]) -> Result<(), Refusal> {
+    refuse_if(image.len() != IMAGE_LENGTH, Refusal::ImageLength)?;
+    refuse_if(!is_version(image), Refusal::Version)?;
+    let srom_crc = fast::srom_crc(image).value;
+    refuse_if(srom_crc != word(image, SROM_CRC_OFFSET), Refusal::SromCrc)?;
+    let id_crc = fast::id_crc(image).value;
+    refuse_if(id_crc != image[ID_CRC_OFFSET].into(), Refusal::IdCrc)
+}

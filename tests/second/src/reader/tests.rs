@@ -1,0 +1,795 @@
+use super::*;
+use crate::cases::{Expected, cases};
+use crate::crc::lay_crcs;
+use crate::images::{Card, DAMAGES, Image, Leaf, Sample, block};
+use crate::random::Random;
+
+const PATTERN: u16 = 0xA5A5;
+
+/// The answer and the entries of the table, kind and offset. The elements after it are checked to
+/// be unchanged, and all of them where the reading is refused.
+fn read_table(image: &[u8], arguments: Arguments) -> (Answer, Vec<(u16, u16)>) {
+    let (mut kinds, mut offsets) = ([PATTERN; 255], [PATTERN; 255]);
+    let answer = read(image, arguments, &mut kinds, &mut offsets);
+    let listed = usize::from(answer.listed);
+    assert_eq!(kinds[listed..], [PATTERN; 255][listed..]);
+    assert_eq!(offsets[listed..], [PATTERN; 255][listed..]);
+    let table = kinds.into_iter().zip(offsets).take(listed).collect();
+    (answer, table)
+}
+
+fn number(image: &[u8], arguments: Arguments) -> u8 {
+    read_table(image, arguments).0.number
+}
+
+fn newest(chip: u16) -> Arguments {
+    Arguments {
+        chip,
+        controller: 0,
+        level: NEWEST_LEVEL,
+    }
+}
+
+fn at_level(chip: u16, level: u8) -> Arguments {
+    Arguments {
+        level,
+        ..newest(chip)
+    }
+}
+
+fn tidy(chip: u16, blocks: &[&[u8]]) -> Image {
+    let blocks = blocks.iter().map(|block| block.to_vec()).collect();
+    Card::tidy(chip, 0x0800, blocks).image()
+}
+
+/// What the newest reader answers for one controller and the leaf at 30.
+fn number_of(chip: u16, blocks: &[&[u8]]) -> u8 {
+    number(&tidy(chip, blocks), newest(chip))
+}
+
+/// A leaf for the chip whose last block starts at the offset, after blocks that every chip but the
+/// 21041 steps over, or one-byte blocks of the 21041.
+fn ending_at(chip: u16, start: usize, last: &[u8]) -> Image {
+    let places = start - 30 - header_size(chip);
+    let mut blocks = match chip {
+        21041 => vec![vec![0]; places],
+        _ => vec![block::extended(9, &vec![0; places - 2])],
+    };
+    blocks.push(last.to_vec());
+    Card::tidy(chip, 0x0800, blocks).image()
+}
+
+/// "Blocks to prove", a to j.
+#[test]
+fn document_cases() {
+    for case in cases() {
+        let (answer, table) = read_table(&case.image, case.arguments);
+        match case.expected {
+            Expected::Accepted(entries, skipped) => {
+                assert_eq!(answer.number, 0, "case {}", case.name);
+                assert_eq!(table, entries, "case {}", case.name);
+                assert_eq!(answer.skipped, skipped, "case {}", case.name);
+                assert_eq!(answer.resets, 0, "case {}", case.name);
+                assert_eq!(answer.default_number, 255, "case {}", case.name);
+            }
+            Expected::Refused(number) => {
+                assert_eq!(answer, refused(number), "case {}", case.name);
+            }
+        }
+    }
+}
+
+/// Case a, byte by byte: "`00 08 01 86 02 00 01 00 02 00`".
+#[test]
+fn case_a_bytes() {
+    let leaf = [0x00, 0x08, 0x01, 0x86, 0x02, 0x00, 0x01, 0x00, 0x02, 0x00];
+    assert_eq!(cases()[0].image[30..40], leaf);
+}
+
+fn refused(number: u8) -> Answer {
+    Answer {
+        number,
+        connection: 0,
+        control: 0,
+        address: 0,
+        blocks: 0,
+        listed: 0,
+        resets: 0,
+        skipped: 0,
+        default_number: 0,
+    }
+}
+
+/// "1 image not 128 bytes", before any other cause.
+#[test]
+fn image_length() {
+    let bytes = [0xFF; 300];
+    for length in (0..=300).filter(|&length| length != 128) {
+        let answer = read_table(&bytes[..length], newest(21143)).0;
+        assert_eq!(answer, refused(1), "length {length}");
+    }
+}
+
+/// "18 version (3 or 4)".
+#[test]
+fn versions() {
+    for version in 0..=255 {
+        let mut card = Card::tidy(21143, 0x0800, vec![]);
+        card.version = version;
+        let expected = if version == 3 || version == 4 { 0 } else { 2 };
+        assert_eq!(number(&card.image(), newest(21143)), expected, "{version}");
+    }
+}
+
+/// A card with so many controllers, all with device number 0, and an empty leaf.
+fn empty_leaf(controllers: usize, offset: usize) -> Card {
+    let mut card = Card::new(controllers, vec![Leaf::new(offset, 21143, 0x0800, vec![])]);
+    card.controllers
+        .iter_mut()
+        .for_each(|controller| controller.device = 0);
+    card
+}
+
+/// "19 controller count n, 1 to 32": a leaf fits beside 31 controllers and no longer beside 32.
+#[test]
+fn controller_counts() {
+    for count in 0..=255 {
+        let mut card = empty_leaf(31, 120);
+        card.count = count;
+        let expected = match count {
+            1..=31 => 0,
+            32 => 10,
+            _ => 5,
+        };
+        assert_eq!(number(&card.image(), newest(21143)), expected, "{count}");
+    }
+}
+
+/// "Byte 26+3n is reserved", for the n that was read, and no other byte; the count is judged first.
+#[test]
+fn reserved_byte() {
+    for controllers in 1..=10 {
+        for other in 0..=10 {
+            let mut image = empty_leaf(controllers, 60).image();
+            image[26 + 3 * other] = 1;
+            lay_crcs(&mut image);
+            let expected = if other == controllers { 5 } else { 0 };
+            assert_eq!(
+                number(&image, newest(21143)),
+                expected,
+                "{other} of {controllers}"
+            );
+        }
+    }
+    let mut card = empty_leaf(1, 60);
+    (card.count, card.reserved) = (0, 1);
+    assert_eq!(number(&card.image(), newest(21143)), 5);
+}
+
+/// "6 controller not below n".
+#[test]
+fn controllers() {
+    let card = empty_leaf(4, 60);
+    for controller in 0..=255 {
+        let arguments = Arguments {
+            controller,
+            ..newest(21143)
+        };
+        let expected = if controller < 4 { 0 } else { 6 };
+        assert_eq!(number(&card.image(), arguments), expected, "{controller}");
+    }
+}
+
+/// "7 chip", for numbers that are none of the five.
+#[test]
+fn chips() {
+    let image = tidy(21143, &[]);
+    let accepted = (20_000..22_000).filter(|&chip| number(&image, newest(chip)) != 7);
+    assert!(accepted.eq([21041, 21140, 21142, 21143, 21145]));
+}
+
+/// "8 level over 6", also where no extended type can stand.
+#[test]
+fn levels() {
+    for chip in CHIPS {
+        for level in 0..=255 {
+            let expected = if level <= 6 { 0 } else { 8 };
+            let answered = number(&tidy(chip, &[]), at_level(chip, level));
+            assert_eq!(answered, expected, "{chip} level {level}");
+        }
+    }
+}
+
+/// "address base + i"; "9 address over 2^48 - 1".
+#[test]
+fn addresses() {
+    let mut card = empty_leaf(4, 60);
+    card.address = 0x0800_2BFF_FFFE;
+    let image = card.image();
+    assert_eq!(image[20..26], [0x08, 0x00, 0x2B, 0xFF, 0xFF, 0xFE]);
+    let read_one = |image: &Image, controller| {
+        let arguments = Arguments {
+            controller,
+            ..newest(21143)
+        };
+        read_table(image, arguments).0
+    };
+    assert_eq!(read_one(&image, 3).address, 0x0800_2C00_0001);
+    card.address = 0xFFFF_FFFF_FFFD;
+    let image = card.image();
+    assert_eq!(read_one(&image, 2).address, 0xFFFF_FFFF_FFFF);
+    assert_eq!(read_one(&image, 3), refused(9));
+}
+
+/// "A leaf starts at 27+3n or later", and its header ends before 124: "10 leaf header outside its
+/// bounds", also where the offset's high byte is not 0.
+#[test]
+fn leaf_bounds() {
+    for chip in CHIPS {
+        let last = if chip == 21140 { 120 } else { 121 };
+        for controllers in 1..=3 {
+            let first = 27 + 3 * controllers;
+            for offset in (0..=300).chain((256..=u16::MAX).step_by(257)) {
+                let place = usize::from(offset);
+                let is_inside = (first..=last).contains(&place);
+                let laid = if is_inside { place } else { first };
+                let mut card = Card::new(controllers, vec![Leaf::new(laid, chip, 0x0800, vec![])]);
+                card.controllers[0].leaf_offset = offset;
+                let expected = if is_inside { 0 } else { 10 };
+                let answered = number(&card.image(), newest(chip));
+                assert_eq!(answered, expected, "{chip}, {controllers}, {offset}");
+            }
+        }
+    }
+}
+
+/// "Leaves may be shared", and each controller may have its own: the device number is no index.
+#[test]
+fn leaf_of_each_controller() {
+    let leaf = |offset, code| Leaf::new(offset, 21041, 0x0800, vec![vec![code]]);
+    let mut card = Card::new(4, vec![leaf(50, 0), leaf(60, 1), leaf(70, 2)]);
+    card.controllers.reverse();
+    assert_eq!(card.controllers[3].device, 0);
+    let image = card.image();
+    for (controller, offset) in [(0, 53), (1, 73), (2, 63), (3, 53)] {
+        let arguments = Arguments {
+            controller,
+            ..newest(21041)
+        };
+        assert_eq!(read_table(&image, arguments).1, [(257, offset)]);
+    }
+}
+
+/// "Connection types", whose rows have 9, 19 and 20 of them; "11 connection type" for those that
+/// are not in the chip's row, be it by one bit.
+#[test]
+fn connection_types() {
+    let is_accepted = |chip, connection| {
+        let answer = read_table(&Card::tidy(chip, connection, vec![]).image(), newest(chip)).0;
+        assert!(answer == refused(11) || answer.connection == connection);
+        answer.number == 0
+    };
+    let rows = CHIPS.map(|chip| connections(chip).collect::<Vec<_>>());
+    for (chip, row) in CHIPS.into_iter().zip(&rows) {
+        for &connection in row {
+            assert!(is_accepted(chip, connection));
+            for near in (0..16).map(|bit| connection ^ 1 << bit) {
+                assert_eq!(is_accepted(chip, near), row.contains(&near), "{near:#06x}");
+            }
+        }
+    }
+    assert_eq!(rows.each_ref().map(Vec::len), [9, 19, 20, 20, 20]);
+    let only_21041: Vec<_> = rows[0].iter().filter(|it| !rows[2].contains(it)).collect();
+    assert_eq!(only_21041, [&0x0400, &0x0900]);
+    assert!(rows[1].iter().all(|it| rows[2].contains(it)));
+    assert!(rows[2].contains(&0x0002) && !rows[1].contains(&0x0002));
+    assert_eq!(rows[2], rows[3]);
+    assert_eq!(rows[3], rows[4]);
+}
+
+/// "for the 21140 only a general purpose control byte"; "control byte (0 but for the 21140)".
+#[test]
+fn control_byte() {
+    for chip in CHIPS {
+        let mut card = Card::tidy(chip, 0x0800, vec![]);
+        card.leaves[0].control = 0x1F;
+        let expected = if chip == 21140 { 0x1F } else { 0 };
+        assert_eq!(read_table(&card.image(), newest(chip)).0.control, expected);
+    }
+}
+
+/// A block count of 0 is accepted, with nothing listed, even into arrays without elements.
+#[test]
+fn no_blocks() {
+    for chip in CHIPS {
+        let image = tidy(chip, &[]);
+        let answer = read(&image, newest(chip), &mut [], &mut []);
+        let expected = Answer {
+            connection: 0x0800,
+            address: 0x0800_2B00_0000,
+            default_number: 255,
+            ..refused(0)
+        };
+        assert_eq!(answer, expected);
+        assert!(view(&image, newest(chip), 0).is_empty());
+    }
+}
+
+/// "12 a lent array shorter than the block count", either one, before any block is judged; the
+/// count is of all blocks, not of the listed ones.
+#[test]
+fn short_arrays() {
+    let accepted = tidy(21143, &[&[0x81, 0x09], &[0x82, 0x05, 0x00], &[0x81, 0x0A]]);
+    let bad_block = tidy(21143, &[&[0x80], &[0x80], &[0x80]]);
+    for (image, otherwise) in [(accepted, 0), (bad_block, 14)] {
+        for first in 0..6 {
+            for second in 0..6 {
+                let (mut kinds, mut offsets) = ([PATTERN; 6], [PATTERN; 6]);
+                let answer = read(
+                    &image,
+                    newest(21143),
+                    &mut kinds[..first],
+                    &mut offsets[..second],
+                );
+                let expected = if first < 3 || second < 3 {
+                    12
+                } else {
+                    otherwise
+                };
+                assert_eq!(answer.number, expected);
+                assert_eq!((kinds, offsets), ([PATTERN; 6], [PATTERN; 6]));
+            }
+        }
+    }
+}
+
+/// "13 block past 123" comes before all else that is wrong with the block.
+#[test]
+fn past_the_limit() {
+    // No place for the block at all.
+    assert_eq!(number(&ending_at(21143, 124, &[0x80]), newest(21143)), 13);
+    assert_eq!(number(&ending_at(21041, 124, &[0x00]), newest(21041)), 13);
+    // A compact block that the chip does not permit.
+    for start in 120..=123 {
+        let expected = if start == 120 { 14 } else { 13 };
+        let image = ending_at(21143, start, &[0x02, 0, 0, 0xFF]);
+        assert_eq!(number(&image, newest(21143)), expected, "{start}");
+    }
+    // A known type with a wrong length, and a type that the chip does not permit.
+    for (length, kind) in [(5, 2), (90, 2), (5, 0), (5, 9)] {
+        let image = ending_at(21143, 119, &[0x80 | length, kind, 0xFF, 0xFF, 0xFF]);
+        assert_eq!(number(&image, newest(21143)), 13, "{length} {kind}");
+    }
+    // A 21041 block with EXT and the reserved bit.
+    for start in 117..=123 {
+        let expected = if start == 117 { 16 } else { 13 };
+        let image = ending_at(21041, start, &[0xC0, 0, 0, 0, 0, 0, 0]);
+        assert_eq!(number(&image, newest(21041)), expected, "{start}");
+    }
+    // More blocks are counted than stand there.
+    let mut card = Card::longest(&mut Random::new(1));
+    card.leaves[0].count = 92;
+    assert_eq!(number(&card.image(), newest(21041)), 13);
+}
+
+/// "14 extended length 0", at every level, also as the leaf's last byte.
+#[test]
+fn extended_length_zero() {
+    for level in 0..=6 {
+        for chip in [21140, 21142, 21143, 21145] {
+            let arguments = at_level(chip, level);
+            assert_eq!(number(&tidy(chip, &[&[0x80]]), arguments), 14);
+            assert_eq!(number(&ending_at(chip, 123, &[0x80]), arguments), 14);
+        }
+    }
+}
+
+/// A right block of each kind: a 21041 block, a compact block and types 0 to 5.
+fn right_blocks() -> [(u16, Vec<u8>); 8] {
+    [
+        (MEDIA_21041, block::media(0, None)),
+        (COMPACT, block::compact(0, 0, 0)),
+        (0, block::non_mii(0, 0, 0)),
+        (1, block::phy(1, &block::Phy::default())),
+        (2, block::sia(0, None, 0, 0)),
+        (3, block::phy(3, &block::Phy::default())),
+        (4, block::symbol(3, 0, 0, 0)),
+        (5, block::reset(&[])),
+    ]
+}
+
+/// "Permitted": each kind for each chip; "a compact or known type not permitted for the chip" is
+/// 14, and below its level a type is stepped over on every chip.
+#[test]
+fn permitted_for_the_chip() {
+    let permitted = [
+        (21140, [true, true, true, false, false, false, true]),
+        (21142, [false, false, false, true, true, false, true]),
+        (21143, [false, false, false, true, true, true, true]),
+        (21145, [false, false, false, true, true, true, true]),
+    ];
+    for (chip, row) in permitted {
+        for ((kind, block), is_permitted) in right_blocks()[1..].iter().zip(row) {
+            for level in 0..=6 {
+                let is_known = *kind == COMPACT || *kind < level.into();
+                let answer = read_table(&tidy(chip, &[block]), at_level(chip, level)).0;
+                let expected = match (is_known, is_permitted) {
+                    (false, _) => (0, 0, 0, 1),
+                    (true, false) => (14, 0, 0, 0),
+                    (true, true) if *kind == 5 => (0, 0, 1, 0),
+                    (true, true) => (0, 1, 0, 0),
+                };
+                let counts = (answer.number, answer.listed, answer.resets, answer.skipped);
+                assert_eq!(counts, expected, "{chip}, level {level}, {block:02x?}");
+            }
+        }
+    }
+}
+
+/// Compact and 21041 blocks are "known at every level", and level 0 knows no extended type.
+#[test]
+fn level_zero() {
+    let image = tidy(21041, &[&[0x00], &[0x44, 1, 2, 3, 4, 5, 6]]);
+    assert_eq!(
+        read_table(&image, at_level(21041, 0)).1,
+        [(257, 34), (257, 33)]
+    );
+    let image = tidy(21140, &[&[0x85, 0x00, 0xFF, 0, 0, 0], &[0x03, 0, 0, 0]]);
+    let (answer, table) = read_table(&image, at_level(21140, 0));
+    assert_eq!((answer.skipped, table.as_slice()), (1, &[(256, 40)][..]));
+    assert_eq!(number(&image, at_level(21140, 1)), 16);
+}
+
+/// "is stepped over by its length, unjudged": any type from 6 on, of any length.
+#[test]
+fn unknown_types() {
+    for kind in 6..=255 {
+        for length in 1..=80 {
+            let unknown = block::extended(kind, &vec![kind; length - 1]);
+            let last = block::sia(4, None, 0, 0);
+            let (answer, table) = read_table(&tidy(21143, &[&unknown, &last]), newest(21143));
+            assert_eq!((answer.number, answer.skipped), (0, 1));
+            assert_eq!(table, [(2, 34 + length as u16)]);
+        }
+    }
+}
+
+/// "15 length wrong for the type": of all lengths each type takes one.
+#[test]
+fn lengths() {
+    let right = [
+        (21140, 0, 5),
+        (21140, 1, 12),
+        (21143, 2, 6),
+        (21143, 3, 13),
+        (21143, 4, 8),
+        (21143, 5, 2),
+    ];
+    for (chip, kind, right_length) in right {
+        for length in 1..=80 {
+            let mut body = vec![0; length - 1];
+            // A code that types 0, 2 and 4 do not refuse; a PHY number for the others.
+            if let (Some(code), 4) = (body.first_mut(), kind) {
+                *code = 3;
+            }
+            let expected = if length == right_length { 0 } else { 15 };
+            let answered = number_of(chip, &[&block::extended(kind, &body)]);
+            assert_eq!(answered, expected, "type {kind}, length {length}");
+        }
+    }
+}
+
+/// "Type 2, length 6, or 12 if EXT".
+#[test]
+fn lengths_with_ext() {
+    for length in 2..=80 {
+        for code in [0x00, 0x40] {
+            let mut body = vec![0; length - 1];
+            body[0] = code;
+            let right = if code == 0 { 6 } else { 12 };
+            let expected = if length == right { 0 } else { 15 };
+            let answered = number_of(21143, &[&block::extended(2, &body)]);
+            assert_eq!(answered, expected, "{code:#x}, length {length}");
+        }
+    }
+}
+
+/// "12+g+r" and "13+2g+2r", with g and r in their places: every pair of them is accepted in its
+/// own length only.
+#[test]
+fn phy_sequences() {
+    for (chip, kind, unit) in [(21140, 1, 1), (21143, 3, 2)] {
+        for select in 0..12 {
+            for reset in 0..12 {
+                let fields = block::Phy {
+                    select: vec![0xFF; unit * select],
+                    reset: vec![0xFF; unit * reset],
+                    ..block::Phy::default()
+                };
+                let right = block::phy(kind, &fields);
+                assert_eq!(number_of(chip, &[&right]), 0);
+                let mut longer = [right.as_slice(), &[0]].concat();
+                longer[0] += 1;
+                assert_eq!(number_of(chip, &[&longer]), 15);
+                let mut shorter = right[..right.len() - 1].to_vec();
+                shorter[0] -= 1;
+                assert_eq!(number_of(chip, &[&shorter]), 15);
+            }
+        }
+    }
+}
+
+/// "g or r past the block's end", also where g itself stands outside: 15, though later bytes of the
+/// image would fit.
+#[test]
+fn sequences_past_the_end() {
+    for (chip, kind) in [(21140, 1), (21143, 3)] {
+        // g outside the block.
+        assert_eq!(number_of(chip, &[&[0x81, kind]]), 15);
+        assert_eq!(number_of(chip, &[&[0x82, kind, 0x00]]), 15);
+        // r outside the block: just, and as far as g can reach.
+        let mut block = [0; 14];
+        block[..2].copy_from_slice(&[0x8D, kind]);
+        for g in [10, 11, 40, 120, 255] {
+            block[3] = g;
+            assert_eq!(number_of(chip, &[&block]), 15, "g {g}");
+        }
+        // r inside the block, its sequence not.
+        for r in [1, 10, 128, 255] {
+            (block[3], block[4]) = (0, r);
+            let expected = if (kind, r) == (1, 1) { 0 } else { 15 };
+            assert_eq!(number_of(chip, &[&block]), expected, "r {r}");
+        }
+    }
+    // Type 5 without r, and with one that reaches too far.
+    assert_eq!(number_of(21143, &[&[0x81, 0x05]]), 15);
+    for r in 0..=255 {
+        let expected = if r == 1 { 0 } else { 15 };
+        assert_eq!(number_of(21143, &[&[0x84, 0x05, r, 0, 0]]), expected);
+    }
+}
+
+/// "Media codes", with the reserved bits: of all code bytes those of the kind are accepted.
+#[test]
+fn codes() {
+    let of_sia = |code: u8| matches!(code & 0x3F, 0 | 1 | 2 | 4) && code & 0x80 == 0;
+    let of_compact = |code: u8| matches!(code, 0 | 1 | 3 | 4 | 5 | 6 | 7 | 8);
+    let of_symbol = |code: u8| matches!(code, 3 | 5 | 6 | 7 | 8);
+    for code in 0..=255 {
+        let expected = |is_right| if is_right { 0 } else { 16 };
+        let media = [code, 0, 0, 0, 0, 0, 0];
+        let size = if code & 0x40 == 0 { 1 } else { 7 };
+        let answered = number_of(21041, &[&media[..size]]);
+        assert_eq!(answered, expected(of_sia(code)), "21041 {code:#x}");
+        let registers = (code & 0x40 != 0).then_some([0; 6]);
+        let answered = number_of(21143, &[&block::sia(code, registers, 0, 0)]);
+        assert_eq!(answered, expected(of_sia(code)), "type 2 {code:#x}");
+        if code & 0x80 == 0 {
+            let answered = number_of(21140, &[&block::compact(code, 0, 0)]);
+            assert_eq!(answered, expected(of_compact(code)), "compact {code:#x}");
+        }
+        let answered = number_of(21140, &[&block::non_mii(code, 0, 0)]);
+        assert_eq!(answered, expected(of_compact(code)), "type 0 {code:#x}");
+        let answered = number_of(21143, &[&block::symbol(code, 0, 0, 0)]);
+        assert_eq!(answered, expected(of_symbol(code)), "type 4 {code:#x}");
+    }
+}
+
+/// "Command bits 13:8" of a compact block and of type 0; in type 4 they are any.
+#[test]
+fn commands() {
+    for bit in 0..16 {
+        let command = 1 << bit;
+        let expected = if (8..=13).contains(&bit) { 16 } else { 0 };
+        assert_eq!(
+            number_of(21140, &[&block::compact(0, 0, command)]),
+            expected
+        );
+        assert_eq!(
+            number_of(21140, &[&block::non_mii(0, 0, command)]),
+            expected
+        );
+        assert_eq!(number_of(21143, &[&block::symbol(3, 0, 0, command)]), 0);
+    }
+}
+
+/// "Advertisement bits 9:5" against "capability bits 15:11": each bit of one word with each of the
+/// other.
+#[test]
+fn advertisements() {
+    for capability in 0..16 {
+        for advertised in 0..16 {
+            let fields = block::Phy {
+                capabilities: 1 << capability,
+                advertisement: 1 << advertised,
+                ..block::Phy::default()
+            };
+            let is_judged = (5..=9).contains(&advertised);
+            let expected = match is_judged && capability != advertised + 6 {
+                true => 17,
+                false => 0,
+            };
+            for (chip, kind) in [(21140, 1), (21143, 3)] {
+                let answered = number_of(chip, &[&block::phy(kind, &fields)]);
+                assert_eq!(answered, expected, "{capability} {advertised}");
+            }
+        }
+    }
+}
+
+/// "two type 5 blocks, or one and a PHY block (type 1 or 3) with r above 0", among known blocks.
+#[test]
+fn resets() {
+    let phy = |kind, steps| {
+        let fields = block::Phy {
+            reset: vec![0; steps],
+            ..block::Phy::default()
+        };
+        block::phy(kind, &fields)
+    };
+    let reset = block::reset(&[1]);
+    for (chip, kind) in [(21140, 1), (21142, 3), (21143, 3), (21145, 3)] {
+        let (with, without) = (phy(kind, 2), phy(kind, 0));
+        for (blocks, expected) in [
+            ([&with, &with], 0),
+            ([&without, &reset], 0),
+            ([&with, &reset], 18),
+            ([&reset, &with], 18),
+            ([&reset, &reset], 18),
+        ] {
+            let image = tidy(chip, &[blocks[0], blocks[1]]);
+            assert_eq!(number(&image, newest(chip)), expected);
+            // Type 5 is not known below level 6.
+            assert_eq!(number(&image, at_level(chip, 5)), 0);
+        }
+    }
+}
+
+/// "command bit 15 is Active_Invalid, 14 Default", and the default "counts only with bit 15 clear
+/// and a code other than 4, 5, 8"; "two defaults" are 18.
+#[test]
+fn defaults() {
+    type Maker = fn(u8, u16) -> Vec<u8>;
+    let makers: [(u16, &[u8], Maker); 3] = [
+        (21140, &[0, 1, 3, 4, 5, 6, 7, 8], |code, command| {
+            block::compact(code, 0, command)
+        }),
+        (21140, &[0, 1, 3, 4, 5, 6, 7, 8], |code, command| {
+            block::non_mii(code, 0, command)
+        }),
+        (21143, &[3, 5, 6, 7, 8], |code, command| {
+            block::symbol(code, 0, 0, command)
+        }),
+    ];
+    for (chip, codes, maker) in makers {
+        for &code in codes {
+            for command in [0x0000, 0x4000, 0x8000, 0xC000] {
+                let counts = command == 0x4000 && ![4, 5, 8].contains(&code);
+                let unknown = block::extended(9, &[]);
+                let (one, none) = (maker(code, command), maker(code, 0));
+                let image = tidy(chip, &[&unknown, &none, &one]);
+                let expected = if counts { 2 } else { 255 };
+                let answer = read_table(&image, newest(chip)).0;
+                assert_eq!(answer.default_number, expected, "{one:02x?}");
+                let expected = if counts { 18 } else { 0 };
+                assert_eq!(number_of(chip, &[&one, &unknown, &one]), expected);
+            }
+        }
+    }
+    // A default of a type that is not known is none.
+    let image = tidy(21143, &[&block::symbol(3, 0, 0, 0x4000)]);
+    assert_eq!(read_table(&image, at_level(21143, 4)).0.default_number, 255);
+    assert_eq!(read_table(&image, at_level(21143, 5)).0.default_number, 0);
+}
+
+/// "blocks judged one after another (13 to 17 each), 18 last": the first refused block decides.
+#[test]
+fn first_refused_block() {
+    let wrong_code = block::sia(3, None, 0, 0);
+    let wrong_length: &[u8] = &[0x85, 0x02, 0, 0, 0, 0];
+    let reset = block::reset(&[]);
+    assert_eq!(number_of(21143, &[&wrong_code, wrong_length]), 16);
+    assert_eq!(number_of(21143, &[wrong_length, &wrong_code]), 15);
+    assert_eq!(number_of(21143, &[&reset, &reset, &wrong_code]), 16);
+}
+
+/// "hands back that block's bytes as part of the image, or an empty part": entries of the table,
+/// and no block where the reading is refused.
+#[test]
+fn views() {
+    let (first, last) = (block::sia(0, Some([7; 6]), 1, 2), block::symbol(3, 4, 5, 6));
+    let unknown = block::extended(200, &[1, 2, 3]);
+    let image = tidy(21143, &[&first, &unknown, &block::reset(&[8]), &last]);
+    let arguments = newest(21143);
+    assert_eq!(view(&image, arguments, 0), last);
+    assert_eq!(view(&image, arguments, 1), first);
+    assert_eq!(view(&image, arguments, 0).as_ptr(), &image[56]);
+    for entry in [2, 3, 255, 256, usize::MAX] {
+        assert!(view(&image, arguments, entry).is_empty());
+    }
+    assert!(view(&image, at_level(21143, 7), 0).is_empty());
+    assert!(view(&image[..127], arguments, 0).is_empty());
+}
+
+/// "The answer holds" each field: a card with all of them.
+#[test]
+fn whole_answer() {
+    let blocks = vec![
+        block::compact(0, 0x0F, 0x008E),
+        block::extended(77, &[0xFF; 3]),
+        block::non_mii(3, 0x6D, 0x4071),
+        block::reset(&[0x0102, 0x0304]),
+        block::phy(1, &block::Phy::default()),
+    ];
+    let mut leaf = Leaf::new(40, 21140, 0x8800, blocks);
+    leaf.control = 0x1E;
+    let mut card = Card::new(3, vec![leaf]);
+    card.address = 0x0000_F812_34FF;
+    let arguments = Arguments {
+        chip: 21140,
+        controller: 1,
+        level: 6,
+    };
+    let (answer, table) = read_table(&card.image(), arguments);
+    let expected = Answer {
+        number: 0,
+        connection: 0x8800,
+        control: 0x1E,
+        address: 0x0000_F812_3500,
+        blocks: 5,
+        listed: 3,
+        resets: 1,
+        skipped: 1,
+        default_number: 2,
+    };
+    assert_eq!(answer, expected);
+    assert_eq!(table, [(1, 66), (0, 53), (256, 44)]);
+}
+
+/// The one-pass form reads alike.
+#[test]
+fn fast_equals_plain() {
+    let mut random = Random::new(1);
+    for round in 0..30_000 {
+        let mut sample = match round % 3 {
+            0 => Sample::valid(&mut random),
+            1 => {
+                let number = random.pick(&DAMAGES);
+                Sample::damaged(&mut random, number)
+            }
+            _ => {
+                let mut sample = Sample::valid(&mut random);
+                sample.card = Card::wild(&mut random, sample.arguments.chip);
+                sample.arguments.controller = 0;
+                sample
+            }
+        };
+        if random.one_in(2) {
+            sample.arguments.level = random.below(8) as u8;
+        }
+        let image = sample.card.image();
+        let (first, second) = (random.below(12), random.below(12));
+        let (mut plain, mut fast) = ([[PATTERN; 12]; 2], [[PATTERN; 12]; 2]);
+        let [kinds, offsets] = &mut plain;
+        let answer = read(
+            &image,
+            sample.arguments,
+            &mut kinds[..first],
+            &mut offsets[..second],
+        );
+        let [kinds, offsets] = &mut fast;
+        let fast_answer = fast::read(
+            &image,
+            sample.arguments,
+            &mut kinds[..first],
+            &mut offsets[..second],
+        );
+        assert_eq!(fast_answer, answer, "{sample:02x?}");
+        assert_eq!(fast, plain, "{sample:02x?}");
+        for entry in 0..=usize::from(answer.listed) {
+            let bytes = view(&image, sample.arguments, entry);
+            let fast_bytes = fast::view(&image, sample.arguments, entry);
+            assert_eq!(fast_bytes.as_ptr_range(), bytes.as_ptr_range());
+        }
+    }
+}
