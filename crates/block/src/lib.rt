@@ -1,6 +1,7 @@
 // One block of an info leaf: its size, kind, flags and refusal (document 01, 'Leaf and blocks').
 pub mod chip;
 mod search;
+pub mod shape;
 
 use chip::ROW_21041;
 use chip::is_permitted;

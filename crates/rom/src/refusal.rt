@@ -36,3 +36,21 @@ pub const BLOCK_CODE: u8 = 16;
 pub const ADVERTISEMENT: u8 = 17;
 
 pub const CLASH: u8 = 18;
+
+pub const REPORT: u8 = 19;
+
+pub const FRESH: u8 = 20;
+
+pub const LOADED: u8 = 21;
+
+pub const FIXED_TYPE: u8 = 22;
+
+pub const LOOKS: u8 = 23;
+
+pub const SHEET: u8 = 24;
+
+pub const SHEET_ENTRY: u8 = 25;
+
+pub const LEAF_END: u8 = 26;
+
+pub const UNTIDY: u8 = 27;

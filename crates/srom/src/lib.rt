@@ -1,5 +1,8 @@
 // The C interface: every call that a driver links, under a name that begins `srom_`.
+use autosense::Walk;
+use autosense::Walked;
 use crc::Checksum;
+use maker::Made;
 use reader::Answer;
 use reader::Arguments;
 use reader::Part;
@@ -7,6 +10,10 @@ ghost use mathlib.Core.Path.{_≡_};
 ghost use lib.ListN.{length};
 ghost use Rattle.crc.specs.Answer.{sromAnswer, idAnswer};
 ghost use Rattle.reader.specs.Reading.{readAnswer, readKinds, readOffsets, partFor};
+ghost use Rattle.autosense.specs.Walk.{freshWalk, loadFor, lookFor, clearFor};
+ghost use Rattle.sheet.specs.Write.{writeNumber, written};
+ghost use Rattle.sheet.specs.Make.{made};
+ghost use Rattle.maker.specs.Answer.{madeFor};
 
 // The CRC that bytes 126 and 127 of an image should hold.
 #[no_mangle]
@@ -45,4 +52,54 @@ pub extern "C" fn srom_view(image: &[u8], arguments: Arguments, entry: usize) ->
     ensures { λ r. ⌜ r ≡ partFor (now (image .entry)) arguments entry ⌝ }
 {
     reader::view_part(image, arguments, entry)
+}
+
+// A fresh walk.
+#[no_mangle]
+pub extern "C" fn srom_fresh() -> Walk
+    ensures { λ r. ⌜ r ≡ freshWalk ⌝ }
+{
+    autosense::fresh()
+}
+
+// Loads a walk with the leaf that the arguments name.
+#[no_mangle]
+pub extern "C" fn srom_load(walk: Walk, image: &[u8], arguments: Arguments) -> Walked
+    ensures { λ r. ⌜ r ≡ loadFor walk (now (image .entry)) arguments ⌝ }
+{
+    autosense::load(walk, image, arguments)
+}
+
+// Looks at the links, one byte a block.
+#[no_mangle]
+pub extern "C" fn srom_look(walk: Walk, report: &[u8]) -> Walked
+    ensures { λ r. ⌜ r ≡ lookFor walk (now (report .entry)) ⌝ }
+{
+    autosense::look(walk, report)
+}
+
+// Makes a walk fresh.
+#[no_mangle]
+pub extern "C" fn srom_clear(walk: Walk) -> Walked
+    ensures { λ r. ⌜ r ≡ clearFor walk ⌝ }
+{
+    autosense::clear(walk)
+}
+
+// Writes the image of a sheet.
+#[no_mangle]
+pub extern "C" fn srom_write(sheet: &[u8], image: &mut [u8]) -> u8
+    ensures { λ r. ⌜ r ≡ writeNumber (now (sheet .entry)) (length (now (image .entry))) ⌝ }
+    ensures { λ r. ⌜ now (image .exit) ≡ written (now (sheet .entry)) (now (image .entry)) ⌝ }
+{
+    writer::write(sheet, image)
+}
+
+// Makes the sheet of a tidy image.
+#[no_mangle]
+pub extern "C" fn srom_make_sheet(image: &[u8], chip: u16, buffer: &mut [u8]) -> Made
+    ensures { λ r. ⌜ r ≡ madeFor (now (image .entry)) chip (length (now (buffer .entry))) ⌝ }
+    ensures { λ r. ⌜ now (buffer .exit) ≡ made (now (image .entry)) chip (now (buffer .entry)) ⌝ }
+{
+    maker::make(image, chip, buffer)
 }

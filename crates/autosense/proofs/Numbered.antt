@@ -1,0 +1,139 @@
+-- Blocks by their numbers: what the flags of a row say, and a default's number. Assumes nothing.
+use Prim.Native.Nat.{ℕ, zero, suc, _+_, _-_, _≤_}
+use native.Mathlib.Omega.{arith}
+use native.Mathlib.Nat.{le-of-suc-le-suc, not-suc-le-zero}
+use mathlib.Core.List.{List, [], _∷_, _++_, map}
+use mathlib.Core.Path.{_≡_, refl, sym, _∙_}
+use mathlib.Core.Bool.{Bool, true, false, _&&_, not}
+use lib.Dec.{eqb}
+use lib.ListN.{length, getD, replicate}
+use borrow.Author.Tests.{eqb-true}
+use Rattle.rom.specs.Bytes.{pick}
+use Rattle.block.specs.Block.{kindOf, isKnown, factsOf, reset}
+use Rattle.block.proofs.Levels.{known-up}
+use Rattle.reader.specs.Leaf.{isListed, isDefault, one, firstFrom}
+use Rattle.reader.specs.Claims.{isRemoved}
+use Rattle.autosense.specs.Walk.{blockIs, flags, flagAt, isInvalid}
+
+-- ## Flags
+
+pub flag-none : (n k : ℕ) → flagAt (replicate n 0) k ≡ false
+unfolding flagAt
+flag-none zero k = refl
+flag-none (suc n) zero = refl
+flag-none (suc n) (suc k) = flag-none n k
+
+flag-in : (p : List ℕ → Bool) (bs : List (List ℕ)) (n k : ℕ) → flagAt (map (λ s. one (p s)) bs ++ replicate n 0) k ≡ blockIs p bs k
+unfolding flagAt blockIs
+flag-in p [] n k = flag-none n k
+flag-in p (s ∷ bs) n zero = go (p s)
+  where
+    go : (t : Bool) → eqb (one t) 1 ≡ t
+    go true = refl
+    go false = refl
+flag-in p (s ∷ bs) n (suc k) = flag-in p bs n k
+
+-- a row's flag at k is 1 exactly if block k is there and taken
+pub flag-block : (p : List ℕ → Bool) (bs : List (List ℕ)) (k : ℕ) → flagAt (flags p bs) k ≡ blockIs p bs k
+unfolding flags
+flag-block p bs k = flag-in p bs (128 - length bs) k
+
+-- ## Blocks that are there
+
+pub block-past : (p : List ℕ → Bool) (bs : List (List ℕ)) (k : ℕ) → length bs ≤ k → blockIs p bs k ≡ false
+unfolding blockIs
+block-past p [] k h = refl
+block-past p (s ∷ bs) zero h = absurd (not-suc-le-zero h)
+block-past p (s ∷ bs) (suc k) h = block-past p bs k (le-of-suc-le-suc h)
+
+pub block-same : (p q r : List ℕ → Bool) → ((s : List ℕ) → r s ≡ false → p s ≡ q s) → (bs : List (List ℕ)) (k : ℕ) → blockIs r bs k ≡ false → blockIs p bs k ≡ blockIs q bs k
+unfolding blockIs
+block-same p q r h [] k e = refl
+block-same p q r h (s ∷ bs) zero e = h s e
+block-same p q r h (s ∷ bs) (suc k) e = block-same p q r h bs k e
+
+-- a block that p takes is the one of its number in the list
+block-at : (p q : List ℕ → Bool) (bs : List (List ℕ)) (k : ℕ) → blockIs p bs k ≡ true → (p (getD bs k []) ≡ true) × (blockIs q bs k ≡ q (getD bs k []))
+unfolding blockIs
+block-at p q [] k e = let z : _≡_ {A = ℕ} 0 1 = cc in absurd (omega arith)
+block-at p q (s ∷ bs) zero e = (e, refl)
+block-at p q (s ∷ bs) (suc k) e = block-at p q bs k e
+
+-- ## Levels
+
+-- an entry that is not removed is listed at both levels or at neither
+listed-level : (row older newest : ℕ) → older ≤ newest → (s : List ℕ) → isRemoved row older newest s ≡ false → isListed row older s ≡ isListed row newest s
+unfolding isListed
+listed-level row older newest h s = go (isKnown newest (kindOf row s)) (isKnown older (kindOf row s)) (not (eqb (kindOf row s) 5)) (known-up older newest (kindOf row s) h)
+  where
+    go : (k l x : Bool) → (l ≡ true → k ≡ true) → ((k && x) && not l) ≡ false → (l && x) ≡ (k && x)
+    go k true x u e = rw (u refl)
+    go true false true u e = let z : _≡_ {A = ℕ} 0 1 = cc in absurd (omega arith)
+    go true false false u e = refl
+    go false false x u e = refl
+
+invalid-level : (row older newest : ℕ) → older ≤ newest → (s : List ℕ) → isRemoved row older newest s ≡ false → isInvalid row older s ≡ isInvalid row newest s
+unfolding isInvalid
+invalid-level row older newest h s r = rw (listed-level row older newest h s r)
+
+module _ (row older newest : ℕ) (h : older ≤ newest) (bs : List (List ℕ)) (k : ℕ) (e : blockIs (isRemoved row older newest) bs k ≡ false) where
+  pub listed-same : flagAt (flags (isListed row older) bs) k ≡ flagAt (flags (isListed row newest) bs) k
+  listed-same = flag-block _ bs k ∙ block-same _ _ (isRemoved row older newest) (listed-level row older newest h) bs k e ∙ sym (flag-block _ bs k)
+
+  pub invalid-same : flagAt (flags (isInvalid row older) bs) k ≡ flagAt (flags (isInvalid row newest) bs) k
+  invalid-same = flag-block _ bs k ∙ block-same _ _ (isRemoved row older newest) (invalid-level row older newest h) bs k e ∙ sym (flag-block _ bs k)
+
+-- ## The default
+
+-- a default's block is listed: type 5 has none
+default-listed : (row level : ℕ) (s : List ℕ) → isDefault row level s ≡ true → isListed row level s ≡ true
+unfolding isDefault isListed factsOf reset pick
+default-listed row level s e = go (eqb (kindOf row s) 5) refl (isKnown level (kindOf row s)) e
+  where
+    go : (t : Bool) → eqb (kindOf row s) 5 ≡ t → (k : Bool) → (k && factsOf (kindOf row s) s .isDefault) ≡ true → (k && not t) ≡ true
+    go t f false g = g
+    go false f true g = refl
+    go true f true g =
+        let five = eqb-true (kindOf row s) 5 f in
+        let g′ : factsOf 5 s .isDefault ≡ true = rw five at g in
+        let z : _≡_ {A = ℕ} 0 1 = cc in
+        absurd (omega arith)
+
+-- the number that is found is that of a block that p takes, or 255
+data Found (p : List ℕ → Bool) (k : ℕ) (bs : List (List ℕ)) : ℕ → Type 0 where
+  none : Found p k bs 255
+  at : (j : ℕ) {n : ℕ} → n ≡ k + j → blockIs p bs j ≡ true → Found p k bs n
+
+found : (p : List ℕ → Bool) (k : ℕ) (bs : List (List ℕ)) → Found p k bs (firstFrom p k bs)
+unfolding firstFrom pick blockIs
+found p k [] = none
+found p k (s ∷ bs) = go (p s) refl (found p (k + 1) bs)
+  where
+    later : {n : ℕ} → Found p (k + 1) bs n → Found p k (s ∷ bs) n
+    later none = none
+    later (at j {n} q b) = let q′ : n ≡ k + suc j = omega arith in at (suc j) q′ b
+
+    go : (t : Bool) → p s ≡ t → Found p (k + 1) bs (firstFrom p (k + 1) bs) → Found p k (s ∷ bs) (pick t k (firstFrom p (k + 1) bs))
+    go true e f = let q : k ≡ k + 0 = omega arith in at 0 q e
+    go false e f = later f
+
+pub default-kept : (row older newest : ℕ) (bs : List (List ℕ)) →
+    let d = firstFrom (isDefault row newest) 0 bs in
+    pick (isKnown older (kindOf row (getD bs d []))) d 255 ≡ pick (blockIs (isRemoved row older newest) bs d) 255 d
+unfolding pick
+default-kept row older newest bs = go (firstFrom (isDefault row newest) 0 bs) (found (isDefault row newest) 0 bs)
+  where
+    same : (t : Bool) → _≡_ {A = ℕ} (pick t 255 255) 255
+    same true = refl
+    same false = refl
+
+    go : (d : ℕ) → Found (isDefault row newest) 0 bs d → pick (isKnown older (kindOf row (getD bs d []))) d 255 ≡ pick (blockIs (isRemoved row older newest) bs d) 255 d
+    go d none = same (isKnown older (kindOf row (getD bs 255 []))) ∙ sym (same (blockIs (isRemoved row older newest) bs 255))
+    go d (at j q b) =
+        let e : d ≡ j = omega arith in
+        let t = block-at (isDefault row newest) (isRemoved row older newest) bs j b in
+        rw (e, t .1, default-listed row newest (getD bs j []) (t .0)) (turned (isKnown older (kindOf row (getD bs j []))))
+      where
+        turned : (t : Bool) → pick t j 255 ≡ pick (not t) 255 j
+        turned true = refl
+        turned false = refl

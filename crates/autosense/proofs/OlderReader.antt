@@ -1,0 +1,70 @@
+-- Demand 3: the older reading is a filter of the newest, and the two walks are one state with rows of their own. Assumes nothing.
+use Prim.Native.Nat.{ℕ, _≤_, _<_}
+use native.Mathlib.Omega.{arith}
+use mathlib.Core.List.{List}
+use mathlib.Core.Path.{_≡_, refl, ap, sym, _∙_}
+use mathlib.Core.Bool.{Bool, false}
+use lib.ListN.{length}
+use Rattle.rom.specs.Bytes.{pick}
+use Rattle.rom.specs.Refusal.{firstMet}
+use Rattle.block.specs.Format.{newestLevel}
+use Rattle.reader.specs.declared.Arguments.{Arguments}
+use Rattle.reader.specs.declared.Answer.{Answer}
+use Rattle.reader.specs.Image.{restFrom}
+use Rattle.reader.specs.Reading.{rowFor, startFor, countFor, blocksFor, judgeCauses, acceptedAnswer, answerFor, judgeAnswer}
+use Rattle.reader.proofs.Cuts.{cut-length}
+use Rattle.autosense.specs.Walk.{freshWalk, loadedWalk, rowsOf, loadCauses, walkedTo, loadFor}
+use Rattle.autosense.specs.OlderReader.{removedBlock, atLevel, WalksAgree, OlderReader}
+use Rattle.autosense.proofs.Loads.{few-blocks}
+use Rattle.autosense.proofs.Numbered.{block-past, listed-same, invalid-same}
+use Rattle.autosense.proofs.OlderReadings.{parts, judge-down, default-number, reads-agree}
+use Rattle.autosense.proofs.Simulation.{walkAt, Alike, runs-agree}
+
+-- an accepted image is loaded by a fresh walk
+loads : (image : List ℕ) (a : Arguments) → firstMet (judgeCauses image a) ≡ 0 → loadFor freshWalk image a ≡ record { number = 0; walk = walkAt (loadedWalk image a) false 255 0 0 }
+unfolding loadFor loadCauses firstMet walkedTo pick freshWalk loadedWalk
+loads image a e = rw e
+
+module _ (image : List ℕ) (a : Arguments) (older : ℕ) (h : older < newestLevel) (e : firstMet (judgeCauses image (atLevel a newestLevel)) ≡ 0) where
+  abbrev new : Arguments
+  new = atLevel a newestLevel
+
+  abbrev old : Arguments
+  old = atLevel a older
+
+  newest-answer : judgeAnswer image new ≡ acceptedAnswer image new
+  unfolding judgeAnswer answerFor pick
+  newest-answer = rw e
+
+  down : older ≤ newestLevel
+  down = omega arith
+
+  none-kept : removedBlock image a older 255 ≡ false
+  none-kept =
+      let b = parts image new e in
+      let few : length (blocksFor image a) ≤ 255 = omega (arith, few-blocks image new (b .0) (b .1), cut-length (rowFor a) (countFor image a) (restFrom image (startFor image a))) in
+      block-past _ (blocksFor image a) 255 few
+
+  module _ (d : removedBlock image a older (judgeAnswer image new .«default_number») ≡ false) where
+    default-kept : removedBlock image a older (acceptedAnswer image new .«default_number») ≡ false
+    default-kept = ap (λ (x : Answer). removedBlock image a older (x .«default_number»)) (sym newest-answer) ∙ d
+
+    alike : Alike (removedBlock image a older) (loadedWalk image new) (loadedWalk image old)
+    unfolding loadedWalk rowsOf acceptedAnswer pick
+    alike = record {
+      connection = refl;
+      blocks = refl;
+      «default» = default-number image a older h e ∙ ap (λ (t : Bool). pick t 255 (acceptedAnswer image new .«default_number»)) default-kept;
+      listed = λ k r. listed-same (rowFor a) older newestLevel down (blocksFor image a) k r;
+      invalid = λ k r. invalid-same (rowFor a) older newestLevel down (blocksFor image a) k r;
+      default-kept = default-kept;
+      none-kept = none-kept;
+    }
+
+  walks-agree : WalksAgree image a older
+  walks-agree calls d =
+      runs-agree (removedBlock image a older) (loadedWalk image new) (loadedWalk image old) (alike d) image new old (loads image new e)
+      (loads image old (judge-down image a older newestLevel down e)) calls
+
+pub older-reader : OlderReader
+older-reader image a older h e = (reads-agree image a older h e, walks-agree image a older h e)

@@ -1,0 +1,144 @@
+-- What the rows say of the table: the last block that is up is the first in table order. Assumes nothing.
+use Prim.Native.Nat.{ℕ, suc, _+_, _-_, _≤_}
+use native.Mathlib.Omega.{arith}
+use native.Mathlib.Nat.{add-zero, zero-add}
+use mathlib.Core.List.{List, [], _∷_, _++_, map, map-append, append-nil, reverse, reverse-cons}
+use mathlib.Core.Path.{_≡_, refl, ap, sym, _∙_}
+use mathlib.Core.Bool.{Bool, true, false, _&&_, not}
+use lib.ListN.{length, getD, replicate, length-append, length-map, length-replicate}
+use Rattle.rom.specs.Bytes.{pick}
+use Rattle.block.specs.Block.{sizeOf}
+use Rattle.reader.specs.Image.{restFrom}
+use Rattle.reader.specs.Leaf.{Place, placed, keep, table, isListed, one}
+use Rattle.reader.specs.Table.{tableOf}
+use Rattle.reader.specs.Reading.{rowFor, startFor, countFor, blocksFor, acceptedAnswer}
+use Rattle.reader.proofs.Cuts.{cut-length}
+use Rattle.autosense.specs.Walk.{none, rowLength, flags, blockIs, isInvalid, isUp, rowsOf, loadedWalk, lastBelow, isCandidate, firstUp}
+use Rattle.autosense.specs.Claims.{FlagForEach, RowsSay, numbersFrom, entryNumbers, firstOf, TableNumbers, FirstInOrder}
+use Rattle.autosense.proofs.Loads.{few-blocks}
+use Rattle.autosense.proofs.Numbered.{flag-block}
+use Rattle.autosense.proofs.OlderReadings.{parts}
+use Rattle.autosense.proofs.Simulation.{last-same}
+
+-- ## Rows
+
+pub rows-say : RowsSay
+unfolding loadedWalk rowsOf
+rows-say image a k = (flag-block _ (blocksFor image a) k, flag-block _ (blocksFor image a) k)
+
+flags-length : (p : List ℕ → Bool) (bs : List (List ℕ)) → length bs ≤ 128 → length (flags p bs) ≡ rowLength
+unfolding flags
+flags-length p bs h =
+    omega (arith, length-append (map (λ s. one (p s)) bs) (replicate (128 - length bs) 0), length-map bs (λ s. one (p s)), length-replicate {A = ℕ} (128 - length bs) 0)
+
+pub flag-for-each : FlagForEach
+unfolding loadedWalk rowsOf acceptedAnswer
+flag-for-each image a e =
+    let b = parts image a e in
+    let few = few-blocks image a (b .0) (b .1) in
+    let short : length (blocksFor image a) ≤ 128 = omega (arith, few, cut-length (rowFor a) (countFor image a) (restFrom image (startFor image a))) in
+    (few, flags-length _ (blocksFor image a) short, flags-length _ (blocksFor image a) short)
+
+-- ## Numbers
+
+-- the blocks that p takes, one by one from the first
+numbers-cons : (p : List ℕ → Bool) (k : ℕ) (s : List ℕ) (bs : List (List ℕ)) → reverse (numbersFrom p k (s ∷ bs)) ≡ reverse (numbersFrom p (k + 1) bs) ++ pick (p s) (k ∷ []) []
+unfolding numbersFrom pick
+numbers-cons p k s bs = go (p s)
+  where
+    go : (t : Bool) → reverse (pick t (k ∷ numbersFrom p (k + 1) bs) (numbersFrom p (k + 1) bs)) ≡ reverse (numbersFrom p (k + 1) bs) ++ pick t (k ∷ []) []
+    go true = reverse-cons k (numbersFrom p (k + 1) bs)
+    go false = sym (append-nil (reverse (numbersFrom p (k + 1) bs)))
+
+-- the first that q takes, else d
+firstOr : (ℕ → Bool) → ℕ → List ℕ → ℕ
+firstOr q d [] = d
+firstOr q d (k ∷ ks) = pick (q k) k (firstOr q d ks)
+
+or-append : (q : ℕ → Bool) (d : ℕ) (xs bs : List ℕ) → firstOr q d (xs ++ bs) ≡ firstOr q (firstOr q d bs) xs
+unfolding firstOr
+or-append q d [] bs = refl
+or-append q d (x ∷ xs) bs = rw (or-append q d xs bs)
+
+or-none : (q : ℕ → Bool) (ks : List ℕ) → firstOr q none ks ≡ firstOf q ks
+unfolding firstOr firstOf
+or-none q [] = refl
+or-none q (k ∷ ks) = rw (or-none q ks)
+
+module _ (p : List ℕ → Bool) (q : ℕ → Bool) (whole : List (List ℕ)) where
+  taken : ℕ → Bool
+  taken j = blockIs p whole j && q j
+
+  one-number : (k d : ℕ) (t : Bool) → firstOr q d (pick t (k ∷ []) []) ≡ pick (t && q k) k d
+  unfolding firstOr pick
+  one-number k d true = refl
+  one-number k d false = refl
+
+  last-first : (k : ℕ) (bs : List (List ℕ)) → ((j : ℕ) → blockIs p whole (k + j) ≡ blockIs p bs j)
+      → firstOr q (lastBelow taken k) (reverse (numbersFrom p k bs)) ≡ lastBelow taken (k + length bs)
+  unfolding numbersFrom firstOr lastBelow taken blockIs
+  last-first k [] h = rw add-zero
+  last-first k (s ∷ bs) h =
+      let here : blockIs p whole k ≡ p s = ap (blockIs p whole) (sym (add-zero k)) ∙ h 0 in
+      let next : k + 1 ≡ suc k = omega arith in
+      let end : (k + 1) + length bs ≡ k + suc (length bs) = omega arith in
+      ap (firstOr q (lastBelow taken k)) (numbers-cons p k s bs)
+      ∙ or-append q (lastBelow taken k) (reverse (numbersFrom p (k + 1) bs)) (pick (p s) (k ∷ []) [])
+      ∙ ap (λ (d : ℕ). firstOr q d (reverse (numbersFrom p (k + 1) bs)))
+      (one-number k (lastBelow taken k) (p s) ∙ ap (λ (t : Bool). pick (t && q k) k (lastBelow taken k)) (sym here) ∙ ap (lastBelow taken) (sym next))
+      ∙ last-first (k + 1) bs (λ j. ap (blockIs p whole) (later j) ∙ h (suc j))
+      ∙ ap (lastBelow taken) end
+    where
+      later : (j : ℕ) → k + 1 + j ≡ k + suc j
+      later j = omega arith
+
+and-assoc : (x y z : Bool) → ((x && y) && z) ≡ (x && (y && z))
+and-assoc true y z = refl
+and-assoc false y z = refl
+
+pub first-in-order : FirstInOrder
+unfolding loadedWalk rowsOf acceptedAnswer firstUp isCandidate entryNumbers taken lastBelow
+first-in-order image a settled report =
+    let bs = blocksFor image a in
+    let p = isListed (rowFor a) (a .level) in
+    let i = isInvalid (rowFor a) (a .level) in
+    let q : ℕ → Bool = λ k. not (settled && blockIs i bs k) && isUp report k in
+    let all : countFor image a ≡ 0 + length bs = omega (arith, cut-length (rowFor a) (countFor image a) (restFrom image (startFor image a))) in
+    last-same _ (taken p q bs)
+    (λ k. rw (flag-block p bs k, flag-block i bs k) (and-assoc (blockIs p bs k) (not (settled && blockIs i bs k)) (isUp report k))) (countFor image a)
+    ∙ ap (lastBelow (taken p q bs)) all
+    ∙ sym (last-first p q bs 0 bs (λ j. ap (blockIs p bs) (zero-add j)))
+    ∙ or-none q (reverse (numbersFrom p 0 bs))
+
+-- ## The table's entries
+
+map-reverse : (f : ℕ → Place) (ks : List ℕ) → map f (reverse ks) ≡ reverse (map f ks)
+map-reverse f [] = refl
+map-reverse f (k ∷ ks) =
+    ap (map f) (reverse-cons k ks) ∙ map-append f (reverse ks) (k ∷ []) ∙ ap (λ (t : List Place). t ++ f k ∷ []) (map-reverse f ks) ∙ sym (reverse-cons (f k) (map f ks))
+
+keep-numbers : (p : List ℕ → Bool) (row k at : ℕ) (bs : List (List ℕ)) (whole : List Place) (d : Place) → ((j : ℕ) → getD whole (k + j) d ≡ getD (placed row at bs) j d)
+    → keep (λ b. p (b .rest)) (placed row at bs) ≡ map (λ n. getD whole n d) (numbersFrom p k bs)
+unfolding keep placed numbersFrom pick
+keep-numbers p row k at [] whole d h = refl
+keep-numbers p row k at (s ∷ bs) whole d h =
+    go (p s) (ap (λ (n : ℕ). getD whole n d) (sym (add-zero k)) ∙ h 0)
+    (keep-numbers p row (k + 1) (at + sizeOf row s) bs whole d (λ j. ap (λ (n : ℕ). getD whole n d) (later j) ∙ h (suc j)))
+  where
+    later : (j : ℕ) → k + 1 + j ≡ k + suc j
+    later j = omega arith
+
+    go : (t : Bool) → getD whole k d ≡ record { start = at; rest = s } → keep (λ b. p (b .rest)) (placed row (at + sizeOf row s) bs) ≡ map (λ n. getD whole n d) (numbersFrom p (k + 1) bs)
+        → pick t (record { start = at; rest = s } ∷ keep (λ b. p (b .rest)) (placed row (at + sizeOf row s) bs)) (keep (λ b. p (b .rest)) (placed row (at + sizeOf row s) bs))
+        ≡ map (λ n. getD whole n d) (pick t (k ∷ numbersFrom p (k + 1) bs) (numbersFrom p (k + 1) bs))
+    go true e ih = rw (e, ih)
+    go false e ih = ih
+
+pub table-numbers : TableNumbers
+unfolding tableOf table entryNumbers
+table-numbers image a =
+    let bs = blocksFor image a in
+    let whole = placed (rowFor a) (startFor image a) bs in
+    let p = isListed (rowFor a) (a .level) in
+    ap reverse (keep-numbers p (rowFor a) 0 (startFor image a) bs whole _ (λ j. ap (λ (n : ℕ). getD whole n _) (zero-add j)))
+    ∙ sym (map-reverse _ (numbersFrom p 0 bs))

@@ -1,0 +1,44 @@
+-- The reader's answer decides, and an accepted leaf has at most 91 blocks, which the rows hold. Assumes nothing.
+use Rattle.reader.proofs.Readings.{accepted-judged, reading-start, reading-end, reading-blocks}
+use Rattle.autosense.proofs.Loads.{reading-few-blocks, load-loaded, load-refused, load-done}
+use borrow.Author.Needs.{needs}
+use Rattle.autosense.proofs.load.Statement.{statement}
+use Rattle.autosense.proofs.load.Tie as tie
+
+returns : tie.Need-returns
+returns c = load-loaded _ _ _ (c .if1 .taken)
+
+assess-requires : tie.Need-assess-requires
+assess-requires c κs = search needs
+
+returns-2 : tie.Need-returns-2
+returns-2 c = load-refused _ _ _ (c .before .before .before .if1 .left) (c .before .before .assess .result) (c .before .before .assess .ensures) (c .if2 .taken)
+
+sub-rows-of : tie.Need-sub-rows-of
+sub-rows-of c = reading-start (accepted-judged (c .before .before .before .before .before .args .image .now) (c .before .before .before .before .before .args .arguments) (c .before .before .assess .result) (c .before .before .assess .ensures) (c .if2 .left))
+
+part-rows-of-start : tie.Need-part-rows-of-start
+part-rows-of-start c = reading-start (accepted-judged (c .before .before .before .before .before .args .image .now) (c .before .before .before .before .before .args .arguments) (c .before .before .assess .result) (c .before .before .assess .ensures) (c .if2 .left))
+
+part-rows-of-end : tie.Need-part-rows-of-end
+part-rows-of-end c = reading-end (accepted-judged (c .before .before .before .before .before .args .image .now) (c .before .before .before .before .before .args .arguments) (c .before .before .assess .result) (c .before .before .assess .ensures) (c .if2 .left))
+
+rows-of-requires : tie.Need-rows-of-requires
+rows-of-requires c κs = let k = accepted-judged (c .before .before .before .before .before .before .args .image .now) (c .before .before .before .before .before .before .args .arguments) (c .before .before .before .assess .result) (c .before .before .before .assess .ensures) (c .before .if2 .left) in
+    (reading-blocks k, reading-few-blocks k)
+
+returns-3 : tie.Need-returns-3
+returns-3 c = load-done _ _ _ (c .before .before .before .before .before .before .before .if1 .left) (c .before .before .before .before .before .before .assess .result) (c .before .before .before .before .before .before .assess .ensures) (c .before .before .before .before .if2 .left) (c .before .before .rows-of .result) (c .before .before .rows-of .ensures)
+
+pub load-spec : {M : Type 1} → statement M
+load-spec =
+    tie.close
+    (tie.spec
+    returns
+    assess-requires
+    returns-2
+    sub-rows-of
+    part-rows-of-start
+    part-rows-of-end
+    rows-of-requires
+    returns-3)

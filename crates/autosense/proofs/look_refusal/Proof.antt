@@ -1,0 +1,47 @@
+-- The causes in their order, each as its test found it. Assumes nothing.
+use mathlib.Core.Path.{ap, sym, _∙_}
+use mathlib.Core.Bool.{not}
+use borrow.Author.Tests.{eq-eqb, ne-eqb}
+use Rattle.rom.proofs.Reached.{reached, stop, skip, end}
+use Rattle.autosense.specs.Walk.{lookCauses}
+use borrow.Author.Needs.{needs}
+use Rattle.autosense.proofs.look_refusal.Statement.{statement}
+use Rattle.autosense.proofs.look_refusal.Tie as tie
+
+returns : tie.Need-returns
+unfolding lookCauses
+returns c = reached (stop (c .if1 .taken))
+
+is-served-requires : tie.Need-is-served-requires
+is-served-requires c κs = search needs
+
+returns-2 : tie.Need-returns-2
+unfolding lookCauses
+returns-2 c = reached (skip (c .before .before .if1 .left) (stop (ap not (sym (c .before .is-served .ensures)) ∙ c .if2 .taken)))
+
+returns-3 : tie.Need-returns-3
+unfolding lookCauses
+returns-3 c = reached (skip (c .before .before .before .before .if1 .left) (skip (ap not (sym (c .before .before .before .is-served .ensures)) ∙ c .before .before .if2 .left) (stop (eq-eqb _ _ (c .if3 .taken)))))
+
+bad-report-requires : tie.Need-bad-report-requires
+bad-report-requires c κs = search needs
+
+returns-4 : tie.Need-returns-4
+unfolding lookCauses
+returns-4 c = reached (skip (c .before .before .before .before .before .before .if1 .left) (skip (ap not (sym (c .before .before .before .before .before .is-served .ensures)) ∙ c .before .before .before .before .if2 .left) (skip (ne-eqb _ _ (c .before .before .if3 .left)) (stop (sym (c .before .bad-report .ensures) ∙ c .if4 .taken)))))
+
+returns-5 : tie.Need-returns-5
+unfolding lookCauses
+returns-5 c = reached (skip (c .before .before .before .before .before .before .if1 .left) (skip (ap not (sym (c .before .before .before .before .before .is-served .ensures)) ∙ c .before .before .before .before .if2 .left) (skip (ne-eqb _ _ (c .before .before .if3 .left)) (skip (sym (c .before .bad-report .ensures) ∙ c .if4 .left) end))))
+
+pub look-refusal-spec : {M : Type 1} → statement M
+look-refusal-spec =
+    tie.close
+    (tie.spec
+    returns
+    is-served-requires
+    returns-2
+    returns-3
+    bad-report-requires
+    returns-4
+    returns-5)

@@ -1,0 +1,92 @@
+-- Each turn stores one block's flags, and those of the blocks that are left complete the rows. Assumes nothing.
+use borrow.Author.Needs.{needs}
+use Prim.Native.Nat.{_-_, _≤_}
+use native.Mathlib.Omega.{arith}
+use native.Mathlib.Nat.{le-refl}
+use mathlib.Core.Path.{refl}
+use Rattle.reader.specs.Leaf.{cut}
+use Rattle.reader.proofs.Cuts.{next-fits}
+use Rattle.autosense.proofs.Flags.{Filled, rows-start, rows-more, rows-done}
+use Rattle.autosense.proofs.rows_of.Statement.{statement}
+use Rattle.autosense.proofs.rows_of.Tie as tie
+
+abbrev Inv-loop : tie.InvT-loop
+Inv-loop blocks count row level listed₀ active-invalid₀ rest₀ k₀ listed active-invalid rest k = Filled row level (cut row count blocks) (cut row (count - k) rest) k listed active-invalid × (k ≤ count)
+
+abbrev μ-loop : tie.MeasureT-loop
+μ-loop blocks count row level listed₀ active-invalid₀ rest₀ k₀ listed active-invalid rest k = count - k
+
+no-flags-requires : tie.Need-no-flags-requires Inv-loop μ-loop
+no-flags-requires c κs = search needs
+
+no-flags-requires-2 : tie.Need-no-flags-requires-2 Inv-loop μ-loop
+no-flags-requires-2 c κs = search needs
+
+loop-holds : tie.Need-loop-holds Inv-loop μ-loop
+loop-holds c = (rows-start _ _ _ _ (c .before .before .before .pre .0) (c .before .no-flags .ensures) (c .no-flags2 .ensures), search needs)
+
+judge-block-requires : tie.Need-judge-block-requires Inv-loop μ-loop
+judge-block-requires c κs = search needs
+
+cast-i : tie.Need-cast-i Inv-loop μ-loop
+cast-i c = omega arith
+
+listed-flag-requires : tie.Need-listed-flag-requires Inv-loop μ-loop
+listed-flag-requires c κs = search needs
+
+array-write-listed : tie.Need-array-write-listed Inv-loop μ-loop
+array-write-listed c = omega arith
+
+invalid-flag-requires : tie.Need-invalid-flag-requires Inv-loop μ-loop
+invalid-flag-requires c κs = search needs
+
+array-write-active-invalid : tie.Need-array-write-active-invalid Inv-loop μ-loop
+array-write-active-invalid c = omega arith
+
+size-of-requires : tie.Need-size-of-requires Inv-loop μ-loop
+size-of-requires c κs = search needs
+
+sub-rest : tie.Need-sub-rest Inv-loop μ-loop
+sub-rest c = next-fits _ _ _ _ (c .before .before .before .before .before .loop .inv .0 .accepted) (c .before .before .before .before .loop-test .taken) (c .before .before .before .judge-block .ensures) (c .size-of .ensures)
+
+part-rest-start : tie.Need-part-rest-start Inv-loop μ-loop
+part-rest-start c = next-fits _ _ _ _ (c .before .before .before .before .before .loop .inv .0 .accepted) (c .before .before .before .before .loop-test .taken) (c .before .before .before .judge-block .ensures) (c .size-of .ensures)
+
+part-rest-end : tie.Need-part-rest-end Inv-loop μ-loop
+part-rest-end c = le-refl _
+
+add-k : tie.Need-add-k Inv-loop μ-loop
+add-k c = search needs
+
+loop-less : tie.Need-loop-less Inv-loop μ-loop
+loop-less c = search needs
+
+loop-again : tie.Need-loop-again Inv-loop μ-loop
+loop-again c = (rows-more _ _ _ _ (c .before .before .before .before .before .before .loop .inv .0) (c .before .before .before .before .before .loop-test .taken) (c .before .before .before .before .judge-block .ensures) (c .before .before .before .listed-flag .ensures) (c .before .before .invalid-flag .ensures) (c .before .size-of .ensures), search needs)
+
+returns : tie.Need-returns Inv-loop μ-loop
+returns c = rows-done _ _ _ _ (c .before .loop .inv .0) (c .before .before .before .before .before .args .blocks .now) refl (c .before .before .before .before .before .pre .1) (c .loop-test .left)
+
+pub rows-of-spec : {M : Type 1} → statement M
+rows-of-spec =
+    tie.close
+    (tie.spec
+    Inv-loop
+    μ-loop
+    no-flags-requires
+    no-flags-requires-2
+    loop-holds
+    judge-block-requires
+    cast-i
+    listed-flag-requires
+    array-write-listed
+    invalid-flag-requires
+    array-write-active-invalid
+    size-of-requires
+    sub-rest
+    part-rest-start
+    part-rest-end
+    add-k
+    loop-less
+    loop-again
+    returns)

@@ -1,0 +1,7 @@
+pub mod Walk
+pub mod Calls
+pub mod Claims
+pub mod Written
+pub mod OlderReader
+pub mod Conditions
+pub mod Cases

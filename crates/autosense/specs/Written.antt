@@ -1,0 +1,41 @@
+-- The table as a reading leaves it at the front of the two lent arrays: entries of a kind and a start.
+use Prim.Native.Nat.{ℕ, _≤_}
+use mathlib.Core.List.{List, [], _∷_}
+use mathlib.Core.Bool.{Bool}
+use lib.ListN.{length, take}
+use Rattle.rom.specs.Bytes.{pick}
+use Rattle.reader.specs.declared.Arguments.{Arguments}
+use Rattle.reader.specs.declared.Answer.{Answer}
+use Rattle.reader.specs.Reading.{countFor, readAnswer, readKinds, readOffsets}
+
+pub record Arrays : Type 0 where
+  pub kinds : List ℕ
+  pub offsets : List ℕ
+
+-- arrays no shorter than the block count
+abbrev pub Room : List ℕ → Arguments → Arrays → Type 0
+Room image a arrays = (countFor image a ≤ length (arrays .kinds)) × (countFor image a ≤ length (arrays .offsets))
+
+unfoldable pub answerOf : List ℕ → Arguments → Arrays → Answer
+answerOf image a arrays = readAnswer image a (length (arrays .kinds)) (length (arrays .offsets))
+
+-- a start is an entry's byte offset
+pub record Entry : Type 0 where
+  pub kind : ℕ
+  pub start : ℕ
+
+unfoldable pub entries : List ℕ → List ℕ → List Entry
+entries [] starts = []
+entries (k ∷ kinds) [] = []
+entries (k ∷ kinds) (s ∷ starts) = record { kind = k; start = s } ∷ entries kinds starts
+
+-- as many as are listed, from the front of what `read` writes
+unfoldable pub tableIn : List ℕ → Arguments → Arrays → List Entry
+tableIn image a arrays =
+    let listed = answerOf image a arrays .listed in
+    entries (take listed (readKinds image a (arrays .kinds) (arrays .offsets))) (take listed (readOffsets image a (arrays .kinds) (arrays .offsets)))
+
+-- the entries that p takes, in their order
+unfoldable pub those : (Entry → Bool) → List Entry → List Entry
+those p [] = []
+those p (e ∷ es) = pick (p e) (e ∷ those p es) (those p es)

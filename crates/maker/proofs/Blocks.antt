@@ -1,0 +1,88 @@
+-- An accepted block's size and body, and the entries of accepted blocks one by one. Assumes nothing.
+use Prim.Native.Nat.{ℕ, zero, suc, _+_, _-_, _%_, _≤_, _<_}
+use native.Mathlib.Omega.{arith}
+use native.Mathlib.Nat.{zero-add, suc-add}
+use mathlib.Core.Path.{_≡_, refl, sym, ap, _∙_}
+use mathlib.Core.Bool.{Bool, true, false, _&&_, _||_, not}
+use mathlib.Core.List.{List, [], _∷_, map}
+use lib.ListN.{length, take, drop, length-drop}
+use lib.Seq.{length-take-le, take-nil}
+use lib.Dec.{eqb, leb, lit<}
+use borrow.Author.Tests.{eqb-false}
+use Rattle.rom.specs.Bytes.{pick, byteAt, bit}
+use Rattle.rom.proofs.First.{none-here}
+use Rattle.block.specs.Format.{newestLevel}
+use Rattle.block.specs.Block.{is21041, isExtended, lengthOf, siaSize, sizeOf, causes, refusalOf}
+use Rattle.block.proofs.Seen.{fits}
+use Rattle.reader.proofs.Cuts.{cut-more, cut-none, first-accepted}
+use Rattle.sheet.specs.Image.{openingLength, bodyOf, entryOf}
+use Rattle.maker.specs.Code.{AcceptedBlocks, entriesOf}
+
+-- ## An accepted block
+
+-- an extended block's length counts its type, and has seven bits
+unfoldable shapes : ℕ → List ℕ → Type 0
+shapes row s = (openingLength row s ≤ sizeOf row s) × (sizeOf row s - openingLength row s ≤ 126)
+
+shape-of : (row : ℕ) (s : List ℕ) → (isExtended row s && eqb (lengthOf s) 0) ≡ false → shapes row s
+unfolding shapes openingLength sizeOf isExtended siaSize pick lengthOf
+shape-of row s = go (is21041 row) (bit 6 (byteAt s 0)) (leb 128 (byteAt s 0))
+  where
+    go : (t u v : Bool) → ((not t && v) && eqb (byteAt s 0 % 128) 0) ≡ false
+        → (pick (not t && v) 2 0 ≤ pick t (pick u 7 1) (pick (not t && v) (1 + byteAt s 0 % 128) 4))
+        × (pick t (pick u 7 1) (pick (not t && v) (1 + byteAt s 0 % 128) 4) - pick (not t && v) 2 0 ≤ 126)
+    go true true v e = (omega arith, omega arith)
+    go true false v e = (omega arith, omega arith)
+    go false u true e = let n = eqb-false (byteAt s 0 % 128) 0 e in (omega (arith, n), omega arith)
+    go false u false e = (omega arith, omega arith)
+
+first-of : (p q : Bool) → (p || q) ≡ false → p ≡ false
+first-of false q e = refl
+first-of true q e = e
+
+pub record Whole (row : ℕ) (s : List ℕ) : Type 0 where
+  pub inside : sizeOf row s ≤ length s
+  pub opens : openingLength row s ≤ sizeOf row s
+  pub small : sizeOf row s - openingLength row s ≤ 126
+  pub body : take (sizeOf row s - openingLength row s) (drop (openingLength row s) s) ≡ bodyOf row s
+  pub long : length (bodyOf row s) ≡ sizeOf row s - openingLength row s
+
+drop-take : (n m : ℕ) (s : List ℕ) → drop n (take (n + m) s) ≡ take m (drop n s)
+drop-take zero m s = rw zero-add refl
+drop-take (suc n) m [] = rw suc-add (sym (take-nil m))
+drop-take (suc n) m (x ∷ s) = rw suc-add (drop-take n m s)
+
+some-length : (row : ℕ) (s : List ℕ) → refusalOf row newestLevel s ≡ 0 → (isExtended row s && eqb (lengthOf s) 0) ≡ false
+unfolding refusalOf causes
+some-length row s e = first-of (isExtended row s && eqb (lengthOf s) 0) _ (none-here _ _ (lit< tt) (none-here _ _ (lit< tt) e .1) .0)
+
+pub whole : (row : ℕ) (s : List ℕ) → refusalOf row newestLevel s ≡ 0 → Whole row s
+unfolding shapes bodyOf
+whole row s e =
+    let f = fits row newestLevel s e in
+    let o = shape-of row s (some-length row s e) in
+    let n : openingLength row s + (sizeOf row s - openingLength row s) ≡ sizeOf row s = omega (arith, o .0) in
+    record {
+      inside = f;
+      opens = o .0;
+      small = o .1;
+      body = sym (drop-take (openingLength row s) (sizeOf row s - openingLength row s) s) ∙ ap (λ (k : ℕ). drop (openingLength row s) (take k s)) n;
+      long = length-drop (openingLength row s) (take (sizeOf row s) s) ∙ ap (λ (k : ℕ). k - openingLength row s) (length-take-le (sizeOf row s) s f);
+    }
+
+-- ## The blocks that are left, k of `count` being passed
+
+module _ (row : ℕ) (s : List ℕ) {count k : ℕ} where
+  pub next-block : AcceptedBlocks row (count - k) s → k < count → Whole row s
+  next-block e h = whole row s (first-accepted row newestLevel s _ (rw cut-more at e) .0)
+
+  pub next-left : AcceptedBlocks row (count - k) s → k < count → AcceptedBlocks row (count - (k + 1)) (drop (sizeOf row s) s)
+  next-left e h = first-accepted row newestLevel s _ (rw cut-more at e) .1
+
+  pub entries-more : k < count → entriesOf row (count - k) s ≡ entryOf row s ∷ entriesOf row (count - (k + 1)) (drop (sizeOf row s) s)
+  unfolding entriesOf
+  entries-more h = ap (map (entryOf row)) (cut-more row count k s h)
+
+  pub entries-none : count ≤ k → entriesOf row (count - k) s ≡ []
+  unfolding entriesOf
+  entries-none h = ap (map (entryOf row)) (cut-none row count k s h)

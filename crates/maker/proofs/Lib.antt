@@ -1,0 +1,7 @@
+pub mod Put
+pub mod Blocks
+pub mod Measuring
+pub mod Filling
+pub mod Zeros
+pub mod Sheets
+pub mod Making

@@ -1,0 +1,200 @@
+-- What is laid in one behind the other, and that it is the sheet. Assumes nothing.
+use Prim.Native.Nat.{ℕ, zero, suc, _+_, _*_, _-_, _≤_}
+use native.Mathlib.Omega.{arith}
+use mathlib.Core.Path.{_≡_, refl, sym, ap, ap₂, _∙_}
+use mathlib.Core.List.{List, [], _∷_, _++_, append-assoc}
+use lib.ListN.{length, take, drop, length-append, length-drop}
+use lib.Seq.{length-take-le, take-suc, drop-cons, getD-drop}
+use Rattle.rom.specs.Geometry.{imageLength, leavesEnd, addressAt}
+use Rattle.rom.specs.Bytes.{byteAt}
+use Rattle.block.specs.Block.{sizeOf}
+use Rattle.reader.specs.declared.Answer.{Answer}
+use Rattle.reader.specs.declared.Reading.{Reading}
+use Rattle.reader.specs.Image.{restFrom}
+use Rattle.reader.specs.Leaf.{cut}
+use Rattle.reader.specs.Reading.{acceptedAnswer, acceptedReading}
+use Rattle.reader.proofs.Readings.{Accepted, restOf, whole-image}
+use Rattle.sheet.specs.Lists.{wordBytes}
+use Rattle.sheet.specs.Layout.{chipAt, headLength}
+use Rattle.sheet.specs.Record.{Entry}
+use Rattle.sheet.specs.Sheet.{headOf, kindBytes, sizeBytes, bodyBytes, partsOf, sheetOf}
+use Rattle.sheet.specs.Image.{newest, imageFrom}
+use Rattle.sheet.specs.Make.{sheetFor}
+use Rattle.maker.specs.Code.{put, entriesOf, frontBytes, fieldBytes}
+use Rattle.maker.proofs.Put.{put-length, joined}
+
+-- ## Three parts
+
+module _ (sheet : List ℕ) (at : ℕ) (a b c : List ℕ) (room : at + length (a ++ (b ++ c)) ≤ length sheet) where
+  long : length (a ++ (b ++ c)) ≡ length a + (length b + length c)
+  long = length-append a (b ++ c) ∙ ap (λ (n : ℕ). length a + n) (length-append b c)
+
+  pub first-room : at + length a ≤ length sheet
+  first-room = omega (arith, long)
+
+  module _ {one : List ℕ} {next : ℕ} (e₁ : one ≡ put sheet at a) (n₁ : next ≡ at + length a) where
+    same₁ : length one ≡ length sheet
+    same₁ = ap length e₁ ∙ put-length sheet at a first-room
+
+    pub second-room : next + length b ≤ length one
+    second-room = omega (arith, long, same₁, n₁)
+
+    module _ {two : List ℕ} {last : ℕ} (e₂ : two ≡ put one next b) (n₂ : last ≡ next + length b) where
+      same₂ : length two ≡ length one
+      same₂ = ap length e₂ ∙ put-length one next b second-room
+
+      pub third-room : last + length c ≤ length two
+      third-room = omega (arith, long, same₁, same₂, n₁, n₂)
+
+      pub three-put : {three : List ℕ} → three ≡ put two last c → three ≡ put sheet at (a ++ (b ++ c))
+      three-put e₃ = joined sheet at a (b ++ c) e₁ (joined one next b c e₂ e₃ n₂ second-room) n₁ first-room
+
+-- ## The head
+
+module _ (image : List ℕ) (whole : length image ≡ imageLength) where
+  id-long : length (take 16 image) ≡ 16
+  id-long = length-take-le 16 image (omega (arith, whole))
+
+  last-long : length (take 2 (drop 17 image)) ≡ 2
+  last-long = length-take-le 2 (drop 17 image) (omega (arith, whole, length-drop 17 image))
+
+  address-long : length (take 7 (drop addressAt image)) ≡ 7
+  address-long = length-take-le 7 (drop addressAt image) (omega (arith, whole, length-drop addressAt image))
+
+  maker-long : length (take 2 (drop leavesEnd image)) ≡ 2
+  maker-long = length-take-le 2 (drop leavesEnd image) (omega (arith, whole, length-drop leavesEnd image))
+
+  pub front-long : (count total : ℕ) → length (frontBytes count total image) ≡ 27
+  unfolding frontBytes
+  front-long count total = simp length-append (omega (arith, id-long, last-long, address-long))
+
+  pub field-long : (chip : ℕ) (answer : Answer) → length (fieldBytes chip answer image) ≡ 7
+  unfolding fieldBytes wordBytes
+  field-long chip answer = simp length-append (omega (arith, maker-long))
+
+  module _ (sheet : List ℕ) (room : headLength ≤ length sheet) where
+    pub front-put : (count total : ℕ) {one two three four five : List ℕ} → one ≡ put sheet 0 (count ∷ []) → two ≡ put one 1 (total ∷ []) → three ≡ put two 2 (take 16 image)
+        → four ≡ put three 18 (take 2 (drop 17 image)) → five ≡ put four 20 (take 7 (drop addressAt image)) → five ≡ put sheet 0 (frontBytes count total image)
+    unfolding frontBytes
+    front-put count total {one} {two} {three} {four} {five} e₁ e₂ e₃ e₄ e₅ =
+        let l₁ : length one ≡ length sheet = ap length e₁ ∙ put-length sheet 0 (count ∷ []) (omega (arith, room)) in
+        let l₂ : length two ≡ length one = ap length e₂ ∙ put-length one 1 (total ∷ []) (omega (arith, room)) in
+        let l₃ : length three ≡ length two = ap length e₃ ∙ put-length two 2 (take 16 image) (omega (arith, room, id-long)) in
+        joined sheet 0 (count ∷ []) _ e₁
+        (joined one 1 (total ∷ []) _ e₂
+        (joined two 2 (take 16 image) _ e₃
+        (joined three 18 (take 2 (drop 17 image)) _ e₄ e₅ (omega (arith, last-long)) (omega (arith, room, last-long)))
+        (omega (arith, id-long)) (omega (arith, room, id-long)))
+        refl (omega (arith, room)))
+        refl (omega (arith, room))
+
+    pub field-put : (chip : ℕ) (answer : Answer) {one two three four : List ℕ} → one ≡ put sheet 27 (wordBytes chip) → two ≡ put one 29 (wordBytes (answer .connection))
+        → three ≡ put two 31 (answer .control ∷ []) → four ≡ put three 32 (take 2 (drop leavesEnd image)) → four ≡ put sheet chipAt (fieldBytes chip answer image)
+    unfolding fieldBytes wordBytes
+    field-put chip answer {one} {two} {three} {four} e₁ e₂ e₃ e₄ =
+        let l₁ : length one ≡ length sheet = ap length e₁ ∙ put-length sheet 27 (wordBytes chip) (omega (arith, room)) in
+        let l₂ : length two ≡ length one = ap length e₂ ∙ put-length one 29 (wordBytes (answer .connection)) (omega (arith, room)) in
+        joined sheet 27 (wordBytes chip) _ e₁
+        (joined one 29 (wordBytes (answer .connection)) _ e₂
+        (joined two 31 (answer .control ∷ []) _ e₃ e₄ refl (omega (arith, room)))
+        refl (omega (arith, room)))
+        refl (omega (arith, room))
+
+  -- as the record has it
+  last-is : take 2 (drop 17 image) ≡ byteAt image 17 ∷ byteAt image 18 ∷ []
+  last-is = rw (drop-cons image 17 0 (omega (arith, whole)), drop-cons image 18 0 (omega (arith, whole)))
+
+  address-is : take 7 (drop addressAt image) ≡ take 6 (drop addressAt image) ++ (byteAt image 26 ∷ [])
+  address-is =
+      take-suc (drop addressAt image) 6 0 (omega (arith, whole, length-drop addressAt image))
+      ∙ ap (λ (x : ℕ). take 6 (drop addressAt image) ++ (x ∷ [])) (getD-drop addressAt image 6 0)
+
+  head-order : (count total : ℕ) (a : List ℕ) (x y : ℕ) (b : List ℕ) (z : ℕ) (c parts : List ℕ)
+      → (count ∷ total ∷ (a ++ (x ∷ y ∷ (b ++ (z ∷ []))))) ++ (c ++ parts) ≡ count ∷ total ∷ ((a ++ (x ∷ y ∷ (b ++ (z ∷ c)))) ++ parts)
+  head-order count total a x y b z c parts = simp append-assoc
+
+  pub head-is : (chip count total : ℕ) (answer : Answer) (parts : List ℕ) → answer .connection ≡ imageFrom chip image .connection → answer .control ≡ imageFrom chip image .control
+      → frontBytes count total image ++ (fieldBytes chip answer image ++ parts) ≡ count ∷ total ∷ (headOf (imageFrom chip image) ++ parts)
+  unfolding frontBytes fieldBytes headOf imageFrom wordBytes
+  head-is chip count total answer parts ec eo =
+      ap₂ (λ (l a : List ℕ). (count ∷ total ∷ (take 16 image ++ (l ++ a))) ++ (fieldBytes chip answer image ++ parts)) last-is address-is
+      ∙ ap₂ (λ (x y : ℕ). (count ∷ total ∷ (take 16 image ++ (byteAt image 17 ∷ byteAt image 18 ∷ (take 6 (drop addressAt image) ++ (byteAt image 26 ∷ []))))) ++ ((wordBytes chip ++ (wordBytes x ++ (y ∷ take 2 (drop leavesEnd image)))) ++ parts)) ec eo
+      ∙ head-order count total (take 16 image) _ _ (take 6 (drop addressAt image)) _ _ parts
+
+-- ## The parts
+
+pub entries-long : (row count : ℕ) (s : List ℕ) → length (entriesOf row count s) ≡ count
+unfolding entriesOf cut
+entries-long row zero s = refl
+entries-long row (suc count) s = ap suc (entries-long row count (drop (sizeOf row s) s))
+
+kinds-long : (es : List Entry) → length (kindBytes es) ≡ 2 * length es
+unfolding kindBytes wordBytes
+kinds-long [] = refl
+kinds-long (e ∷ es) = omega (arith, kinds-long es)
+
+sizes-long : (es : List Entry) → length (sizeBytes es) ≡ length es
+unfolding sizeBytes
+sizes-long [] = refl
+sizes-long (e ∷ es) = ap suc (sizes-long es)
+
+pub parts-long : (es : List Entry) → length (partsOf es) ≡ 3 * length es + length (bodyBytes es)
+unfolding partsOf
+parts-long es = simp length-append (omega (arith, kinds-long es, sizes-long es))
+
+module _ (sheet : List ℕ) (es : List Entry) (room : headLength + length (partsOf es) ≤ length sheet) where
+  pub kinds-room : headLength + length (kindBytes es) ≤ length sheet
+  unfolding partsOf
+  kinds-room = first-room sheet headLength (kindBytes es) (sizeBytes es) (bodyBytes es) room
+
+  module _ {one : List ℕ} {next : ℕ} (e₁ : one ≡ put sheet headLength (kindBytes es)) (n₁ : next ≡ headLength + length (kindBytes es)) where
+    pub sizes-room : next + length (sizeBytes es) ≤ length one
+    unfolding partsOf
+    sizes-room = second-room sheet headLength (kindBytes es) (sizeBytes es) (bodyBytes es) room e₁ n₁
+
+    module _ {two : List ℕ} {last : ℕ} (e₂ : two ≡ put one next (sizeBytes es)) (n₂ : last ≡ next + length (sizeBytes es)) where
+      pub bodies-room : last + length (bodyBytes es) ≤ length two
+      unfolding partsOf
+      bodies-room = third-room sheet headLength (kindBytes es) (sizeBytes es) (bodyBytes es) room e₁ n₁ e₂ n₂
+
+      pub parts-put : {three : List ℕ} → three ≡ put two last (bodyBytes es) → three ≡ put sheet headLength (partsOf es)
+      unfolding partsOf
+      parts-put e₃ = three-put sheet headLength (kindBytes es) (sizeBytes es) (bodyBytes es) room e₁ n₁ e₂ n₂ e₃
+
+-- ## The sheet of an image that is read
+
+module _ (chip : ℕ) {image : List ℕ} {r : Reading} (c : Accepted image (newest chip) r) where
+  pub read-whole : length image ≡ imageLength
+  read-whole = whole-image image (newest chip) (c .header)
+
+  pub read-entries : entriesOf (r .row) (r .answer .blocks) (restOf image r) ≡ imageFrom chip image .entries
+  unfolding entriesOf imageFrom acceptedReading acceptedAnswer restFrom newest
+  read-entries = rw (c .known)
+
+  pub read-sheet : (total : ℕ) → total ≡ length (bodyBytes (imageFrom chip image .entries))
+      → frontBytes (r .answer .blocks) total image ++ (fieldBytes chip (r .answer) image ++ partsOf (entriesOf (r .row) (r .answer .blocks) (restOf image r))) ≡ sheetFor image chip
+  unfolding sheetOf
+  read-sheet total et =
+      head-is image read-whole chip (r .answer .blocks) total (r .answer) _ connection control
+      ∙ ap₂ (λ (n : ℕ) (es : List Entry). n ∷ total ∷ (headOf (imageFrom chip image) ++ partsOf es)) count read-entries
+      ∙ ap (λ (n : ℕ). length (imageFrom chip image .entries) ∷ n ∷ (headOf (imageFrom chip image) ++ partsOf (imageFrom chip image .entries))) et
+    where
+      connection : r .answer .connection ≡ imageFrom chip image .connection
+      connection = unfold imageFrom acceptedReading acceptedAnswer newest in rw (c .known)
+
+      control : r .answer .control ≡ imageFrom chip image .control
+      control = unfold imageFrom acceptedReading acceptedAnswer newest in rw (c .known)
+
+      count : r .answer .blocks ≡ length (imageFrom chip image .entries)
+      count = sym (entries-long (r .row) (r .answer .blocks) (restOf image r)) ∙ ap length read-entries
+
+  pub read-long : length (sheetFor image chip) ≡ headLength + 3 * r .answer .blocks + length (bodyBytes (imageFrom chip image .entries))
+  read-long =
+      let es = entriesOf (r .row) (r .answer .blocks) (restOf image r) in
+      let t = length (bodyBytes (imageFrom chip image .entries)) in
+      let f = front-long image read-whole (r .answer .blocks) t in
+      let g = field-long image read-whole chip (r .answer) in
+      let p = parts-long (entriesOf (r .row) (r .answer .blocks) (restOf image r)) in
+      let b : length (bodyBytes (entriesOf (r .row) (r .answer .blocks) (restOf image r))) ≡ length (bodyBytes (imageFrom chip image .entries)) = ap (λ (l : List Entry). length (bodyBytes l)) read-entries in
+      let n = entries-long (r .row) (r .answer .blocks) (restOf image r) in
+      ap length (sym (read-sheet t refl)) ∙ simp length-append (omega (arith, f, g, p, b, n))

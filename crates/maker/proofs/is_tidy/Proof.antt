@@ -1,0 +1,50 @@
+-- One condition after another. Assumes nothing.
+use Rattle.maker.proofs.Making.{tidy-count, tidy-leaf, tidy-zeros}
+use borrow.Author.Needs.{needs}
+use Rattle.maker.proofs.is_tidy.Statement.{statement}
+use Rattle.maker.proofs.is_tidy.Tie as tie
+
+byte-at-requires : tie.Need-byte-at-requires
+byte-at-requires c κs = search needs
+
+returns : tie.Need-returns
+returns c = tidy-count _ _ (c .before .byte-at .ensures) (c .if1 .taken)
+
+word-at-requires : tie.Need-word-at-requires
+word-at-requires c κs = search needs
+
+cast-if2 : tie.Need-cast-if2
+cast-if2 c = search needs
+
+returns-2 : tie.Need-returns-2
+returns-2 c = tidy-leaf _ _ (c .before .before .before .byte-at .ensures) (c .before .before .if1 .left) (c .before .word-at .ensures) (c .if2 .taken)
+
+sub-all-zero : tie.Need-sub-all-zero
+sub-all-zero c = search needs
+
+part-all-zero-start : tie.Need-part-all-zero-start
+part-all-zero-start c = search needs
+
+part-all-zero-end : tie.Need-part-all-zero-end
+part-all-zero-end c = search needs
+
+all-zero-requires : tie.Need-all-zero-requires
+all-zero-requires c κs = search needs
+
+returns-3 : tie.Need-returns-3
+returns-3 c = tidy-zeros _ _ (c .before .before .before .before .before .byte-at .ensures) (c .before .before .before .before .if1 .left) (c .before .before .before .word-at .ensures) (c .before .before .if2 .left) (c .all-zero .ensures)
+
+pub is-tidy-spec : {M : Type 1} → statement M
+is-tidy-spec =
+    tie.close
+    (tie.spec
+    byte-at-requires
+    returns
+    word-at-requires
+    cast-if2
+    returns-2
+    sub-all-zero
+    part-all-zero-start
+    part-all-zero-end
+    all-zero-requires
+    returns-3)

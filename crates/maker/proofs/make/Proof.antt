@@ -1,0 +1,117 @@
+-- The reading, the measured leaf, tidiness and room decide before the first store. Assumes nothing.
+use native.Mathlib.Omega.{arith}
+use mathlib.Core.Path.{refl}
+use borrow.Author.Tests.{not-true, not-false}
+use Rattle.sheet.specs.Image.{newest}
+use Rattle.reader.proofs.Readings.{reading-start, reading-end}
+use Rattle.maker.proofs.Making.{refused-done, make-refused, is-read, blocks-read, end-fits, make-untidy, make-short, make-room, make-done}
+use borrow.Author.Needs.{needs}
+use Rattle.maker.proofs.make.Statement.{statement}
+use Rattle.maker.proofs.make.Tie as tie
+
+assess-requires : tie.Need-assess-requires
+assess-requires c κs = search needs
+
+refused-requires : tie.Need-refused-requires
+refused-requires c κs = search needs
+
+returns : tie.Need-returns
+unfolding newest
+returns c = refused-done _ _ _ (c .refused .ensures) (c .before .if1 .taken) (make-refused _ _ _ (c .before .before .before .before .assess .ensures) _ (c .before .if1 .taken))
+
+sub-measure : tie.Need-sub-measure
+unfolding newest
+sub-measure c = reading-start (is-read _ _ _ (c .before .before .before .assess .ensures) (c .if1 .left))
+
+part-measure-start : tie.Need-part-measure-start
+unfolding newest
+part-measure-start c = sub-measure c
+
+part-measure-end : tie.Need-part-measure-end
+unfolding newest
+part-measure-end c = reading-end (is-read _ _ _ (c .before .before .before .assess .ensures) (c .if1 .left))
+
+measure-requires : tie.Need-measure-requires
+unfolding newest
+measure-requires c κs = blocks-read _ _ _ (c .before .before .before .before .assess .ensures) (c .before .if1 .left)
+
+add-is-tidy : tie.Need-add-is-tidy
+add-is-tidy c = search needs
+
+is-tidy-requires : tie.Need-is-tidy-requires
+unfolding newest
+is-tidy-requires c κs = end-fits _ _ _ (c .before .before .before .before .before .before .assess .ensures) (c .before .before .before .if1 .left) _ (c .before .measure .ensures .0) (c .before .measure .ensures .1 .0)
+
+refused-requires-2 : tie.Need-refused-requires-2
+refused-requires-2 c κs = search needs
+
+returns-2 : tie.Need-returns-2
+unfolding newest
+returns-2 c = let r = c .before .before .before .before .before .before .before .before .before .assess in
+    let m = c .before .before .before .before .measure in
+    refused-done _ _ _ (c .refused2 .ensures) (λ e. omega arith) (make-untidy _ _ _ (r .ensures) (c .before .before .before .before .before .before .if1 .left) _ (m .ensures .0) _ (c .before .before .is-tidy .ensures) (not-true _ (c .before .if2 .taken)))
+
+cast-length : tie.Need-cast-length
+cast-length c = search needs
+
+mul-length : tie.Need-mul-length
+mul-length c = search needs
+
+add-length : tie.Need-add-length
+add-length c = search needs
+
+add-length-2 : tie.Need-add-length-2
+add-length-2 c = search needs
+
+refused-requires-3 : tie.Need-refused-requires-3
+refused-requires-3 c κs = search needs
+
+returns-3 : tie.Need-returns-3
+unfolding newest
+returns-3 c = let r = c .before .before .before .before .before .before .before .before .before .before .before .before .assess in
+    let m = c .before .before .before .before .before .before .before .measure in
+    refused-done _ _ _ (c .refused3 .ensures) (λ e. omega arith) (make-short _ _ _ (r .ensures) (c .before .before .before .before .before .before .before .before .before .if1 .left) _ (m .ensures .0) _ (c .before .before .before .before .before .is-tidy .ensures) (not-false _ (c .before .before .before .before .if2 .left)) (c .before .if3 .taken))
+
+cast-put-sheet : tie.Need-cast-put-sheet
+cast-put-sheet c = search needs
+
+put-sheet-requires : tie.Need-put-sheet-requires
+unfolding newest
+put-sheet-requires c κs = let r = c .before .before .before .before .before .before .before .before .before .before .before .before .before .assess in
+    let m = c .before .before .before .before .before .before .before .before .measure in
+    make-room _ _ _ (r .ensures) (c .before .before .before .before .before .before .before .before .before .before .if1 .left) _ (m .ensures .0) _ (c .before .before .before .before .before .before .is-tidy .ensures) (not-false _ (c .before .before .before .before .before .if2 .left)) (c .before .before .if3 .left) _ refl
+
+same-length : tie.Need-same-length
+same-length c = search needs
+
+returns-4 : tie.Need-returns-4
+unfolding newest
+returns-4 c = let r = c .before .before .before .before .before .before .before .before .before .before .before .before .before .before .before .before .assess in
+    let m = c .before .before .before .before .before .before .before .before .before .before .before .measure in
+    make-done _ _ _ (r .ensures) (c .before .before .before .before .before .before .before .before .before .before .before .before .before .if1 .left) _ (m .ensures .0) _ (c .before .before .before .before .before .before .before .before .before .is-tidy .ensures) (not-false _ (c .before .before .before .before .before .before .before .before .if2 .left)) (c .before .before .before .before .before .if3 .left) _ refl (c .before .before .put-sheet .ensures)
+
+pub make-spec : {M : Type 1} → statement M
+make-spec =
+    tie.close
+    (tie.spec
+    assess-requires
+    refused-requires
+    returns
+    sub-measure
+    part-measure-start
+    part-measure-end
+    measure-requires
+    add-is-tidy
+    is-tidy-requires
+    refused-requires-2
+    returns-2
+    cast-length
+    mul-length
+    add-length
+    add-length-2
+    refused-requires-3
+    returns-3
+    cast-put-sheet
+    put-sheet-requires
+    same-length
+    returns-4)

@@ -1,0 +1,156 @@
+// The sheet maker: the sheet of a tidy image (document 01, 'The sheet').
+mod parts;
+mod stores;
+
+use reader::Answer;
+use reader::Arguments;
+use reader::Reading;
+use rom::ByteOffset;
+use rom::refusal;
+use stores::put_byte;
+use stores::put_bytes;
+use stores::put_word;
+ghost use mathlib.Core.Path.{_≡_};
+ghost use Prim.Native.Nat.{_+_, _≤_};
+ghost use lib.ListN.{length};
+ghost use Rattle.rom.specs.Geometry.{imageLength, leavesEnd};
+ghost use Rattle.sheet.specs.Lists.{allZero};
+ghost use Rattle.sheet.specs.Layout.{chipAt, headLength};
+ghost use Rattle.sheet.specs.Make.{sheetFor, made};
+ghost use Rattle.maker.specs.Answer.{madeFor, refusedMade};
+ghost use Rattle.maker.specs.Code.{put, frontBytes, fieldBytes, isTidyFrom, Sheetable};
+
+// The sheet's length, or a refusal's number and 0.
+#[repr(C)]
+pub struct Made {
+    pub number: u8,
+    pub length: usize,
+}
+
+// ID byte 17, behind the ID CRC; the version follows it.
+const LAST_ID_BYTE: usize = 17;
+
+// The first controller's leaf offset, behind its device number.
+const LEAF_OFFSET_AT: usize = 27;
+
+fn refused(number: u8) -> Made
+    ensures { λ r. ⌜ r ≡ refusedMade number ⌝ }
+{
+    Made { number, length: 0 }
+}
+
+fn all_zero(bytes: &[u8]) -> bool
+    ensures { λ r. ⌜ r ≡ allZero (now (bytes .entry)) ⌝ }
+{
+    let mut i = 0;
+    while i < bytes.len() {
+        if bytes[i] != 0 {
+            return false;
+        }
+        i += 1;
+    }
+    true
+}
+
+// Whether an image has one controller, its leaf at 30, and zeros from the leaf's end up to 123.
+fn is_tidy(image: &[u8], end: usize) -> bool
+    requires { ⌜ (length (now image) ≡ imageLength) × (end ≤ leavesEnd) ⌝ }
+    ensures { λ r. ⌜ r ≡ isTidyFrom end (now (image .entry)) ⌝ }
+{
+    let controllers = rom::byte_at(image, ByteOffset(rom::CONTROLLER_COUNT_AT));
+    if controllers != 1 {
+        return false;
+    }
+    let leaf = rom::word_at(image, ByteOffset(LEAF_OFFSET_AT));
+    if (leaf as usize) != sheet::LEAF_START {
+        return false;
+    }
+    all_zero(&image[end..rom::LEAVES_END])
+}
+
+// Bytes 0 to 26: the sizes, the ID bytes, the version, the address and the device number.
+fn put_front(sheet: &mut [u8], image: &[u8], count: u8, total: u8)
+    requires { ⌜ (length (now image) ≡ imageLength) × (headLength ≤ length (now sheet)) ⌝ }
+    ensures { λ _. ⌜ now (sheet .exit) ≡ put (now (sheet .entry)) 0 (frontBytes count total (now (image .entry))) ⌝ }
+{
+    put_byte(sheet, sheet::COUNT_AT, count);
+    put_byte(sheet, sheet::TOTAL_AT, total);
+    put_bytes(sheet, sheet::ID_AT, &image[0..rom::ID_CRC_AT]);
+    put_bytes(
+        sheet,
+        sheet::LAST_ID_AT,
+        &image[LAST_ID_BYTE..rom::CONTROLLER_COUNT_AT],
+    );
+    put_bytes(
+        sheet,
+        sheet::ADDRESS_AT,
+        &image[rom::ADDRESS_AT..LEAF_OFFSET_AT],
+    );
+}
+
+// Bytes 27 to 33: the chip, the connection type, the control byte and the maker's bytes.
+fn put_fields(sheet: &mut [u8], image: &[u8], chip: u16, answer: Answer)
+    requires { ⌜ (length (now image) ≡ imageLength) × (headLength ≤ length (now sheet)) ⌝ }
+    ensures { λ _. ⌜ now (sheet .exit) ≡ put (now (sheet .entry)) chipAt (fieldBytes chip answer (now (image .entry))) ⌝ }
+{
+    put_word(sheet, sheet::CHIP_AT, chip);
+    put_word(sheet, sheet::CONNECTION_AT, answer.connection);
+    put_byte(sheet, sheet::CONTROL_AT, answer.control);
+    put_bytes(
+        sheet,
+        sheet::MAKER_AT,
+        &image[rom::LEAVES_END..rom::CHECKED_LENGTH],
+    );
+}
+
+// The sheet of an image that is read, into a buffer that has room for it.
+fn put_sheet(sheet: &mut [u8], image: &[u8], chip: u16, reading: Reading, total: u8)
+    requires { ⌜ Sheetable (now sheet) (now image) chip reading total ⌝ }
+    ensures { λ _. ⌜ now (sheet .exit) ≡ put (now (sheet .entry)) 0 (sheetFor (now (image .entry)) chip) ⌝ }
+{
+    let answer = reading.answer;
+    put_front(sheet, image, answer.blocks, total);
+    put_fields(sheet, image, chip, answer);
+    let start = reading.start;
+    parts::put_parts(
+        sheet,
+        &image[start..rom::LEAVES_END],
+        answer.blocks,
+        reading.row,
+    );
+}
+
+// The sheet of a tidy image for a chip, for the newest level and controller 0. A refusal leaves the buffer as it was, and
+// so stay its bytes past the sheet.
+pub fn make(image: &[u8], chip: u16, buffer: &mut [u8]) -> Made
+    ensures { λ r. ⌜ r ≡ madeFor (now (image .entry)) chip (length (now (buffer .entry))) ⌝ }
+    ensures { λ r. ⌜ now (buffer .exit) ≡ made (now (image .entry)) chip (now (buffer .entry)) ⌝ }
+{
+    let reading = reader::assess(
+        image,
+        Arguments {
+            chip,
+            controller: 0,
+            level: block::NEWEST_LEVEL,
+        },
+    );
+    let answer = reading.answer;
+    if answer.number != refusal::ACCEPTED {
+        return refused(answer.number);
+    }
+    let start = reading.start;
+    let measured = parts::measure(&image[start..rom::LEAVES_END], answer.blocks, reading.row);
+    let tidy = is_tidy(image, start + measured.size);
+    if !tidy {
+        return refused(refusal::UNTIDY);
+    }
+    let length = sheet::HEAD_LENGTH + 3 * (answer.blocks as usize) + measured.bodies;
+    if buffer.len() < length {
+        return refused(refusal::ARRAY_LENGTH);
+    }
+    put_sheet(buffer, image, chip, reading, measured.bodies as u8);
+    Made {
+        number: refusal::ACCEPTED,
+        length,
+    }
+}

@@ -1,0 +1,33 @@
+-- Neither CRC covers its own bytes, and the ID CRC covers the front only. Assumes nothing.
+use Prim.Native.Nat.{ℕ, _≤_}
+use mathlib.Core.Path.{_≡_, refl, sym, ap, _∙_}
+use mathlib.Core.List.{List, _++_}
+use native.Mathlib.Omega.{arith}
+use lib.ListN.{length, take}
+use lib.Seq.{take-take, take-append-le}
+use Rattle.rom.specs.Geometry.{checkedLength}
+use Rattle.rom.specs.Bytes.{wordAt}
+use Rattle.crc.specs.Crc.{sromCrc, idCrc, idWords, word}
+use Rattle.sheet.specs.Record.{Plain}
+use Rattle.sheet.specs.Lists.{wordBytes}
+use Rattle.sheet.specs.Image.{frontWith}
+use Rattle.sheet.proofs.Basics.{spell}
+use Rattle.sheet.proofs.Sheets.{Sized, spelledOut, spelled-out}
+
+pub srom-covered : (s : List ℕ) → sromCrc (take checkedLength s) ≡ sromCrc s
+unfolding sromCrc
+srom-covered s = rw (take-take checkedLength checkedLength s (omega arith)) refl
+
+pub srom-front : (s r : List ℕ) → checkedLength ≤ length s → sromCrc (s ++ r) ≡ sromCrc s
+unfolding sromCrc
+srom-front s r h = rw (take-append-le checkedLength s r h) refl
+
+spelled-front : (p : Plain) (c : ℕ) (r : List ℕ) → idCrc (frontWith c (spelledOut p) ++ r) ≡ idCrc (frontWith 0 (spelledOut p))
+unfolding idCrc idWords word wordAt frontWith spelledOut spell wordBytes
+spelled-front p c r = refl
+
+-- whatever stands at byte 16 and behind the front
+pub id-front : (p : Plain) (c : ℕ) (r : List ℕ) → Sized p → idCrc (frontWith c p ++ r) ≡ idCrc (frontWith 0 p)
+id-front p c r z =
+    let e = spelled-out p z in
+    ap (λ (x : Plain). idCrc (frontWith c x ++ r)) e ∙ spelled-front p c r ∙ ap (λ (x : Plain). idCrc (frontWith 0 x)) (sym e)

@@ -1,0 +1,7 @@
+pub mod Basics
+pub mod Blocks
+pub mod Sheets
+pub mod Crcs
+pub mod Images
+pub mod Returns
+pub mod Cases

@@ -1,0 +1,43 @@
+-- Where things stand in a sheet (document 01, 'The sheet').
+use Prim.Native.Nat.{ℕ}
+
+-- sizes first: the block count N, the total T of body bytes
+abbrev pub countAt : ℕ
+countAt = 0
+
+abbrev pub totalAt : ℕ
+totalAt = 1
+
+-- ID bytes 0 to 15, then ID byte 17
+abbrev pub idAt : ℕ
+idAt = 2
+
+abbrev pub lastIdAt : ℕ
+lastIdAt = 18
+
+abbrev pub versionAt : ℕ
+versionAt = 19
+
+abbrev pub addressAt : ℕ
+addressAt = 20
+
+abbrev pub deviceAt : ℕ
+deviceAt = 26
+
+-- words: the decimal chip number, the connection type
+abbrev pub chipAt : ℕ
+chipAt = 27
+
+abbrev pub connectionAt : ℕ
+connectionAt = 29
+
+abbrev pub controlAt : ℕ
+controlAt = 31
+
+-- the maker's two bytes
+abbrev pub makerAt : ℕ
+makerAt = 32
+
+-- the two parallel arrays and the bodies stand behind these bytes
+abbrev pub headLength : ℕ
+headLength = 34

@@ -1,0 +1,67 @@
+-- The writer: why it refuses a sheet, and the image after its call (document 01, 'The sheet', 'Why a call is refused').
+use Prim.Native.Nat.{ℕ, _+_}
+use mathlib.Core.List.{List, [], _∷_, _++_}
+use mathlib.Core.Bool.{Bool, false, _&&_, _||_, not}
+use lib.ListN.{length}
+use lib.Dec.{eqb, leb, ltb}
+use Rattle.rom.specs.Geometry.{imageLength, leavesEnd}
+use Rattle.rom.specs.Bytes.{pick, byteAt, isIn}
+use Rattle.rom.specs.Refusal.{Cause, _⇒_, firstMet}
+use Rattle.block.specs.Format.{chips, rowOf, row21140, kindCompact, kind21041}
+use Rattle.block.specs.Block.{is21041, siaSize}
+use Rattle.reader.specs.Reading.{judgeCauses}
+use Rattle.sheet.specs.Record.{Entry, Plain}
+use Rattle.sheet.specs.Sheet.{sheetFrom, isSheet}
+use Rattle.sheet.specs.Image.{leafStart, leafOf, imageOf, newest}
+
+-- ## What no image of the chip can hold (25)
+
+-- a 21041 has blocks of its own kind only, and no other chip has those
+unfoldable pub isOtherFamily : ℕ → ℕ → Bool
+isOtherFamily row kind = pick (is21041 row) (not (eqb kind kind21041)) (eqb kind kind21041)
+
+-- compact not 4 bytes or top bit set; 21041 body not 1 or 7 as EXT says; extended body over 126
+unfoldable pub isBadBody : ℕ → List ℕ → Bool
+isBadBody kind body =
+    pick (eqb kind kindCompact) (not (eqb (length body) 4) || leb 128 (byteAt body 0))
+    (pick (eqb kind kind21041) (not (eqb (length body) (siaSize (byteAt body 0))))
+    (ltb 126 (length body)))
+
+-- kind over 257 among them
+unfoldable pub isBad : ℕ → Entry → Bool
+isBad row e = ltb kind21041 (e .kind) || (isOtherFamily row (e .kind) || isBadBody (e .kind) (e .body))
+
+unfoldable pub anyBad : ℕ → List Entry → Bool
+anyBad row [] = false
+anyBad row (e ∷ es) = isBad row e || anyBad row es
+
+-- a control byte not 0 on a chip but the 21140
+unfoldable pub strayControl : ℕ → ℕ → Bool
+strayControl row control = not (eqb row row21140) && not (eqb control 0)
+
+unfoldable pub cannotHold : Plain → Bool
+cannotHold p = anyBad (rowOf (p .chip)) (p .entries) || strayControl (rowOf (p .chip)) (p .control)
+
+-- ## Why a sheet is refused
+
+-- from the record that it means
+unfoldable pub recordCauses : Plain → List Cause
+recordCauses p =
+    (7 ⇒ not (isIn (p .chip) chips))
+    ∷ (25 ⇒ cannotHold p)
+    ∷ (26 ⇒ ltb leavesEnd (leafStart + length (leafOf p)))
+    ∷ []
+
+-- for an output of a length; last the newest reader's, 12 apart, for controller 0 of the image to be written
+unfoldable pub writeCauses : List ℕ → ℕ → List Cause
+writeCauses sheet out =
+    (24 ⇒ not (isSheet sheet))
+    ∷ (1 ⇒ not (eqb out imageLength))
+    ∷ (recordCauses (sheetFrom sheet) ++ judgeCauses (imageOf (sheetFrom sheet)) (newest (sheetFrom sheet .chip)))
+
+unfoldable pub writeNumber : List ℕ → ℕ → ℕ
+writeNumber sheet out = firstMet (writeCauses sheet out)
+
+-- the output after the call: the new image, or unchanged on a refusal
+unfoldable pub written : List ℕ → List ℕ → List ℕ
+written sheet out = pick (eqb (writeNumber sheet (length out)) 0) (imageOf (sheetFrom sheet)) out

@@ -1,0 +1,10 @@
+pub mod Tests
+pub mod Puts
+pub mod Bodies
+pub mod Openings
+pub mod Parts
+pub mod Loops
+pub mod Sheets
+pub mod Checksums
+pub mod Images
+pub mod Numbers

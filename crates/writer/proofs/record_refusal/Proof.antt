@@ -1,0 +1,121 @@
+-- 7, a stray control byte, and then the entries decide. Assumes nothing.
+use native.Mathlib.Omega.{arith}
+use Prim.Native.Nat.{_+_}
+use mathlib.Core.List.{List}
+use mathlib.Core.Path.{ap, _∙_}
+use Rattle.rom.specs.Refusal.{firstMet}
+use Rattle.block.specs.Format.{rowOf}
+use Rattle.sheet.specs.Record.{Entry}
+use Rattle.sheet.specs.Sheet.{sheetFrom}
+use Rattle.sheet.specs.Write.{strayControl}
+use Rattle.writer.specs.Inside.{entryCauses}
+use Rattle.writer.proofs.Sheets.{has-head, cut-fits, cut-parts, cut-entries}
+use Rattle.writer.proofs.Numbers.{record-7, record-25, record-entries}
+use borrow.Author.Needs.{needs}
+use Rattle.writer.proofs.record_refusal.Statement.{statement}
+use Rattle.writer.proofs.record_refusal.Tie as tie
+
+word-at-requires : tie.Need-word-at-requires
+word-at-requires c κs = search needs
+
+row-of-requires : tie.Need-row-of-requires
+row-of-requires c κs = search needs
+
+returns : tie.Need-returns
+unfolding sheetFrom
+returns c = record-7 (sheetFrom (c .before .before .before .before .args .sheet .now)) _ (c .before .row-of .ensures ∙ ap rowOf (c .before .before .word-at .ensures)) (c .if1 .taken)
+
+byte-at-requires : tie.Need-byte-at-requires
+byte-at-requires c κs = search needs
+
+stray-control-requires : tie.Need-stray-control-requires
+stray-control-requires c κs = search needs
+
+returns-2 : tie.Need-returns-2
+unfolding sheetFrom
+returns-2 c = record-25 (sheetFrom (c .before .before .before .before .before .before .before .args .sheet .now)) _ (c .before .before .before .before .row-of .ensures ∙ ap rowOf (c .before .before .before .before .before .word-at .ensures)) (c .before .before .before .if1 .left) _ (c .before .stray-control .ensures ∙ ap (strayControl (c .before .before .before .before .row-of .result)) (c .before .before .byte-at .ensures)) (c .if2 .taken)
+
+count-at-requires : tie.Need-count-at-requires
+count-at-requires c κs = search needs
+
+mul-sizes : tie.Need-mul-sizes
+mul-sizes c = search needs
+
+add-sizes : tie.Need-add-sizes
+add-sizes c = search needs
+
+mul-bodies : tie.Need-mul-bodies
+mul-bodies c = search needs
+
+add-bodies : tie.Need-add-bodies
+add-bodies c = search needs
+
+header-length-requires : tie.Need-header-length-requires
+header-length-requires c κs = search needs
+
+add-start : tie.Need-add-start
+add-start c = search needs
+
+sub-refusal-of : tie.Need-sub-refusal-of
+sub-refusal-of c = has-head _ (c .before .before .before .before .before .before .before .before .before .pre)
+
+part-refusal-of-start : tie.Need-part-refusal-of-start
+part-refusal-of-start c = has-head _ (c .before .before .before .before .before .before .before .before .before .pre)
+
+part-refusal-of-end : tie.Need-part-refusal-of-end
+part-refusal-of-end c = search needs
+
+sub-refusal-of-2 : tie.Need-sub-refusal-of-2
+sub-refusal-of-2 c = let l = cut-fits _ (c .before .before .before .before .before .before .before .before .before .before .pre) _ (c .before .before .count-at .ensures .0) in omega arith
+
+part-refusal-of-start-2 : tie.Need-part-refusal-of-start-2
+part-refusal-of-start-2 c = let l = cut-fits _ (c .before .before .before .before .before .before .before .before .before .before .pre) _ (c .before .before .count-at .ensures .0) in omega arith
+
+part-refusal-of-end-2 : tie.Need-part-refusal-of-end-2
+part-refusal-of-end-2 c = search needs
+
+sub-refusal-of-3 : tie.Need-sub-refusal-of-3
+sub-refusal-of-3 c = cut-fits _ (c .before .before .before .before .before .before .before .before .before .before .before .pre) _ (c .before .before .before .count-at .ensures .0)
+
+part-refusal-of-start-3 : tie.Need-part-refusal-of-start-3
+part-refusal-of-start-3 c = cut-fits _ (c .before .before .before .before .before .before .before .before .before .before .before .pre) _ (c .before .before .before .count-at .ensures .0)
+
+part-refusal-of-end-3 : tie.Need-part-refusal-of-end-3
+part-refusal-of-end-3 c = search needs
+
+refusal-of-requires : tie.Need-refusal-of-requires
+refusal-of-requires c κs = (cut-parts _ (c .before .before .before .before .before .before .before .before .before .before .before .before .pre) _ (c .before .before .before .before .count-at .ensures .0), (c .before .before .before .before .count-at .ensures .1, omega arith))
+
+returns-3 : tie.Need-returns-3
+unfolding sheetFrom
+returns-3 c = record-entries (sheetFrom (c .before .before .before .before .before .before .before .before .before .before .before .before .before .args .sheet .now)) _ (c .before .before .before .before .before .before .before .before .before .before .row-of .ensures ∙ ap rowOf (c .before .before .before .before .before .before .before .before .before .before .before .word-at .ensures)) (c .before .before .before .before .before .before .before .before .before .if1 .left) _ (c .before .before .before .before .before .before .before .stray-control .ensures ∙ ap (strayControl (c .before .before .before .before .before .before .before .before .before .before .row-of .result)) (c .before .before .before .before .before .before .before .before .byte-at .ensures)) _ _ (c .before .before .before .before .before .before .if2 .left) (c .before .before .before .before .header-length .ensures .0)
+    (c .refusal-of .ensures ∙ ap (λ (l : List Entry). firstMet (entryCauses (c .before .before .before .before .before .before .before .before .before .before .row-of .result) (30 + c .before .before .before .before .header-length .result) l)) (cut-entries _ (c .before .before .before .before .before .before .before .before .before .before .before .before .before .pre) _ (c .before .before .before .before .before .count-at .ensures .0)))
+
+pub record-refusal-spec : {M : Type 1} → statement M
+record-refusal-spec =
+    tie.close
+    (tie.spec
+    word-at-requires
+    row-of-requires
+    returns
+    byte-at-requires
+    stray-control-requires
+    returns-2
+    count-at-requires
+    mul-sizes
+    add-sizes
+    mul-bodies
+    add-bodies
+    header-length-requires
+    add-start
+    sub-refusal-of
+    part-refusal-of-start
+    part-refusal-of-end
+    sub-refusal-of-2
+    part-refusal-of-start-2
+    part-refusal-of-end-2
+    sub-refusal-of-3
+    part-refusal-of-start-3
+    part-refusal-of-end-3
+    refusal-of-requires
+    returns-3)

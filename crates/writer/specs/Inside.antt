@@ -1,0 +1,75 @@
+-- What the contracts of the writer's inner functions cite.
+use Prim.Native.Nat.{ℕ, _+_, _-_, _*_, _≤_}
+use mathlib.Core.Path.{_≡_}
+use mathlib.Core.List.{List, [], _∷_, _++_}
+use mathlib.Core.Bool.{true, false}
+use lib.ListN.{length, take, drop, set, replicate}
+use lib.Dec.{ltb}
+use Rattle.rom.specs.Geometry.{leavesEnd, checkedLength, idCrcAt}
+use Rattle.rom.specs.Bytes.{pick}
+use Rattle.rom.specs.Refusal.{Cause, _⇒_, firstMet}
+use Rattle.crc.specs.Crc.{sromCrc, idCrc}
+use Rattle.sheet.specs.Lists.{wordBytes, sum}
+use Rattle.sheet.specs.Record.{Entry}
+use Rattle.sheet.specs.Sheet.{entriesFrom, sheetFrom, isSheet}
+use Rattle.sheet.specs.Image.{leafStart, isWhole, encodes}
+use Rattle.sheet.specs.Write.{isBad, anyBad, recordCauses}
+
+-- ## Bytes laid into others
+
+unfoldable pub zeros : ℕ → List ℕ
+zeros n = replicate n 0
+
+-- xs with ys from a place on
+unfoldable pub put : List ℕ → ℕ → List ℕ → List ℕ
+put xs at ys = take at xs ++ (ys ++ drop (at + length ys) xs)
+
+-- an image with these bytes before the place of its leaf, these maker's bytes, and zeros elsewhere
+unfoldable pub frameOf : List ℕ → List ℕ → List ℕ
+frameOf front maker = front ++ (zeros (leavesEnd - leafStart) ++ (maker ++ zeros 2))
+
+-- an image with its ID CRC, and with its SROM CRC
+unfoldable pub identified : List ℕ → List ℕ
+identified image = set image idCrcAt (idCrc image)
+
+unfoldable pub sealed : List ℕ → List ℕ
+sealed image = put image checkedLength (wordBytes (sromCrc image))
+
+-- ## Entries
+
+abbrev pub entry : ℕ → List ℕ → Entry
+entry k b = record { kind = k; body = b }
+
+-- how many bytes stand before a block's body
+unfoldable pub openingSize : ℕ → ℕ
+openingSize kind = pick (isWhole kind) 0 2
+
+-- three parallel parts hold n entries
+pub record Parts (n : ℕ) (kinds sizes bodies : List ℕ) : Type 0 where
+  pub forKinds : 2 * n ≤ length kinds
+  pub forSizes : n ≤ length sizes
+  pub forBodies : sum (take n sizes) ≤ length bodies
+
+-- 25 and 26 of entries whose first block stands at `start`
+unfoldable pub entryCauses : ℕ → ℕ → List Entry → List Cause
+entryCauses row start es = (25 ⇒ anyBad row es) ∷ (26 ⇒ ltb leavesEnd (start + length (encodes es))) ∷ []
+
+-- ## What an inner function may take for granted
+
+-- an entry that images of some chip hold, and room for these of its bytes from a place on
+pub record Fits (room : List ℕ) (to : ℕ) (e : Entry) (ys : List ℕ) : Type 0 where
+  pub row : ℕ
+  pub good : isBad row e ≡ false
+  pub fits : to + length ys ≤ length room
+
+-- three parallel parts hold n entries that images of some chip hold, and there is room for their blocks from a place on
+pub record Holds (room : List ℕ) (to n : ℕ) (kinds sizes bodies : List ℕ) : Type 0 where
+  pub row : ℕ
+  pub parts : Parts n kinds sizes bodies
+  pub good : anyBad row (entriesFrom n kinds sizes bodies) ≡ false
+  pub fits : to + length (encodes (entriesFrom n kinds sizes bodies)) ≤ length room
+
+-- a sheet that passes 24, 7, 25 and 26
+pub record Writable (s : List ℕ) : Type 0 where
+  pub is : isSheet s ≡ true
+  pub number : firstMet (recordCauses (sheetFrom s)) ≡ 0

@@ -1,0 +1,176 @@
+// The writer: a sheet becomes an image (document 01, 'The sheet').
+mod entries;
+mod leaf;
+mod store;
+
+use block::chip;
+use reader::Arguments;
+use rom::ByteOffset;
+use rom::refusal;
+use store::put_bytes;
+use store::put_word;
+ghost use mathlib.Core.Path.{_≡_};
+ghost use mathlib.Core.Bool.{true};
+ghost use Prim.Native.Nat.{_≤_};
+ghost use lib.ListN.{length};
+ghost use Rattle.rom.specs.Geometry.{imageLength};
+ghost use Rattle.rom.specs.Refusal.{firstMet};
+ghost use Rattle.sheet.specs.Layout.{headLength};
+ghost use Rattle.sheet.specs.Sheet.{isSheet, sheetFrom};
+ghost use Rattle.sheet.specs.Image.{frontWith, imageOf};
+ghost use Rattle.sheet.specs.Write.{strayControl, recordCauses, writeNumber, written};
+ghost use Rattle.writer.specs.Inside.{Writable, zeros, frameOf, identified, sealed};
+
+// Where ID byte 17 stands in an image, before the version.
+const LAST_ID_AT: usize = rom::ID_CRC_AT + 1;
+
+// One controller: its device number stands behind the address, and then the offset of its leaf.
+const CONTROLLERS: u8 = 1;
+
+const LEAF_OFFSET_AT: usize = rom::CONTROLLERS_AT + 1;
+
+// Whether a sheet's length is right, and its total the sum of its body sizes.
+fn is_sheet(sheet: &[u8]) -> bool
+    ensures { λ r. ⌜ r ≡ isSheet (now (sheet .entry)) ⌝ }
+{
+    let count = entries::count_at(sheet, sheet::COUNT_AT);
+    let total = entries::count_at(sheet, sheet::TOTAL_AT);
+    if sheet.len() != sheet::HEAD_LENGTH + 3 * count + total {
+        return false;
+    }
+    let sizes = sheet::HEAD_LENGTH + 2 * count;
+    let bodies = sheet::HEAD_LENGTH + 3 * count;
+    let sum = entries::sum_of(&sheet[sizes..bodies]);
+    total == sum
+}
+
+// A control byte not 0 on a chip but the 21140.
+fn stray_control(row: usize, control: u8) -> bool
+    ensures { λ r. ⌜ r ≡ strayControl row control ⌝ }
+{
+    if row == chip::ROW_21140 {
+        return false;
+    }
+    control != 0
+}
+
+// Refusals 7, 25 and 26, from what the sheet means.
+fn record_refusal(sheet: &[u8]) -> u8
+    requires { ⌜ isSheet (now sheet) ≡ true ⌝ }
+    ensures { λ r. ⌜ r ≡ firstMet (recordCauses (sheetFrom (now (sheet .entry)))) ⌝ }
+{
+    let row = chip::row_of(rom::word_at(sheet, ByteOffset(sheet::CHIP_AT)));
+    if chip::CHIP_COUNT <= row {
+        return refusal::CHIP;
+    }
+    let stray = stray_control(row, rom::byte_at(sheet, ByteOffset(sheet::CONTROL_AT)));
+    if stray {
+        return refusal::SHEET_ENTRY;
+    }
+    let count = entries::count_at(sheet, sheet::COUNT_AT);
+    let sizes = sheet::HEAD_LENGTH + 2 * count;
+    let bodies = sheet::HEAD_LENGTH + 3 * count;
+    let start = sheet::LEAF_START + leaf::header_length(row);
+    entries::refusal_of(
+        row,
+        start,
+        count,
+        &sheet[sheet::HEAD_LENGTH..],
+        &sheet[sizes..],
+        &sheet[bodies..],
+    )
+}
+
+fn blank() -> [u8; rom::IMAGE_LENGTH]
+    ensures { λ r. ⌜ r ≡ zeros imageLength ⌝ }
+{
+    [0; rom::IMAGE_LENGTH]
+}
+
+// The image but for its leaf and CRCs: one controller, and the leaf at 30.
+fn frame(sheet: &[u8]) -> [u8; rom::IMAGE_LENGTH]
+    requires { ⌜ headLength ≤ length (now sheet) ⌝ }
+    ensures { λ r. ⌜ r ≡ frameOf (frontWith 0 (sheetFrom (now (sheet .entry)))) (sheetFrom (now (sheet .entry)) .maker) ⌝ }
+{
+    let mut image = blank();
+    put_bytes(&mut image, 0, &sheet[sheet::ID_AT..sheet::LAST_ID_AT]);
+    put_bytes(
+        &mut image,
+        LAST_ID_AT,
+        &sheet[sheet::LAST_ID_AT..sheet::ADDRESS_AT],
+    );
+    image[rom::CONTROLLER_COUNT_AT] = CONTROLLERS;
+    put_bytes(
+        &mut image,
+        rom::ADDRESS_AT,
+        &sheet[sheet::ADDRESS_AT..sheet::CHIP_AT],
+    );
+    put_word(&mut image, LEAF_OFFSET_AT, sheet::LEAF_START as u16);
+    put_bytes(
+        &mut image,
+        rom::LEAVES_END,
+        &sheet[sheet::MAKER_AT..sheet::HEAD_LENGTH],
+    );
+    image
+}
+
+// The image with its ID CRC.
+fn identify(image: [u8; rom::IMAGE_LENGTH]) -> [u8; rom::IMAGE_LENGTH]
+    ensures { λ r. ⌜ r ≡ identified image ⌝ }
+{
+    let checksum = crc::id_crc(&image).value;
+    let mut whole = image;
+    whole[rom::ID_CRC_AT] = checksum as u8;
+    whole
+}
+
+// The image with its SROM CRC.
+fn seal(image: [u8; rom::IMAGE_LENGTH]) -> [u8; rom::IMAGE_LENGTH]
+    ensures { λ r. ⌜ r ≡ sealed image ⌝ }
+{
+    let checksum = crc::srom_crc(&image).value;
+    let mut whole = image;
+    put_word(&mut whole, rom::CHECKED_LENGTH, checksum);
+    whole
+}
+
+// The image of a sheet. Its part from byte 30 up to the maker's bytes is lent to the leaf writer.
+fn build(sheet: &[u8]) -> [u8; rom::IMAGE_LENGTH]
+    requires { ⌜ Writable (now sheet) ⌝ }
+    ensures { λ r. ⌜ r ≡ imageOf (sheetFrom (now (sheet .entry))) ⌝ }
+{
+    let mut image = identify(frame(sheet));
+    leaf::put_leaf(&mut image[sheet::LEAF_START..rom::LEAVES_END], sheet);
+    seal(image)
+}
+
+// Writes the image of a sheet, or answers the first refusal and leaves the image as it was. The newest reader judges the
+// image, for controller 0, before any of it is written out.
+pub fn write(sheet: &[u8], image: &mut [u8]) -> u8
+    ensures { λ r. ⌜ r ≡ writeNumber (now (sheet .entry)) (length (now (image .entry))) ⌝ }
+    ensures { λ r. ⌜ now (image .exit) ≡ written (now (sheet .entry)) (now (image .entry)) ⌝ }
+{
+    let whole = is_sheet(sheet);
+    if !whole {
+        return refusal::SHEET;
+    }
+    if image.len() != rom::IMAGE_LENGTH {
+        return refusal::IMAGE_LENGTH;
+    }
+    let number = record_refusal(sheet);
+    if number != refusal::ACCEPTED {
+        return number;
+    }
+    let built = build(sheet);
+    let arguments = Arguments {
+        chip: rom::word_at(sheet, ByteOffset(sheet::CHIP_AT)),
+        controller: 0,
+        level: block::NEWEST_LEVEL,
+    };
+    let judged = reader::judge(&built, arguments).number;
+    if judged != refusal::ACCEPTED {
+        return judged;
+    }
+    bytes::copy(&built, image);
+    refusal::ACCEPTED
+}
