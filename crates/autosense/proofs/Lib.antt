@@ -11,3 +11,4 @@ pub mod Refusals
 pub mod Order
 pub mod Counting
 pub mod Conditions
+pub mod Standing

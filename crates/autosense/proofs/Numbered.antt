@@ -53,7 +53,7 @@ block-same p q r h (s ∷ bs) zero e = h s e
 block-same p q r h (s ∷ bs) (suc k) e = block-same p q r h bs k e
 
 -- a block that p takes is the one of its number in the list
-block-at : (p q : List ℕ → Bool) (bs : List (List ℕ)) (k : ℕ) → blockIs p bs k ≡ true → (p (getD bs k []) ≡ true) × (blockIs q bs k ≡ q (getD bs k []))
+pub block-at : (p q : List ℕ → Bool) (bs : List (List ℕ)) (k : ℕ) → blockIs p bs k ≡ true → (p (getD bs k []) ≡ true) × (blockIs q bs k ≡ q (getD bs k []))
 unfolding blockIs
 block-at p q [] k e = let z : _≡_ {A = ℕ} 0 1 = cc in absurd (omega arith)
 block-at p q (s ∷ bs) zero e = (e, refl)
@@ -86,7 +86,7 @@ module _ (row older newest : ℕ) (h : older ≤ newest) (bs : List (List ℕ)) 
 -- ## The default
 
 -- a default's block is listed: type 5 has none
-default-listed : (row level : ℕ) (s : List ℕ) → isDefault row level s ≡ true → isListed row level s ≡ true
+pub default-listed : (row level : ℕ) (s : List ℕ) → isDefault row level s ≡ true → isListed row level s ≡ true
 unfolding isDefault isListed factsOf reset pick
 default-listed row level s e = go (eqb (kindOf row s) 5) refl (isKnown level (kindOf row s)) e
   where
@@ -100,17 +100,17 @@ default-listed row level s e = go (eqb (kindOf row s) 5) refl (isKnown level (ki
         absurd (omega arith)
 
 -- the number that is found is that of a block that p takes, or 255
-data Found (p : List ℕ → Bool) (k : ℕ) (bs : List (List ℕ)) : ℕ → Type 0 where
-  none : Found p k bs 255
+pub data Found (p : List ℕ → Bool) (k : ℕ) (bs : List (List ℕ)) : ℕ → Type 0 where
+  absent : Found p k bs 255
   at : (j : ℕ) {n : ℕ} → n ≡ k + j → blockIs p bs j ≡ true → Found p k bs n
 
-found : (p : List ℕ → Bool) (k : ℕ) (bs : List (List ℕ)) → Found p k bs (firstFrom p k bs)
+pub found : (p : List ℕ → Bool) (k : ℕ) (bs : List (List ℕ)) → Found p k bs (firstFrom p k bs)
 unfolding firstFrom pick blockIs
-found p k [] = none
+found p k [] = absent
 found p k (s ∷ bs) = go (p s) refl (found p (k + 1) bs)
   where
     later : {n : ℕ} → Found p (k + 1) bs n → Found p k (s ∷ bs) n
-    later none = none
+    later absent = absent
     later (at j {n} q b) = let q′ : n ≡ k + suc j = omega arith in at (suc j) q′ b
 
     go : (t : Bool) → p s ≡ t → Found p (k + 1) bs (firstFrom p (k + 1) bs) → Found p k (s ∷ bs) (pick t k (firstFrom p (k + 1) bs))
@@ -128,7 +128,7 @@ default-kept row older newest bs = go (firstFrom (isDefault row newest) 0 bs) (f
     same false = refl
 
     go : (d : ℕ) → Found (isDefault row newest) 0 bs d → pick (isKnown older (kindOf row (getD bs d []))) d 255 ≡ pick (blockIs (isRemoved row older newest) bs d) 255 d
-    go d none = same (isKnown older (kindOf row (getD bs 255 []))) ∙ sym (same (blockIs (isRemoved row older newest) bs 255))
+    go d absent = same (isKnown older (kindOf row (getD bs 255 []))) ∙ sym (same (blockIs (isRemoved row older newest) bs 255))
     go d (at j q b) =
         let e : d ≡ j = omega arith in
         let t = block-at (isDefault row newest) (isRemoved row older newest) bs j b in

@@ -2,7 +2,8 @@
 use Prim.Native.Nat.{ℕ, _+_, _≤_}
 use mathlib.Core.Path.{_≡_}
 use mathlib.Core.List.{List, [], _∷_, map, reverse}
-use mathlib.Core.Bool.{Bool, _&&_, not}
+use mathlib.Core.Bool.{Bool, true, _&&_, not}
+use mathlib.Core.Logic.{_⊎_}
 use lib.Dec.{eqb}
 use lib.ListN.{length, getD}
 use Rattle.rom.specs.Bytes.{pick}
@@ -90,3 +91,7 @@ CountsExactly = (w : Walk) → Reached w →
     × ((report : List ℕ) → lookFor w report .number ≡ 0 →
     let next = lookFor w report .walk in
     (next .looks ≡ w .looks + 1) × (next .switches ≡ w .switches + one (not (eqb (w .selected) (next .selected)))))
+
+-- and they stand on no block or on an entry of their table
+abbrev pub StandsOnEntry : Type 0
+StandsOnEntry = (w : Walk) → Reached w → (w .selected ≡ none) ⊎ (flagAt (w .listed) (w .selected) ≡ true)

@@ -22,7 +22,7 @@ use Rattle.maker.specs.Code.{AcceptedBlocks, entriesOf}
 
 -- an extended block's length counts its type, and has seven bits
 unfoldable shapes : ℕ → List ℕ → Type 0
-shapes row s = (openingLength row s ≤ sizeOf row s) × (sizeOf row s - openingLength row s ≤ 126)
+shapes row s = (openingLength row s ≤ sizeOf row s) × (sizeOf row s ≤ 128)
 
 shape-of : (row : ℕ) (s : List ℕ) → (isExtended row s && eqb (lengthOf s) 0) ≡ false → shapes row s
 unfolding shapes openingLength sizeOf isExtended siaSize pick lengthOf
@@ -30,7 +30,7 @@ shape-of row s = go (is21041 row) (bit 6 (byteAt s 0)) (leb 128 (byteAt s 0))
   where
     go : (t u v : Bool) → ((not t && v) && eqb (byteAt s 0 % 128) 0) ≡ false
         → (pick (not t && v) 2 0 ≤ pick t (pick u 7 1) (pick (not t && v) (1 + byteAt s 0 % 128) 4))
-        × (pick t (pick u 7 1) (pick (not t && v) (1 + byteAt s 0 % 128) 4) - pick (not t && v) 2 0 ≤ 126)
+        × (pick t (pick u 7 1) (pick (not t && v) (1 + byteAt s 0 % 128) 4) ≤ 128)
     go true true v e = (omega arith, omega arith)
     go true false v e = (omega arith, omega arith)
     go false u true e = let n = eqb-false (byteAt s 0 % 128) 0 e in (omega (arith, n), omega arith)
@@ -43,7 +43,7 @@ first-of true q e = e
 pub record Whole (row : ℕ) (s : List ℕ) : Type 0 where
   pub inside : sizeOf row s ≤ length s
   pub opens : openingLength row s ≤ sizeOf row s
-  pub small : sizeOf row s - openingLength row s ≤ 126
+  pub small : sizeOf row s ≤ 128
   pub body : take (sizeOf row s - openingLength row s) (drop (openingLength row s) s) ≡ bodyOf row s
   pub long : length (bodyOf row s) ≡ sizeOf row s - openingLength row s
 

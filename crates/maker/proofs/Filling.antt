@@ -81,7 +81,7 @@ module _ {part : List Entry → List ℕ} {row count : ℕ} {blocks sheet₀ : L
 -- the next block's body, in the terms of the code
 pub record Body (row : ℕ) (rest : List ℕ) (size opening : ℕ) : Type 0 where
   pub opens : opening ≤ size
-  pub small : size - opening ≤ 126
+  pub small : size ≤ 128
   pub count : (size - opening) ∷ [] ≡ length (bodyOf row rest) ∷ []
   pub bytes : take (size - opening) (drop opening rest) ≡ bodyOf row rest
   pub long : size - opening ≡ length (take (size - opening) (drop opening rest))
@@ -92,4 +92,4 @@ next-body {row = row} {rest = rest} i h {size} {opening} es eo =
     let w = next-block row rest (i .accepted) h in
     let b : take (size - opening) (drop opening rest) ≡ bodyOf row rest = rw (es, eo) (w .body) in
     let l : size - opening ≡ length (bodyOf row rest) = rw (es, eo) (sym (w .long)) in
-    record { opens = rw (es, eo) (w .opens); small = rw (es, eo) (w .small); count = ap (λ (n : ℕ). n ∷ []) l; bytes = b; long = l ∙ ap length (sym b) }
+    record { opens = rw (es, eo) (w .opens); small = rw es (w .small); count = ap (λ (n : ℕ). n ∷ []) l; bytes = b; long = l ∙ ap length (sym b) }

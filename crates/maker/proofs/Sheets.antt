@@ -1,5 +1,5 @@
 -- What is laid in one behind the other, and that it is the sheet. Assumes nothing.
-use Prim.Native.Nat.{ℕ, zero, suc, _+_, _*_, _-_, _≤_}
+use Prim.Native.Nat.{ℕ, _+_, _*_, _-_, _≤_}
 use native.Mathlib.Omega.{arith}
 use mathlib.Core.Path.{_≡_, refl, sym, ap, ap₂, _∙_}
 use mathlib.Core.List.{List, [], _∷_, _++_, append-assoc}
@@ -7,11 +7,9 @@ use lib.ListN.{length, take, drop, length-append, length-drop}
 use lib.Seq.{length-take-le, take-suc, drop-cons, getD-drop}
 use Rattle.rom.specs.Geometry.{imageLength, leavesEnd, addressAt}
 use Rattle.rom.specs.Bytes.{byteAt}
-use Rattle.block.specs.Block.{sizeOf}
 use Rattle.reader.specs.declared.Answer.{Answer}
 use Rattle.reader.specs.declared.Reading.{Reading}
 use Rattle.reader.specs.Image.{restFrom}
-use Rattle.reader.specs.Leaf.{cut}
 use Rattle.reader.specs.Reading.{acceptedAnswer, acceptedReading}
 use Rattle.reader.proofs.Readings.{Accepted, restOf, whole-image}
 use Rattle.sheet.specs.Lists.{wordBytes}
@@ -20,6 +18,8 @@ use Rattle.sheet.specs.Record.{Entry}
 use Rattle.sheet.specs.Sheet.{headOf, kindBytes, sizeBytes, bodyBytes, partsOf, sheetOf}
 use Rattle.sheet.specs.Image.{newest, imageFrom}
 use Rattle.sheet.specs.Make.{sheetFor}
+use Rattle.sheet.proofs.Blocks.{entries-length}
+use Rattle.sheet.proofs.Sheets.{kind-length, size-length}
 use Rattle.maker.specs.Code.{put, entriesOf, frontBytes, fieldBytes}
 use Rattle.maker.proofs.Put.{put-length, joined}
 
@@ -123,24 +123,13 @@ module _ (image : List ℕ) (whole : length image ≡ imageLength) where
 
 -- ## The parts
 
-pub entries-long : (row count : ℕ) (s : List ℕ) → length (entriesOf row count s) ≡ count
-unfolding entriesOf cut
-entries-long row zero s = refl
-entries-long row (suc count) s = ap suc (entries-long row count (drop (sizeOf row s) s))
-
-kinds-long : (es : List Entry) → length (kindBytes es) ≡ 2 * length es
-unfolding kindBytes wordBytes
-kinds-long [] = refl
-kinds-long (e ∷ es) = omega (arith, kinds-long es)
-
-sizes-long : (es : List Entry) → length (sizeBytes es) ≡ length es
-unfolding sizeBytes
-sizes-long [] = refl
-sizes-long (e ∷ es) = ap suc (sizes-long es)
+entries-long : (row count : ℕ) (s : List ℕ) → length (entriesOf row count s) ≡ count
+unfolding entriesOf
+entries-long = entries-length
 
 pub parts-long : (es : List Entry) → length (partsOf es) ≡ 3 * length es + length (bodyBytes es)
 unfolding partsOf
-parts-long es = simp length-append (omega (arith, kinds-long es, sizes-long es))
+parts-long es = simp length-append (omega (arith, kind-length es, size-length es))
 
 module _ (sheet : List ℕ) (es : List Entry) (room : headLength + length (partsOf es) ≤ length sheet) where
   pub kinds-room : headLength + length (kindBytes es) ≤ length sheet

@@ -11,7 +11,7 @@ use stores::put_byte;
 use stores::put_bytes;
 use stores::put_word;
 ghost use mathlib.Core.Path.{_≡_};
-ghost use Prim.Native.Nat.{_+_, _≤_};
+ghost use Prim.Native.Nat.{_≤_};
 ghost use lib.ListN.{length};
 ghost use Rattle.rom.specs.Geometry.{imageLength, leavesEnd};
 ghost use Rattle.sheet.specs.Lists.{allZero};

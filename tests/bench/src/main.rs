@@ -1,12 +1,13 @@
 //! Times each call of the library against the fastest plain form of the second implementation,
-//! over the same images: `cargo run --release -p bench`.
+//! over the same inputs: `cargo run --release -p bench`.
 
-use library::Answer;
+use library::{Answer, Made, Walk};
 use second::crc;
 use second::images::block::{self, Phy};
 use second::images::{Card, Image};
 use second::random::Random;
 use second::reader::{self, Arguments, NEWEST_LEVEL};
+use second::{sheet, walk};
 use std::{hint::black_box, time::Instant};
 
 const IMAGE_COUNT: usize = 1_000;
@@ -26,6 +27,15 @@ fn main() {
     contest("id_crc", &typical, library::id_crc, crc::fast::id_crc);
     contest_reading("typical", 21143, &typical);
     contest_reading("longest", 21041, &longest);
+    let tidy = images(|random| {
+        let mut card = typical_card();
+        card.private[..18].copy_from_slice(&random.bytes::<18>());
+        card
+    });
+    contest_walking("typical", 21143, &tidy);
+    contest_walking("longest", 21041, &longest);
+    contest_sheets("typical", 21143, &tidy);
+    contest_sheets("longest", 21041, &longest);
 }
 
 /// A leaf as a 21143 card has it: five blocks, of which one is no medium.
@@ -55,11 +65,7 @@ fn images(card: impl Fn(&mut Random) -> Card) -> Vec<Image> {
 
 /// Reading into arrays that are long enough, and the view of the table's last entry.
 fn contest_reading(leaf: &str, chip: u16, images: &[Image]) {
-    let arguments = Arguments {
-        chip,
-        controller: 0,
-        level: NEWEST_LEVEL,
-    };
+    let arguments = newest(chip);
     let listed = reading(arguments, reader::read)(&images[0]).listed;
     assert!(listed > 0, "the newest reader accepts the {leaf} leaf");
     contest(
@@ -77,6 +83,82 @@ fn contest_reading(leaf: &str, chip: u16, images: &[Image]) {
     );
 }
 
+fn newest(chip: u16) -> Arguments {
+    Arguments {
+        chip,
+        controller: 0,
+        level: NEWEST_LEVEL,
+    }
+}
+
+/// Loading into a fresh walk, and looks of a settled walk at reports with a quarter of the links
+/// up, so that most of them select anew.
+fn contest_walking(leaf: &str, chip: u16, images: &[Image]) {
+    let arguments = newest(chip);
+    contest(
+        &format!("load {leaf}"),
+        images,
+        |image| library::load(library::fresh(), image, arguments),
+        |image| walk::fast::load(walk::fast::fresh(), image, arguments),
+    );
+    let settled = settled(&images[0], arguments);
+    let mut random = Random::new(2);
+    let mut report = |_| {
+        let links = (0..settled.blocks).map(|_| u8::from(random.one_in(4)));
+        links.collect::<Vec<_>>()
+    };
+    let reports: Vec<_> = (0..IMAGE_COUNT).map(&mut report).collect();
+    contest(
+        &format!("look {leaf}"),
+        &reports,
+        |report| library::look(black_box(settled), report),
+        |report| walk::fast::look(black_box(settled), report),
+    );
+}
+
+/// A walk that has settled on the first entry of the table.
+fn settled(image: &[u8], arguments: Arguments) -> Walk {
+    let loaded = walk::fast::load(walk::fast::fresh(), image, arguments).walk;
+    let walked = walk::fast::look(loaded, &[1; 255]);
+    assert!(walked.walk.settled, "the newest walk serves the leaf");
+    walked.walk
+}
+
+/// Making the sheets of tidy images, and writing them.
+fn contest_sheets(leaf: &str, chip: u16, images: &[Image]) {
+    let sheet = |image: &Image| {
+        let mut buffer = [0; 500];
+        let made = sheet::make(image, chip, &mut buffer);
+        assert_eq!(made.number, 0, "the {leaf} leaf is tidy");
+        buffer[..made.length].to_vec()
+    };
+    let sheets: Vec<_> = images.iter().map(sheet).collect();
+    contest(
+        &format!("write {leaf}"),
+        &sheets,
+        writing(library::write),
+        writing(sheet::fast::write),
+    );
+    contest(
+        &format!("make {leaf}"),
+        images,
+        making(chip, library::make_sheet),
+        making(chip, sheet::fast::make),
+    );
+}
+
+/// A call with an image of its own.
+fn writing(write: impl Fn(&[u8], &mut [u8]) -> u8) -> impl FnMut(&[u8]) -> u8 {
+    let mut image = [0; 128];
+    move |sheet| write(sheet, black_box(&mut image))
+}
+
+/// A call with a buffer of its own.
+fn making(chip: u16, make: impl Fn(&[u8], u16, &mut [u8]) -> Made) -> impl FnMut(&[u8]) -> Made {
+    let mut buffer = [0; 500];
+    move |image| make(image, chip, black_box(&mut buffer))
+}
+
 /// A call with arrays of its own.
 fn reading(
     arguments: Arguments,
@@ -89,24 +171,24 @@ fn reading(
 /// Prints a line of the table: the best of the rounds for each side, which take turns.
 fn contest<A, B>(
     call: &str,
-    images: &[Image],
+    inputs: &[impl AsRef<[u8]>],
     mut library: impl FnMut(&[u8]) -> A,
     mut second: impl FnMut(&[u8]) -> B,
 ) {
     let (mut library_best, mut second_best) = (f64::INFINITY, f64::INFINITY);
     for _ in 0..ROUNDS {
-        library_best = library_best.min(nanoseconds(images, &mut library));
-        second_best = second_best.min(nanoseconds(images, &mut second));
+        library_best = library_best.min(nanoseconds(inputs, &mut library));
+        second_best = second_best.min(nanoseconds(inputs, &mut second));
     }
     let ratio = library_best / second_best;
     println!("{call:<14}{library_best:>12.1}{second_best:>12.1}{ratio:>8.2}");
 }
 
-/// The mean time of one call in one pass over the images.
-fn nanoseconds<A>(images: &[Image], mut call: impl FnMut(&[u8]) -> A) -> f64 {
+/// The mean time of one call in one pass over the inputs.
+fn nanoseconds<A>(inputs: &[impl AsRef<[u8]>], mut call: impl FnMut(&[u8]) -> A) -> f64 {
     let start = Instant::now();
-    for image in images {
-        black_box(call(black_box(image)));
+    for input in inputs {
+        black_box(call(black_box(input.as_ref())));
     }
-    start.elapsed().as_nanos() as f64 / images.len() as f64
+    start.elapsed().as_nanos() as f64 / inputs.len() as f64
 }

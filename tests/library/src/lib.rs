@@ -2,9 +2,11 @@
 
 pub use second::crc::Checksum;
 pub use second::reader::{Answer, Arguments};
+pub use second::sheet::Made;
+pub use second::walk::{Walk, Walked};
 
 mod archive {
-    use super::{Answer, Arguments, Checksum};
+    use super::{Answer, Arguments, Checksum, Made, Walk, Walked};
 
     /// Where a part of the image starts, and how many bytes it has: 0 and 0 for none.
     #[repr(C)]
@@ -31,6 +33,28 @@ mod archive {
             arguments: Arguments,
             entry: usize,
         ) -> Part;
+        pub safe fn srom_fresh() -> Walk;
+        pub fn srom_load(
+            walk: Walk,
+            image: *const u8,
+            image_length: usize,
+            arguments: Arguments,
+        ) -> Walked;
+        pub fn srom_look(walk: Walk, report: *const u8, report_length: usize) -> Walked;
+        pub safe fn srom_clear(walk: Walk) -> Walked;
+        pub fn srom_write(
+            sheet: *const u8,
+            sheet_length: usize,
+            image: *mut u8,
+            image_length: usize,
+        ) -> u8;
+        pub fn srom_make_sheet(
+            image: *const u8,
+            image_length: usize,
+            chip: u16,
+            buffer: *mut u8,
+            buffer_length: usize,
+        ) -> Made;
     }
 }
 
@@ -72,4 +96,51 @@ pub fn view(image: &[u8], arguments: Arguments, entry: usize) -> &[u8] {
     // SAFETY: the call only reads the bytes at `image`, which the slice lends it.
     let part = unsafe { archive::srom_view(image.as_ptr(), image.len(), arguments, entry) };
     &image[part.start..][..part.length]
+}
+
+/// A walk that has read no image.
+pub fn fresh() -> Walk {
+    archive::srom_fresh()
+}
+
+/// Reads an image into a fresh walk; a refusal hands the walk back as it was.
+pub fn load(walk: Walk, image: &[u8], arguments: Arguments) -> Walked {
+    // SAFETY: the call only reads the bytes at `image`, which the slice lends it.
+    unsafe { archive::srom_load(walk, image.as_ptr(), image.len(), arguments) }
+}
+
+/// Takes the steps of one look at a report with a byte for each block; a refusal hands the walk
+/// back as it was.
+pub fn look(walk: Walk, report: &[u8]) -> Walked {
+    // SAFETY: the call only reads the bytes at `report`, which the slice lends it.
+    unsafe { archive::srom_look(walk, report.as_ptr(), report.len()) }
+}
+
+/// Makes a walk fresh; it is never refused.
+pub fn clear(walk: Walk) -> Walked {
+    archive::srom_clear(walk)
+}
+
+/// Writes the image that a sheet describes, and answers the number; a refusal leaves the image as
+/// it is.
+pub fn write(sheet: &[u8], image: &mut [u8]) -> u8 {
+    // SAFETY: the call only reads the bytes at `sheet`, and writes no more than those at `image`;
+    // the two slices lend it all of these, apart from each other.
+    unsafe { archive::srom_write(sheet.as_ptr(), sheet.len(), image.as_mut_ptr(), image.len()) }
+}
+
+/// Makes the sheet of a tidy image, in the first bytes of the buffer; a refusal leaves the buffer
+/// as it is.
+pub fn make_sheet(image: &[u8], chip: u16, buffer: &mut [u8]) -> Made {
+    // SAFETY: the call only reads the bytes at `image`, and writes no more than those at `buffer`;
+    // the two slices lend it all of these, apart from each other.
+    unsafe {
+        archive::srom_make_sheet(
+            image.as_ptr(),
+            image.len(),
+            chip,
+            buffer.as_mut_ptr(),
+            buffer.len(),
+        )
+    }
 }

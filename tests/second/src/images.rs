@@ -2,7 +2,7 @@
 //! newest reader accepts.
 
 pub mod block;
-mod damage;
+pub(crate) mod damage;
 
 use crate::crc::{IMAGE_LENGTH, SROM_CRC_OFFSET, lay_crcs, lay_srom_crc};
 use crate::random::Random;
@@ -11,10 +11,9 @@ use crate::reader::{
 };
 use block::Deck;
 
-pub type Image = [u8; IMAGE_LENGTH];
+pub use crate::sheet::TIDY_LEAF;
 
-/// Where the writer puts the only leaf, right after the reserved byte.
-pub const TIDY_LEAF: usize = 30;
+pub type Image = [u8; IMAGE_LENGTH];
 
 /// The refusals that one damaged field of an image or of its arguments can cause: all but those
 /// for the image's length and for the arrays.
@@ -67,7 +66,7 @@ impl Leaf {
         self.offset + header_size(self.chip) + before
     }
 
-    fn end(&self) -> usize {
+    pub fn end(&self) -> usize {
         self.start(self.blocks.len())
     }
 }
@@ -278,7 +277,7 @@ fn leaves(random: &mut Random, chip: u16, controllers: usize) -> Vec<Leaf> {
 
 /// Random blocks that may stand together and fill no more than the room: a few, as many as are
 /// drawn before one does not fit, or so many that no place is left.
-fn blocks(random: &mut Random, chip: u16, room: usize) -> Vec<Vec<u8>> {
+pub(crate) fn blocks(random: &mut Random, chip: u16, room: usize) -> Vec<Vec<u8>> {
     let mut deck = Deck::new(random, chip);
     let few = random.below(6);
     let fills = random.one_in(3);
@@ -298,12 +297,12 @@ fn blocks(random: &mut Random, chip: u16, room: usize) -> Vec<Vec<u8>> {
     blocks
 }
 
-fn connection(random: &mut Random, chip: u16) -> u16 {
+pub(crate) fn connection(random: &mut Random, chip: u16) -> u16 {
     random.pick(&connections(chip).collect::<Vec<_>>())
 }
 
 /// A base address that so many controllers can count on from, once in a while the highest.
-fn address(random: &mut Random, controllers: usize) -> u64 {
+pub(crate) fn address(random: &mut Random, controllers: usize) -> u64 {
     let highest = (1 << 48) - controllers as u64;
     if random.one_in(8) {
         return highest;

@@ -94,9 +94,9 @@ impl Answer {
     }
 }
 
-/// Why a reading is refused, by document 01's numbers.
+/// Why a call is refused, by document 01's numbers.
 #[derive(Debug, Clone, Copy, PartialEq, Eq)]
-enum Refusal {
+pub(crate) enum Refusal {
     ImageLength = 1,
     Version = 2,
     SromCrc = 3,
@@ -115,26 +115,53 @@ enum Refusal {
     CodeOrReservedBits = 16,
     Advertisement = 17,
     Conflict = 18,
+    Report = 19,
+    FreshWalk = 20,
+    LoadedWalk = 21,
+    FixedConnection = 22,
+    LooksSpent = 23,
+    SheetLengthOrSum = 24,
+    KindOrBody = 25,
+    LeafPastLimit = 26,
+    NotTidy = 27,
+}
+
+impl Refusal {
+    /// The number of a call that was accepted or refused.
+    pub(crate) fn number<A>(result: &Result<A, Self>) -> u8 {
+        match result {
+            Ok(_) => 0,
+            Err(refusal) => *refusal as u8,
+        }
+    }
 }
 
 /// What stands before the blocks of a leaf.
-struct Header {
-    connection: u16,
-    control: u8,
-    address: u64,
-    count: u8,
-    first_block: usize,
+pub(crate) struct Header {
+    pub connection: u16,
+    pub control: u8,
+    pub address: u64,
+    pub count: u8,
+    pub first_block: usize,
 }
 
 /// A block that the reader accepts.
 #[derive(Debug, Clone, Copy)]
-struct Block {
-    start: usize,
-    size: usize,
+pub(crate) struct Block {
+    pub start: usize,
+    pub size: usize,
     /// None where the level does not know the type.
-    kind: Option<u16>,
-    is_default: bool,
-    resets_phy: bool,
+    pub kind: Option<u16>,
+    pub is_default: bool,
+    pub is_active_invalid: bool,
+    pub resets_phy: bool,
+}
+
+impl Block {
+    /// Whether the table lists the block: all that are known, but no type 5.
+    pub fn is_listed(&self) -> bool {
+        self.kind.is_some_and(|kind| kind != RESET)
+    }
 }
 
 /// The judged fields of a block whose type is known and whose length is right.
@@ -227,7 +254,7 @@ pub fn first_leaf(controllers: usize) -> usize {
 
 /// The header and the blocks of a leaf, or the first cause to refuse it, where the shorter array
 /// has so many elements.
-fn leaf(
+pub(crate) fn leaf(
     image: &[u8],
     arguments: Arguments,
     shorter: usize,
@@ -256,7 +283,7 @@ fn frame(image: &[u8]) -> Result<(), Refusal> {
     refuse_if(id_crc != image[ID_CRC_OFFSET].into(), Refusal::IdCrc)
 }
 
-fn is_version(image: &[u8]) -> bool {
+pub(crate) fn is_version(image: &[u8]) -> bool {
     matches!(image[VERSION_OFFSET], 3 | 4)
 }
 
@@ -311,6 +338,7 @@ fn block(image: &[u8], start: usize, arguments: Arguments) -> Result<Block, Refu
         size: bytes.len(),
         kind: Some(kind),
         is_default: false,
+        is_active_invalid: false,
         resets_phy: false,
     };
     if !is_known(kind, level) {
@@ -329,6 +357,7 @@ fn block(image: &[u8], start: usize, arguments: Arguments) -> Result<Block, Refu
                 Refusal::CodeOrReservedBits,
             )?;
             block.is_default = is_default(code, command);
+            block.is_active_invalid = command & ACTIVE_INVALID != 0;
         }
         Fields::Phy {
             reset_length,
@@ -347,7 +376,7 @@ fn block(image: &[u8], start: usize, arguments: Arguments) -> Result<Block, Refu
 }
 
 /// The bytes of the block that opens the rest of a leaf; none where it runs past the rest.
-fn first_block(rest: &[u8], chip: u16) -> Option<&[u8]> {
+pub(crate) fn first_block(rest: &[u8], chip: u16) -> Option<&[u8]> {
     let first = *rest.first()?;
     let size = match chip {
         21041 if first & EXT == 0 => 1,
@@ -359,7 +388,7 @@ fn first_block(rest: &[u8], chip: u16) -> Option<&[u8]> {
 }
 
 /// The block's kind as the table has it; none for an extended block without a type byte.
-fn kind(block: &[u8], chip: u16) -> Option<u16> {
+pub(crate) fn kind(block: &[u8], chip: u16) -> Option<u16> {
     match chip {
         21041 => Some(MEDIA_21041),
         _ if block[0] & EXTENDED == 0 => Some(COMPACT),
@@ -457,16 +486,16 @@ fn conflict(blocks: &[Block]) -> bool {
 
 /// The blocks that the table lists, in its order.
 fn table(blocks: &[Block]) -> Vec<Block> {
-    let is_listed = |block: &&Block| block.kind.is_some_and(|kind| kind != RESET);
-    blocks.iter().rev().filter(is_listed).copied().collect()
+    let listed = blocks.iter().rev().filter(|block| block.is_listed());
+    listed.copied().collect()
 }
 
-fn refuse_if(cause: bool, refusal: Refusal) -> Result<(), Refusal> {
+pub(crate) fn refuse_if(cause: bool, refusal: Refusal) -> Result<(), Refusal> {
     if cause { Err(refusal) } else { Ok(()) }
 }
 
 /// The word whose low byte stands at the offset.
-fn word(bytes: &[u8], offset: usize) -> u16 {
+pub(crate) fn word(bytes: &[u8], offset: usize) -> u16 {
     u16::from_le_bytes([bytes[offset], bytes[offset + 1]])
 }
 

@@ -65,7 +65,7 @@ fn take_leaf(card: &mut Card, controller: u8) -> Option<Leaf> {
     Some(card.leaves.remove(index))
 }
 
-fn damage_leaf(
+pub(crate) fn damage_leaf(
     leaf: &mut Leaf,
     random: &mut Random,
     number: u8,
@@ -228,7 +228,7 @@ fn add_reset(leaf: &mut Leaf, random: &mut Random, level: u8) -> Option<()> {
     Some(())
 }
 
-fn kind(block: &[u8], chip: u16) -> u16 {
+pub(crate) fn kind(block: &[u8], chip: u16) -> u16 {
     match chip {
         21041 => MEDIA_21041,
         _ if block[0] & EXTENDED == 0 => COMPACT,
@@ -248,7 +248,7 @@ fn code_byte(kind: u16) -> Option<(usize, &'static [u8], &'static [u8])> {
     }
 }
 
-fn command_offset(kind: u16) -> Option<usize> {
+pub(crate) fn command_offset(kind: u16) -> Option<usize> {
     match kind {
         COMPACT => Some(2),
         0 => Some(4),
@@ -263,7 +263,7 @@ fn reset_offset(block: &[u8], kind: u16) -> Option<usize> {
     (offset < block.len()).then_some(offset)
 }
 
-fn wrong_connection(random: &mut Random, chip: u16) -> u16 {
+pub(crate) fn wrong_connection(random: &mut Random, chip: u16) -> u16 {
     loop {
         let (near, any) = (random.word() & 0x8F1F, random.word());
         let connection = random.pick(&[near, any, 0x0002, 0x0400, 0x0900, 0x8800]);
@@ -274,7 +274,7 @@ fn wrong_connection(random: &mut Random, chip: u16) -> u16 {
 }
 
 /// A number that is no chip's, often close to one.
-fn chip(random: &mut Random) -> u16 {
+pub(crate) fn chip(random: &mut Random) -> u16 {
     loop {
         let (near, any) = (random.pick(&CHIPS) ^ 1 << random.below(16), random.word());
         let chip = random.pick(&[near, any, 0, 21040, 21144]);
@@ -284,7 +284,7 @@ fn chip(random: &mut Random) -> u16 {
     }
 }
 
-fn other_than(random: &mut Random, right: &[u8]) -> u8 {
+pub(crate) fn other_than(random: &mut Random, right: &[u8]) -> u8 {
     loop {
         let (near, any) = (random.below(8) as u8, random.byte());
         let other = random.pick(&[near, any]);
@@ -295,6 +295,6 @@ fn other_than(random: &mut Random, right: &[u8]) -> u8 {
 }
 
 /// A number from the first to the last.
-fn between(random: &mut Random, first: usize, last: usize) -> usize {
+pub(crate) fn between(random: &mut Random, first: usize, last: usize) -> usize {
     first + random.below(last - first + 1)
 }

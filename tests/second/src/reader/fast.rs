@@ -1,8 +1,8 @@
 //! The same reading with the CRCs by table, in one pass over the leaf and without allocation.
 
 use super::{
-    Answer, Arguments, LEAF_LIMIT, MOST_BLOCKS, NO_DEFAULT, RESET, Refusal, block, first_block,
-    header, is_version, refuse_if, word,
+    Answer, Arguments, Block, LEAF_LIMIT, MOST_BLOCKS, NO_DEFAULT, RESET, Refusal, block,
+    first_block, header, is_version, refuse_if, word,
 };
 use crate::crc::{ID_CRC_OFFSET, IMAGE_LENGTH, SROM_CRC_OFFSET, fast};
 
@@ -44,7 +44,34 @@ fn leaf(
     shorter: usize,
     listed: &mut Listed,
 ) -> Result<Answer, Refusal> {
+    let mut entries = 0;
+    each_block(image, arguments, shorter, |_, block| {
+        if let Some(kind) = block.kind.filter(|_| block.is_listed()) {
+            listed[entries] = (kind, block.start as u16);
+            entries += 1;
+        }
+    })
+}
+
+/// Hands each accepted block on with its number, the first block first, also where a later cause
+/// refuses the leaf.
+pub(crate) fn each_block(
+    image: &[u8],
+    arguments: Arguments,
+    shorter: usize,
+    take: impl FnMut(u8, &Block),
+) -> Result<Answer, Refusal> {
     frame(image)?;
+    each_block_unframed(image, arguments, shorter, take)
+}
+
+/// The same where the frame is known to be right (causes 1 to 4).
+pub(crate) fn each_block_unframed(
+    image: &[u8],
+    arguments: Arguments,
+    shorter: usize,
+    mut take: impl FnMut(u8, &Block),
+) -> Result<Answer, Refusal> {
     let header = header(image, arguments)?;
     refuse_if(shorter < usize::from(header.count), Refusal::ShortArray)?;
     let mut answer = Answer {
@@ -65,16 +92,14 @@ fn leaf(
         match block.kind {
             None => answer.skipped += 1,
             Some(RESET) => answer.resets += 1,
-            Some(kind) => {
-                listed[usize::from(answer.listed)] = (kind, start as u16);
-                answer.listed += 1;
-            }
+            Some(_) => answer.listed += 1,
         }
         if block.is_default {
             answer.default_number = number;
             defaults += 1;
         }
         resets_phy |= block.resets_phy;
+        take(number, &block);
         start += block.size;
     }
     refuse_if(

@@ -1,0 +1,101 @@
+-- A reached walk stands on no block or on an entry: a default is listed, and so is every candidate. Assumes nothing.
+use Prim.Native.Nat.{ℕ, zero, suc}
+use native.Mathlib.Nat.{zero-add}
+use mathlib.Core.List.{List, []}
+use mathlib.Core.Path.{_≡_, refl, _∙_}
+use mathlib.Core.Bool.{Bool, true, false, _&&_}
+use mathlib.Core.Logic.{_⊎_, inl, inr}
+use lib.Dec.{eqb}
+use lib.ListN.{getD}
+use Rattle.rom.specs.Bytes.{pick}
+use Rattle.rom.specs.Refusal.{firstMet}
+use Rattle.reader.specs.declared.Arguments.{Arguments}
+use Rattle.reader.specs.Leaf.{isListed, isDefault, firstFrom}
+use Rattle.reader.specs.Reading.{rowFor, blocksFor, acceptedAnswer}
+use Rattle.autosense.specs.declared.Walk.{Walk}
+use Rattle.autosense.specs.Walk.{none, flags, flagAt, isUp, rowsOf, freshWalk, loadedWalk, lastBelow, stays, isCandidate, firstUp, upIn, choice, chosen, stepped, lookCauses, loadCauses, walkedTo, loadFor, lookFor, clearFor}
+use Rattle.autosense.specs.Claims.{Reached, fresh, load, look, clear, StandsOnEntry}
+use Rattle.autosense.proofs.Numbered.{Found, found, absent, at, block-at, default-listed, flag-block}
+
+-- no block, or one that is listed
+abbrev OnEntry : List ℕ → ℕ → Type 0
+OnEntry listed x = (x ≡ none) ⊎ (flagAt listed x ≡ true)
+
+record Stands (w : Walk) : Type 0 where
+  selected : OnEntry (w .listed) (w .selected)
+  «default» : OnEntry (w .listed) (w .«default_number»)
+
+-- ## A candidate is listed
+
+both-true : (x y : Bool) → (x && y) ≡ true → x ≡ true
+both-true true y e = refl
+both-true false y e = e
+
+last-on : (listed : List ℕ) (p : ℕ → Bool) → ((k : ℕ) → p k ≡ true → flagAt listed k ≡ true) → (n : ℕ) → OnEntry listed (lastBelow p n)
+unfolding lastBelow pick
+last-on listed p h zero = inl refl
+last-on listed p h (suc n) = go (p n) refl (last-on listed p h n)
+  where
+    go : (t : Bool) → p n ≡ t → OnEntry listed (lastBelow p n) → OnEntry listed (pick t n (lastBelow p n))
+    go true e ih = inr (h n e)
+    go false e ih = ih
+
+up-on : (w : Walk) (report : List ℕ) → OnEntry (w .listed) (upIn w report)
+unfolding upIn firstUp isCandidate
+up-on w report =
+    last-on (w .listed) _
+    (λ k e. both-true (flagAt (w .listed) k) _ (both-true (isCandidate (w .listed) (w .«active_invalid») (w .settled) k) (isUp report k) e)) (w .blocks)
+
+-- ## A default is listed
+
+default-on : (row level : ℕ) (bs : List (List ℕ)) → OnEntry (flags (isListed row level) bs) (firstFrom (isDefault row level) 0 bs)
+default-on row level bs = go (firstFrom (isDefault row level) 0 bs) (found (isDefault row level) 0 bs)
+  where
+    go : (d : ℕ) → Found (isDefault row level) 0 bs d → OnEntry (flags (isListed row level) bs) d
+    go d absent = inl refl
+    go d (at j q b) =
+        let t = block-at (isDefault row level) (isListed row level) bs j b in
+        let e : d ≡ j = q ∙ zero-add j in
+        inr (rw e (flag-block (isListed row level) bs j ∙ t .1 ∙ default-listed row level (getD bs j []) (t .0)))
+
+-- ## Calls
+
+stands-fresh : Stands freshWalk
+unfolding freshWalk
+stands-fresh = record { selected = inl refl; «default» = inl refl }
+
+module _ (w : Walk) (s : Stands w) where
+  stands-load : (image : List ℕ) (a : Arguments) → Stands (loadFor w image a .walk)
+  unfolding loadFor walkedTo loadedWalk rowsOf acceptedAnswer pick
+  stands-load image a = go (eqb (firstMet (loadCauses w image a)) 0)
+    where
+      go : (t : Bool) → Stands (pick t (loadedWalk image a) w)
+      go true = record { selected = inl refl; «default» = default-on (rowFor a) (a .level) (blocksFor image a) }
+      go false = s
+
+  chosen-on : (report : List ℕ) → OnEntry (w .listed) (chosen w report .selected)
+  unfolding chosen pick
+  chosen-on report = go (stays w report) (eqb (upIn w report) none)
+    where
+      go : (t u : Bool) → OnEntry (w .listed) (pick t (choice (w .settled) (w .selected)) (pick u (choice (w .settled) (w .«default_number»)) (choice true (upIn w report))) .selected)
+      go true u = s .selected
+      go false true = s .«default»
+      go false false = up-on w report
+
+  stands-look : (report : List ℕ) → Stands (lookFor w report .walk)
+  unfolding lookFor walkedTo stepped pick
+  stands-look report = go (eqb (firstMet (lookCauses w report)) 0)
+    where
+      go : (t : Bool) → Stands (pick t (stepped w report) w)
+      go true = record { selected = chosen-on report; «default» = s .«default» }
+      go false = s
+
+stands : (w : Walk) → Reached w → Stands w
+unfolding clearFor
+stands u fresh = stands-fresh
+stands u (load {w} image a r) = stands-load w (stands w r) image a
+stands u (look {w} report r) = stands-look w (stands w r) report
+stands u (clear r) = stands-fresh
+
+pub stands-on-entry : StandsOnEntry
+stands-on-entry w r = stands w r .selected

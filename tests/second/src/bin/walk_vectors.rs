@@ -1,0 +1,212 @@
+//! Writes 300 records, each an image, the arguments to load it with and a list of calls, to one
+//! file, and to another what each call must answer: `walk_vectors INPUT OUTPUT`.
+//!
+//! A record has the chip (a word, low byte first), the controller, the level, the image, how many
+//! calls follow, and these: 0 a load, 1 a clear, 2 a look, which the report's length and the report
+//! follow.
+
+use second::calls::{self, Call, Habits};
+use second::cases::cases;
+use second::images::{Card, DAMAGES, Image, Sample};
+use second::random::Random;
+use second::reader::Arguments;
+use second::walk::{Autosense, NONE};
+use std::{env, fs, io, process};
+
+const RECORD_COUNT: usize = 300;
+const DAMAGED_COUNT: usize = 3;
+const MOST_CALLS: usize = 12;
+
+/// The longest report whose length fits a byte.
+const LONGEST_REPORT: usize = 255;
+
+/// An image and a list of calls that load it.
+struct Record {
+    image: Image,
+    arguments: Arguments,
+    list: Vec<Call>,
+}
+
+fn main() -> io::Result<()> {
+    let arguments: Vec<_> = env::args_os().skip(1).collect();
+    let [input, output] = arguments.as_slice() else {
+        eprintln!("usage: walk_vectors INPUT OUTPUT");
+        process::exit(2);
+    };
+    let records = records();
+    let bytes: Vec<_> = records.iter().flat_map(Record::bytes).collect();
+    let lines: String = records.iter().map(Record::lines).collect();
+    fs::write(input, bytes)?;
+    fs::write(output, lines)
+}
+
+/// Case k of document 01, lists on the cases before it and on the longest leaf, each field damaged,
+/// and valid cards at all levels, most of which looks serve.
+fn records() -> Vec<Record> {
+    let mut random = Random::new(1);
+    let mut records = case_k();
+    for case in cases() {
+        let list = list(&mut random, &case.image, case.arguments);
+        records.push(Record {
+            image: case.image,
+            arguments: case.arguments,
+            list,
+        });
+    }
+    let oldest = Arguments {
+        chip: 21041,
+        controller: 0,
+        level: 0,
+    };
+    let mut samples = vec![Sample {
+        card: Card::longest(&mut random),
+        arguments: oldest,
+    }];
+    for number in DAMAGES {
+        samples.extend((0..DAMAGED_COUNT).map(|_| Sample::damaged(&mut random, number)));
+    }
+    while records.len() + samples.len() < RECORD_COUNT {
+        samples.push(calls::sample(&mut random));
+    }
+    for sample in samples {
+        let image = sample.card.image();
+        let list = list(&mut random, &image, sample.arguments);
+        records.push(Record {
+            image,
+            arguments: sample.arguments,
+            list,
+        });
+    }
+    records
+}
+
+/// "k b, reports 000, 101, 100", under 0x0800 and under 0x8800.
+fn case_k() -> Vec<Record> {
+    let case = &cases()[1];
+    let sia = |code| vec![0x86, 0x02, code, 0x01, 0x00, 0x02, 0x00];
+    let blocks = vec![sia(0), vec![0x81, 0x09], sia(1)];
+    let reports = [[0, 0, 0], [1, 0, 1], [1, 0, 0]];
+    let looks = reports.map(|report| Call::Look(report.to_vec()));
+    let list = [&[Call::Load], looks.as_slice()].concat();
+    let record = |connection| Record {
+        image: Card::tidy(21143, connection, blocks.clone()).image(),
+        arguments: case.arguments,
+        list: list.clone(),
+    };
+    vec![record(0x0800), record(0x8800)]
+}
+
+/// A list of up to twelve calls whose reports are no longer than a byte can say.
+fn list(random: &mut Random, image: &Image, arguments: Arguments) -> Vec<Call> {
+    let blocks = calls::block_count(image, arguments);
+    let length = 1 + random.below(MOST_CALLS);
+    let mut list = Habits::new(random, blocks).list(random, length);
+    for call in &mut list {
+        if let Call::Look(report) = call {
+            report.truncate(LONGEST_REPORT);
+        }
+    }
+    list
+}
+
+impl Record {
+    fn bytes(&self) -> Vec<u8> {
+        let mut bytes = self.arguments.chip.to_le_bytes().to_vec();
+        bytes.extend([self.arguments.controller, self.arguments.level]);
+        bytes.extend(self.image);
+        bytes.push(self.list.len() as u8);
+        for call in &self.list {
+            match call {
+                Call::Load => bytes.push(0),
+                Call::Clear => bytes.push(1),
+                Call::Look(report) => {
+                    bytes.extend([2, report.len() as u8]);
+                    bytes.extend(report);
+                }
+            }
+        }
+        bytes
+    }
+
+    /// For each call its number and the walk after it: fresh, or settled or not, the selected
+    /// block, looks and switches.
+    fn lines(&self) -> String {
+        let mut walk = Autosense::default();
+        let line = |call: &Call| {
+            let number = match call {
+                Call::Load => walk.load(&self.image, self.arguments),
+                Call::Look(report) => walk.look(report),
+                Call::Clear => walk.clear(),
+            };
+            let walk = walk.walk();
+            if !walk.loaded {
+                return format!("{number} fresh\n");
+            }
+            let settled = if walk.settled { "settled" } else { "unsettled" };
+            let selected = match walk.selected {
+                NONE => "none".to_string(),
+                block => block.to_string(),
+            };
+            let (looks, switches) = (walk.looks, walk.switches);
+            format!("{number} {settled} {selected} {looks} {switches}\n")
+        };
+        self.list.iter().map(line).collect()
+    }
+}
+
+#[cfg(test)]
+mod tests {
+    use super::*;
+
+    /// "none, block 2, block 0, 2 switches; under 0x8800: none, 2, 2, 1 switch", in the form of
+    /// lines.
+    #[test]
+    fn lines_of_case_k() {
+        let [plain, power_up_only] = &case_k()[..] else {
+            panic!("case k has two records");
+        };
+        assert_eq!(plain.image, cases()[1].image);
+        assert_eq!(
+            plain.lines(),
+            "0 unsettled none 0 0\n\
+             0 unsettled none 1 0\n\
+             0 settled 2 2 1\n\
+             0 settled 0 3 2\n"
+        );
+        assert_eq!(
+            power_up_only.lines(),
+            "0 unsettled none 0 0\n\
+             0 unsettled none 1 0\n\
+             0 settled 2 2 1\n\
+             0 settled 2 3 1\n"
+        );
+    }
+
+    /// "Why a call is refused": the records meet the refusals of load and look, but for 1, 12 and
+    /// 23, and every form of a line.
+    #[test]
+    fn every_refusal() {
+        let records = records();
+        assert_eq!(records.len(), RECORD_COUNT);
+        let lists = records.iter().map(|record| record.list.len());
+        assert!(
+            lists
+                .clone()
+                .all(|length| (1..=MOST_CALLS).contains(&length))
+        );
+        let lines: String = records.iter().map(Record::lines).collect();
+        assert_eq!(lines.lines().count(), lists.sum());
+        let met = |number: u8| {
+            let start = format!("{number} ");
+            lines.lines().any(|line| line.starts_with(&start))
+        };
+        let numbers = (0..=23).filter(|&number| met(number));
+        let expected = (0..=22).filter(|number| ![1, 12].contains(number));
+        assert!(numbers.eq(expected));
+        for form in ["0 fresh", "0 settled none", "0 unsettled none"] {
+            assert!(lines.contains(form), "{form}");
+        }
+        let many = lines.lines().filter(|line| line.starts_with("0 settled"));
+        assert!(many.count() > 300);
+    }
+}

@@ -1,0 +1,199 @@
+//! Lists of calls to walk with: loads, looks with reports of every sort, and clears.
+
+use crate::images::damage::{command_offset, kind};
+use crate::images::{Card, DAMAGES, Sample};
+use crate::random::Random;
+use crate::reader::{ACTIVE_INVALID, Arguments, DEFAULT, header_size};
+
+/// A call of a list. A load takes the image and the arguments that go with the list.
+#[derive(Debug, Clone, PartialEq, Eq)]
+pub enum Call {
+    Load,
+    Look(Vec<u8>),
+    Clear,
+}
+
+/// How a list's calls are drawn.
+#[derive(Debug, Clone, Copy)]
+pub struct Habits {
+    /// The blocks that right reports speak of.
+    pub blocks: usize,
+    /// One block in so many is up.
+    pub rarity: usize,
+}
+
+impl Habits {
+    pub fn new(random: &mut Random, blocks: usize) -> Self {
+        let rarity = random.pick(&[1, 2, 2, 3, 4, blocks.max(1), 3 * blocks.max(1)]);
+        Self { blocks, rarity }
+    }
+
+    /// Mostly a look, and more loads than clears, so that most looks are at a loaded walk.
+    pub fn call(&self, random: &mut Random) -> Call {
+        match random.below(24) {
+            0..4 => Call::Load,
+            4 => Call::Clear,
+            _ => Call::Look(self.report(random)),
+        }
+    }
+
+    /// A list that starts with a load more often than not.
+    pub fn list(&self, random: &mut Random, length: usize) -> Vec<Call> {
+        let mut list: Vec<_> = (0..length).map(|_| self.call(random)).collect();
+        if let (Some(first), true) = (list.first_mut(), random.below(8) > 0) {
+            *first = Call::Load;
+        }
+        list
+    }
+
+    /// A report: right and as long as the blocks, longer with any bytes after them, all down, too
+    /// short, or with a byte that is neither 0 nor 1.
+    pub fn report(&self, random: &mut Random) -> Vec<u8> {
+        let mut report = self.links(random);
+        match random.below(12) {
+            0 => report.fill(0),
+            1 | 2 => {
+                let most = random.pick(&[1, 4, 300]);
+                let more = 1 + random.below(most);
+                report.extend(random.row(more));
+            }
+            3 => report.truncate(random.below(self.blocks + 1)),
+            4 => {
+                report.pop();
+            }
+            5 if self.blocks > 0 => {
+                let any = random.below(self.blocks);
+                let place = random.pick(&[0, self.blocks - 1, any]);
+                report[place] = random.pick(&[2, 3, 128, 254, 255]);
+            }
+            _ => {}
+        }
+        report
+    }
+
+    /// A byte for each block: 1 link up, 0 down.
+    pub fn links(&self, random: &mut Random) -> Vec<u8> {
+        let link = |_| u8::from(random.one_in(self.rarity));
+        (0..self.blocks).map(link).collect()
+    }
+}
+
+/// The arguments of a list's loads, and a card for them that is mostly accepted and served.
+pub fn sample(random: &mut Random) -> Sample {
+    let mut sample = match random.below(16) {
+        0 => {
+            let number = random.pick(&DAMAGES);
+            return Sample::damaged(random, number);
+        }
+        1 => Sample {
+            card: Card::longest(random),
+            arguments: Arguments {
+                chip: 21041,
+                controller: 0,
+                level: random.below(7) as u8,
+            },
+        },
+        _ => Sample::valid(random),
+    };
+    if !random.one_in(16) {
+        serve(random, &mut sample.card);
+    }
+    mark(random, &mut sample.card);
+    sample.arguments.level = random.pick(&[0, 1, 2, 3, 4, 5, 6, 6, 6, 6, 6, 6]);
+    sample
+}
+
+/// Gives every leaf a connection type that looks serve.
+pub fn serve(random: &mut Random, card: &mut Card) {
+    for leaf in &mut card.leaves {
+        let served = match leaf.chip {
+            21041 => [0x0800, 0x0900],
+            _ => [0x0800, 0x8800],
+        };
+        leaf.connection = random.pick(&served);
+    }
+}
+
+/// Sets Active_Invalid in some of the media that have a command, with or without the default bit.
+pub fn mark(random: &mut Random, card: &mut Card) {
+    for leaf in &mut card.leaves {
+        let chip = leaf.chip;
+        for block in &mut leaf.blocks {
+            let Some(offset) = command_offset(kind(block, chip)) else {
+                continue;
+            };
+            let high_byte = &mut block[offset + 1];
+            if random.one_in(3) {
+                *high_byte |= (ACTIVE_INVALID >> 8) as u8;
+            }
+            if random.one_in(4) {
+                *high_byte &= !((DEFAULT >> 8) as u8);
+            }
+        }
+    }
+}
+
+/// How many blocks the leaf that the arguments name counts; 0 where they name none.
+pub fn block_count(image: &[u8], arguments: Arguments) -> usize {
+    let count = || {
+        let controller = 26 + 3 * usize::from(arguments.controller);
+        let leaf = u16::from_le_bytes([*image.get(controller + 1)?, *image.get(controller + 2)?]);
+        image.get(usize::from(leaf) + header_size(arguments.chip) - 1)
+    };
+    count().copied().unwrap_or(0).into()
+}
+
+#[cfg(test)]
+mod tests {
+    use super::*;
+    use crate::walk::Autosense;
+
+    /// "From the state, before any from the input": the lists meet each refusal of load and look
+    /// but 12 and 23, and mostly acceptance.
+    #[test]
+    fn every_refusal() {
+        let mut random = Random::new(1);
+        let (mut loads, mut looks) = ([0; 24], [0; 24]);
+        for _ in 0..10_000 {
+            let sample = sample(&mut random);
+            let image = sample.card.image();
+            let blocks = block_count(&image, sample.arguments);
+            let habits = Habits::new(&mut random, blocks);
+            let mut walk = Autosense::default();
+            for call in habits.list(&mut random, 12) {
+                match call {
+                    Call::Load => loads[usize::from(walk.load(&image, sample.arguments))] += 1,
+                    Call::Look(report) => looks[usize::from(walk.look(&report))] += 1,
+                    Call::Clear => assert_eq!(walk.clear(), 0),
+                }
+            }
+        }
+        let met = |often: [usize; 24]| (0..24).filter(move |&number| often[number] > 10);
+        assert!(met(loads).eq((0..=11).chain(13..=18).chain([21]).filter(|&it| it != 1)));
+        assert!(met(looks).eq([0, 19, 20, 22]));
+        assert!(looks[0] > 50_000, "{looks:?}");
+    }
+
+    /// "command bit 15 is Active_Invalid, 14 Default": marked cards hold media with either and
+    /// both, and stay accepted.
+    #[test]
+    fn marked_cards() {
+        let mut random = Random::new(2);
+        let mut top_bits = [0; 4];
+        for _ in 0..5_000 {
+            let mut sample = Sample::valid(&mut random);
+            serve(&mut random, &mut sample.card);
+            mark(&mut random, &mut sample.card);
+            let number = Autosense::default().load(&sample.card.image(), sample.arguments);
+            assert_eq!(number, 0, "{sample:02x?}");
+            for leaf in &sample.card.leaves {
+                for block in &leaf.blocks {
+                    if let Some(offset) = command_offset(kind(block, leaf.chip)) {
+                        top_bits[usize::from(block[offset + 1] >> 6)] += 1;
+                    }
+                }
+            }
+        }
+        assert!(top_bits.iter().all(|&often| often > 500), "{top_bits:?}");
+    }
+}

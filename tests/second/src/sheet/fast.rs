@@ -1,0 +1,151 @@
+//! The same writer and maker with the CRCs by table, in few passes and without allocation.
+
+use super::{
+    ADDRESS, CHIP, CONNECTION, CONTROL, COUNT, DEVICE, ID, KINDS, LONGEST_BODY, MAKER, Made,
+    TIDY_LEAF, TOTAL, VERSION, newest,
+};
+use crate::crc::{ID_CRC_OFFSET, IMAGE_LENGTH, SROM_CRC_OFFSET, fast::id_crc, fast::srom_crc};
+use crate::reader::fast::{each_block, each_block_unframed};
+use crate::reader::{
+    CHIPS, COMPACT, EXT, EXTENDED, LEAF_LIMIT, MEDIA_21041, Refusal, first_block, header_size,
+    is_version, kind, refuse_if, word,
+};
+
+type Image = [u8; IMAGE_LENGTH];
+
+/// [`super::write`] without allocation.
+pub fn write(sheet: &[u8], image: &mut [u8]) -> u8 {
+    let written = try_write(sheet, image.len());
+    if let Ok(written) = &written {
+        image.copy_from_slice(written);
+    }
+    Refusal::number(&written)
+}
+
+/// [`super::make`] without allocation.
+pub fn make(image: &[u8], chip: u16, buffer: &mut [u8]) -> Made {
+    let made = try_make(image, chip, buffer);
+    Made {
+        number: Refusal::number(&made),
+        length: made.unwrap_or(0),
+    }
+}
+
+fn try_write(sheet: &[u8], image_length: usize) -> Result<Image, Refusal> {
+    refuse_if(sheet.len() < KINDS, Refusal::SheetLengthOrSum)?;
+    let (count, total) = (usize::from(sheet[COUNT]), usize::from(sheet[TOTAL]));
+    let bodies = KINDS + 3 * count;
+    refuse_if(sheet.len() != bodies + total, Refusal::SheetLengthOrSum)?;
+    let sizes = &sheet[KINDS + 2 * count..bodies];
+    let sum: usize = sizes.iter().map(|&size| usize::from(size)).sum();
+    refuse_if(sum != total, Refusal::SheetLengthOrSum)?;
+    refuse_if(image_length != IMAGE_LENGTH, Refusal::ImageLength)?;
+    let chip = word(sheet, CHIP);
+    refuse_if(!CHIPS.contains(&chip), Refusal::Chip)?;
+    let mut image = head(sheet, chip);
+    let end = lay_blocks(sheet, chip, &mut image)?;
+    refuse_if(end > LEAF_LIMIT, Refusal::LeafPastLimit)?;
+    refuse_if(!is_version(&image), Refusal::Version)?;
+    image[ID_CRC_OFFSET] = id_crc(&image).value as u8;
+    let stored = srom_crc(&image).value.to_le_bytes();
+    image[SROM_CRC_OFFSET..].copy_from_slice(&stored);
+    each_block_unframed(&image, newest(chip), usize::MAX, |_, _| {})?;
+    Ok(image)
+}
+
+/// All that the sheet says of the image but for the blocks and the CRCs.
+fn head(sheet: &[u8], chip: u16) -> Image {
+    let mut image = [0; IMAGE_LENGTH];
+    image[..16].copy_from_slice(&sheet[ID..ID + 16]);
+    image[17] = sheet[ID + 16];
+    image[18] = sheet[VERSION];
+    image[19] = 1;
+    image[20..27].copy_from_slice(&sheet[ADDRESS..=DEVICE]);
+    image[27] = TIDY_LEAF as u8;
+    image[TIDY_LEAF..TIDY_LEAF + 2].copy_from_slice(&sheet[CONNECTION..CONNECTION + 2]);
+    if chip == 21140 {
+        image[TIDY_LEAF + 2] = sheet[CONTROL];
+    }
+    image[TIDY_LEAF + header_size(chip) - 1] = sheet[COUNT];
+    image[LEAF_LIMIT..SROM_CRC_OFFSET].copy_from_slice(&sheet[MAKER..MAKER + 2]);
+    image
+}
+
+/// Lays the blocks into the image as far as they fit, and answers where the leaf ends.
+fn lay_blocks(sheet: &[u8], chip: u16, image: &mut Image) -> Result<usize, Refusal> {
+    refuse_if(chip != 21140 && sheet[CONTROL] != 0, Refusal::KindOrBody)?;
+    let count = usize::from(sheet[COUNT]);
+    let (mut end, mut start) = (TIDY_LEAF + header_size(chip), KINDS + 3 * count);
+    for number in 0..count {
+        let kind = word(sheet, KINDS + 2 * number);
+        let size = usize::from(sheet[KINDS + 2 * count + number]);
+        let body = &sheet[start..start + size];
+        start += size;
+        refuse_if(has_wrong_form(kind, body, chip), Refusal::KindOrBody)?;
+        let opening = if kind < COMPACT { 2 } else { 0 };
+        if let Some(place) = image[..LEAF_LIMIT].get_mut(end..end + opening + size) {
+            if opening == 2 {
+                place[0] = EXTENDED | (1 + size) as u8;
+                place[1] = kind as u8;
+            }
+            place[opening..].copy_from_slice(body);
+        }
+        end += opening + size;
+    }
+    Ok(end)
+}
+
+fn has_wrong_form(kind: u16, body: &[u8], chip: u16) -> bool {
+    match kind {
+        MEDIA_21041 if chip == 21041 => match body {
+            [code] => code & EXT != 0,
+            [code, _, _, _, _, _, _] => code & EXT == 0,
+            _ => true,
+        },
+        COMPACT if chip != 21041 => body.len() != 4 || body[0] & EXTENDED != 0,
+        0..COMPACT if chip != 21041 => body.len() > LONGEST_BODY,
+        _ => true,
+    }
+}
+
+fn try_make(image: &[u8], chip: u16, buffer: &mut [u8]) -> Result<usize, Refusal> {
+    let first = TIDY_LEAF + header_size(chip);
+    let (mut end, mut total) = (first, 0);
+    let answer = each_block(image, newest(chip), usize::MAX, |_, block| {
+        end = block.start + block.size;
+        let is_extended = chip != 21041 && image[block.start] & EXTENDED != 0;
+        total += block.size - if is_extended { 2 } else { 0 };
+    })?;
+    let is_tidy = image[19] == 1
+        && word(image, 27) == TIDY_LEAF as u16
+        && image[end..LEAF_LIMIT].iter().all(|&byte| byte == 0);
+    refuse_if(!is_tidy, Refusal::NotTidy)?;
+    let count = usize::from(answer.blocks);
+    let length = KINDS + 3 * count + total;
+    let sheet = buffer.get_mut(..length).ok_or(Refusal::ShortArray)?;
+    sheet[COUNT] = answer.blocks;
+    sheet[TOTAL] = total as u8;
+    sheet[ID..ID + 16].copy_from_slice(&image[..16]);
+    sheet[ID + 16] = image[17];
+    sheet[VERSION] = image[18];
+    sheet[ADDRESS..=DEVICE].copy_from_slice(&image[20..27]);
+    sheet[CHIP..CHIP + 2].copy_from_slice(&chip.to_le_bytes());
+    sheet[CONNECTION..CONNECTION + 2].copy_from_slice(&answer.connection.to_le_bytes());
+    sheet[CONTROL] = answer.control;
+    sheet[MAKER..KINDS].copy_from_slice(&image[LEAF_LIMIT..SROM_CRC_OFFSET]);
+    let (kinds, rest) = sheet[KINDS..].split_at_mut(2 * count);
+    let (sizes, mut bodies) = rest.split_at_mut(count);
+    let mut rest = &image[first..LEAF_LIMIT];
+    for (place, size) in kinds.chunks_exact_mut(2).zip(sizes) {
+        let block = first_block(rest, chip).expect("an accepted block ends before the limit");
+        rest = &rest[block.len()..];
+        let kind = kind(block, chip).expect("an accepted extended block has a type");
+        let body = &block[if kind < COMPACT { 2 } else { 0 }..];
+        place.copy_from_slice(&kind.to_le_bytes());
+        *size = body.len() as u8;
+        let (laid, later) = bodies.split_at_mut(body.len());
+        laid.copy_from_slice(body);
+        bodies = later;
+    }
+    Ok(length)
+}

@@ -1,0 +1,424 @@
+use super::*;
+use crate::images::{Card, DAMAGES, Leaf, Sample, block};
+use crate::random::Random;
+use crate::sheets::{SHEET_DAMAGES, Sheet};
+
+const PATTERN: u8 = 0xA5;
+
+/// More bytes than any sheet of an accepted image has.
+const ROOMY: usize = 500;
+
+/// What the writer answers, and the image if it accepts; otherwise the image is checked to be
+/// unchanged.
+fn written(sheet: &[u8]) -> Result<[u8; IMAGE_LENGTH], u8> {
+    let mut image = [PATTERN; IMAGE_LENGTH];
+    match write(sheet, &mut image) {
+        0 => Ok(image),
+        number => {
+            assert_eq!(image, [PATTERN; IMAGE_LENGTH]);
+            Err(number)
+        }
+    }
+}
+
+/// What the maker answers into a buffer of so many bytes, and the sheet if it accepts; the bytes
+/// past it are checked to be unchanged, and all of them where it refuses.
+fn made_in(image: &[u8], chip: u16, length: usize) -> Result<Vec<u8>, u8> {
+    let mut buffer = vec![PATTERN; length];
+    let made = make(image, chip, &mut buffer);
+    assert!(buffer[made.length..].iter().all(|&byte| byte == PATTERN));
+    match made.number {
+        0 => Ok(buffer[..made.length].to_vec()),
+        number => {
+            assert_eq!(made.length, 0);
+            Err(number)
+        }
+    }
+}
+
+fn made(image: &[u8], chip: u16) -> Result<Vec<u8>, u8> {
+    made_in(image, chip, ROOMY)
+}
+
+/// A sheet, worked out by hand, with four blocks: extended ones without length and type, a compact
+/// one whole, an unknown one without body.
+#[rustfmt::skip]
+const WORKED_SHEET: [u8; 66] = [
+    // Four blocks, 20 body bytes.
+    4, 20,
+    // ID bytes 0 to 15, and 17.
+    0x11, 0x10, 0x0B, 0x50, 0, 0, 0, 0, 0, 0, 0, 0, 0, 0, 0, 0, 0x20,
+    // Version, address, device number.
+    3, 0x00, 0x00, 0xF8, 0x12, 0x34, 0x56, 5,
+    // Chip 21140, autosense, control byte, the maker's bytes.
+    0x94, 0x52, 0x00, 0x08, 0x1F, 0x4D, 0x4B,
+    // Kinds: compact, type 1, type 9, type 0.
+    0x00, 0x01, 0x01, 0x00, 0x09, 0x00, 0x00, 0x00,
+    // Sizes.
+    4, 12, 0, 4,
+    // The compact block, the default.
+    0x00, 0x1B, 0x8E, 0x40,
+    // Type 1: PHY 0, one byte of select sequence, no reset sequence, four words.
+    0x00, 0x01, 0x08, 0x00, 0x00, 0x78, 0xE0, 0x01, 0x00, 0x50, 0x00, 0x18,
+    // Type 0.
+    0x03, 0x09, 0x61, 0x80,
+];
+
+/// The image of the worked sheet up to the leaf's last byte, but for the ID CRC: "n = 1, the leaf
+/// at 30".
+#[rustfmt::skip]
+const WORKED_IMAGE: [u8; 60] = [
+    0x11, 0x10, 0x0B, 0x50, 0, 0, 0, 0, 0, 0, 0, 0, 0, 0, 0, 0, 0, 0x20,
+    3, 1, 0x00, 0x00, 0xF8, 0x12, 0x34, 0x56, 5, 30, 0, 0,
+    0x00, 0x08, 0x1F, 4,
+    0x00, 0x1B, 0x8E, 0x40,
+    0x8D, 0x01, 0x00, 0x01, 0x08, 0x00, 0x00, 0x78, 0xE0, 0x01, 0x00, 0x50, 0x00, 0x18,
+    0x81, 0x09,
+    0x85, 0x00, 0x03, 0x09, 0x61, 0x80,
+];
+
+/// "Sizes first ... From 34, two parallel arrays ... Then the bodies in that order"; "both CRCs,
+/// and zeros elsewhere". The CRCs were worked out apart: zlib's CRC-32 and a polynomial division.
+#[test]
+fn worked_sheet() {
+    let mut image = [0; IMAGE_LENGTH];
+    image[..60].copy_from_slice(&WORKED_IMAGE);
+    image[124..].copy_from_slice(&[0x4D, 0x4B, 0xE2, 0x01]);
+    image[16] = 0x34;
+    assert_eq!(written(&WORKED_SHEET), Ok(image));
+    assert_eq!(made(&image, 21140), Ok(WORKED_SHEET.to_vec()));
+    assert_eq!(made_in(&image, 21140, 66), Ok(WORKED_SHEET.to_vec()));
+    assert_eq!(made_in(&image, 21140, 65), Err(12));
+    // For another chip the block count is no count, but opens a compact block.
+    assert_eq!(made(&image, 21143), Err(14));
+}
+
+/// "24 sheet length or sum": of all values of the sizes one will do, and of all lengths one.
+#[test]
+fn sizes_and_sums() {
+    for offset in [0, 1, 42, 43, 44, 45] {
+        for value in 0..=255 {
+            let mut sheet = WORKED_SHEET;
+            sheet[offset] = value;
+            let expected = (value != WORKED_SHEET[offset]).then_some(24);
+            assert_eq!(written(&sheet).err(), expected, "{value} at {offset}");
+        }
+    }
+    let longer = [WORKED_SHEET.as_slice(), &[0; 300]].concat();
+    for length in 0..longer.len() {
+        let expected = (length != WORKED_SHEET.len()).then_some(24);
+        assert_eq!(written(&longer[..length]).err(), expected, "{length}");
+    }
+    // Sizes whose sum is the total in the low eight bits only.
+    let mut sheet = Sheet::new(21143, 0x0800, &[]);
+    sheet.blocks = vec![(9, vec![0; 126]), (9, vec![0; 126]), (9, vec![0; 4])];
+    assert_eq!(sheet.bytes()[1], 0);
+    assert_eq!(written(&sheet.bytes()), Err(24));
+    let without_bodies = &sheet.bytes()[..34 + 9];
+    assert_eq!(written(without_bodies), Err(24));
+}
+
+/// "24 sheet length or sum, then 1 for its output, 7, then 25": every length of image but 128.
+#[test]
+fn image_lengths() {
+    let mut no_chip = WORKED_SHEET;
+    no_chip[27] += 1;
+    let mut wrong_sum = WORKED_SHEET;
+    wrong_sum[1] += 1;
+    for length in 0..300 {
+        let mut image = vec![PATTERN; length];
+        let is_right = length == IMAGE_LENGTH;
+        for (sheet, number) in [
+            (WORKED_SHEET, if is_right { 0 } else { 1 }),
+            (no_chip, if is_right { 7 } else { 1 }),
+            (wrong_sum, 24),
+        ] {
+            image.fill(PATTERN);
+            assert_eq!(write(&sheet, &mut image), number, "length {length}");
+            let is_unchanged = image.iter().all(|&byte| byte == PATTERN);
+            assert_eq!(is_unchanged, number != 0);
+        }
+    }
+}
+
+/// A sheet for the chip with one block of this kind and body.
+fn number_of(chip: u16, kind: u16, body: &[u8]) -> u8 {
+    let mut sheet = Sheet::new(chip, 0x0800, &[]);
+    sheet.blocks = vec![(kind, body.to_vec())];
+    written(&sheet.bytes()).err().unwrap_or(0)
+}
+
+/// "25 (kind over 257, a kind of the other family than the chip's": every kind for every chip. What
+/// is left to the reader is 14 and 15.
+#[test]
+fn kinds() {
+    for chip in CHIPS {
+        for kind in 0..=600 {
+            let number = number_of(chip, kind, &[0]);
+            let expected = match kind {
+                257 if chip == 21041 => 0,
+                0..=255 if chip != 21041 => match crate::reader::permitted_kinds(chip) {
+                    kinds if kinds.contains(&5) && kind == 5 => 0,
+                    kinds if kinds.contains(&kind) => 15,
+                    _ if kind < 6 => 14,
+                    _ => 0,
+                },
+                _ => 25,
+            };
+            assert_eq!(number, expected, "{chip} {kind}");
+        }
+        for kind in [0x0200, 0x0301, 0x8000, 0xFF00, 0xFFFF] {
+            assert_eq!(number_of(chip, kind, &[0]), 25);
+        }
+    }
+}
+
+/// "extended body over 126", where 126 bytes are still too many for the leaf: 26.
+#[test]
+fn extended_bodies() {
+    for size in 0..=255 {
+        let expected = match size {
+            0..=89 => 0,
+            90..=126 => 26,
+            _ => 25,
+        };
+        assert_eq!(number_of(21143, 9, &vec![0; size]), expected, "{size}");
+    }
+}
+
+/// "compact not 4 bytes or top bit set", also for chips whose reader would answer 14.
+#[test]
+fn compact_bodies() {
+    for (chip, otherwise) in [(21140, 0), (21142, 14), (21143, 14), (21145, 14)] {
+        for size in 0..=20 {
+            let expected = if size == 4 { otherwise } else { 25 };
+            assert_eq!(number_of(chip, 256, &vec![0; size]), expected, "{size}");
+        }
+        for code in 0x80..=0xFF {
+            assert_eq!(number_of(chip, 256, &[code, 0, 0, 0]), 25);
+        }
+        let wrong_code = if chip == 21140 { 16 } else { 14 };
+        assert_eq!(number_of(chip, 256, &[0x7F, 0, 0, 0]), wrong_code);
+    }
+}
+
+/// "21041 body not 1 or 7 as EXT says".
+#[test]
+fn media_bodies() {
+    for size in 0..=20 {
+        for code in [0x00, 0x40, 0x80, 0xC0] {
+            let mut body = vec![0; size];
+            if let Some(first) = body.first_mut() {
+                *first = code;
+            }
+            let right = if code & 0x40 == 0 { 1 } else { 7 };
+            let expected = match size == right {
+                true if code & 0x80 == 0 => 0,
+                true => 16,
+                false => 25,
+            };
+            assert_eq!(number_of(21041, 257, &body), expected, "{code:#x} {size}");
+        }
+    }
+}
+
+/// "control byte not 0 on a chip but the 21140".
+#[test]
+fn control_bytes() {
+    for chip in CHIPS {
+        for control in 0..=255 {
+            let mut sheet = Sheet::new(chip, 0x0800, &[]);
+            sheet.control = control;
+            let is_right = chip == 21140 || control == 0;
+            let expected = (!is_right).then_some(25);
+            assert_eq!(written(&sheet.bytes()).err(), expected);
+        }
+    }
+}
+
+/// "26 leaf past 123": the last byte at 123 is accepted and at 124 refused, and 26 comes after 25
+/// and before what the reader says.
+#[test]
+fn leaf_limits() {
+    for chip in CHIPS {
+        let places = 124 - 30 - header_size(chip);
+        for size in places - 5..places + 5 {
+            let blocks = match chip {
+                21041 => vec![vec![0]; size],
+                _ => vec![block::extended(9, &vec![0; size - 2])],
+            };
+            let mut sheet = Sheet::new(chip, 0x0800, &blocks);
+            let expected = (size > places).then_some(26);
+            assert_eq!(written(&sheet.bytes()).err(), expected, "{chip} {size}");
+            sheet.version = 7;
+            let expected = expected.unwrap_or(2);
+            assert_eq!(written(&sheet.bytes()), Err(expected), "{chip} {size}");
+            sheet.blocks.push((400, vec![]));
+            assert_eq!(written(&sheet.bytes()), Err(25), "{chip} {size}");
+        }
+    }
+}
+
+/// "A tidy image has n = 1, leaf at 30, zeros after the leaf's last byte up to 123": else 27, and
+/// 27 before 12.
+#[test]
+fn tidiness() {
+    let sia = block::sia(0, None, 1, 2);
+    let card = Card::tidy(21143, 0x0800, vec![sia.clone()]);
+    assert_eq!(
+        made(&card.image(), 21143).map(|it| it.len()),
+        Ok(34 + 3 + 5)
+    );
+    for offset in 40..124 {
+        let mut card = card.clone();
+        card.private[offset] = 1;
+        assert_eq!(made(&card.image(), 21143), Err(27), "{offset}");
+        assert_eq!(made_in(&card.image(), 21143, 0), Err(27), "{offset}");
+    }
+    for offset in 31..=114 {
+        let leaf = Leaf::new(offset, 21143, 0x0800, vec![sia.clone()]);
+        let card = Card::new(1, vec![leaf]);
+        assert_eq!(made(&card.image(), 21143), Err(27), "leaf at {offset}");
+    }
+    let leaf = Leaf::new(33, 21143, 0x0800, vec![sia]);
+    let card = Card::new(2, vec![leaf]);
+    assert_eq!(made(&card.image(), 21143), Err(27));
+    // Bytes that belong to the maker, and those of the ID block, may hold anything.
+    let mut card = Card::tidy(21041, 0x0800, vec![]);
+    card.private[..18].fill(0xFF);
+    card.maker = [1, 2];
+    let sheet = made(&card.image(), 21041).expect("it is tidy");
+    assert_eq!(sheet.len(), 34);
+    assert_eq!(sheet[2..19], [0xFF; 17]);
+    assert_eq!(sheet[32..], [1, 2]);
+}
+
+/// "it answers the sheet's length, and buffer bytes past it are unchanged"; "12 sheet buffer too
+/// short": every buffer's length, for the longest sheet.
+#[test]
+fn buffer_lengths() {
+    let image = Card::longest(&mut Random::new(1)).image();
+    let sheet = made(&image, 21041).expect("it is tidy");
+    assert_eq!(sheet.len(), 34 + 3 * 91 + 91);
+    for length in 0..=ROOMY {
+        let expected = if length < sheet.len() {
+            Err(12)
+        } else {
+            Ok(sheet.clone())
+        };
+        assert_eq!(made_in(&image, 21041, length), expected);
+    }
+}
+
+/// "Sheet maker: reader's numbers (12 apart)" at level 6 for controller 0: every damaged image is
+/// refused as the newest reader does, however short the buffer.
+#[test]
+fn refused_images() {
+    let mut random = Random::new(2);
+    for number in DAMAGES
+        .into_iter()
+        .filter(|number| ![6, 8, 9].contains(number))
+    {
+        let mut met = 0;
+        while met < 200 {
+            let mut sample = tidy_sample(&mut random);
+            if sample.damage(&mut random, number) {
+                let image = sample.card.image();
+                let length = random.pick(&[0, 34, ROOMY]);
+                assert_eq!(
+                    made_in(&image, sample.arguments.chip, length),
+                    Err(number),
+                    "{sample:02x?}"
+                );
+                met += 1;
+            }
+        }
+    }
+    let image = [PATTERN; 300];
+    for length in (0..300).filter(|&length| length != IMAGE_LENGTH) {
+        assert_eq!(made(&image[..length], 21143), Err(1));
+    }
+}
+
+/// A tidy card and the newest reader of it.
+fn tidy_sample(random: &mut Random) -> Sample {
+    let sheet = Sheet::valid(random);
+    Sample {
+        card: sheet.card(),
+        arguments: newest(sheet.chip),
+    }
+}
+
+/// "Writing a sheet and reading it returns that sheet", and the image is tidy, as the maker accepts
+/// it.
+#[test]
+fn return_of_the_sheet() {
+    let mut random = Random::new(3);
+    for _ in 0..20_000 {
+        let sheet = Sheet::valid(&mut random);
+        let bytes = sheet.bytes();
+        let image = written(&bytes).expect("a valid sheet");
+        assert_eq!(made_in(&image, sheet.chip, bytes.len()), Ok(bytes));
+    }
+}
+
+/// "making a sheet of a tidy image and writing it returns that image": of valid cards, and of those
+/// with changed bytes that are accepted still.
+#[test]
+fn return_of_the_image() {
+    let mut random = Random::new(4);
+    let mut met = 0;
+    for _ in 0..40_000 {
+        let sample = tidy_sample(&mut random);
+        let mut image = sample.card.image();
+        if random.one_in(2) {
+            image[random.below(124)] = random.byte();
+            lay_crcs(&mut image);
+        }
+        if let Ok(sheet) = made(&image, sample.arguments.chip) {
+            assert_eq!(written(&sheet), Ok(image), "{sample:02x?}");
+            met += 1;
+        }
+    }
+    assert!(met > 20_000, "only {met} images were accepted");
+}
+
+/// The form without allocation writes and makes alike.
+#[test]
+fn fast_equals_plain() {
+    let mut random = Random::new(5);
+    for round in 0..40_000 {
+        let mut sheet = match round % 3 {
+            0 => Sheet::valid(&mut random).bytes(),
+            _ => {
+                let number = random.pick(&SHEET_DAMAGES);
+                Sheet::damaged(&mut random, number)
+            }
+        };
+        if let (true, false) = (random.one_in(2), sheet.is_empty()) {
+            let place = random.below(sheet.len());
+            sheet[place] = random.byte();
+        }
+        let length = random.pick(&[IMAGE_LENGTH, IMAGE_LENGTH, IMAGE_LENGTH, 127, 0]);
+        let (mut image, mut fast_image) = (vec![PATTERN; length], vec![PATTERN; length]);
+        let number = write(&sheet, &mut image);
+        assert_eq!(fast::write(&sheet, &mut fast_image), number, "{sheet:02x?}");
+        assert_eq!(fast_image, image, "{sheet:02x?}");
+
+        let sample = match round % 3 {
+            0 => tidy_sample(&mut random),
+            1 => Sample::valid(&mut random),
+            _ => {
+                let number = random.pick(&DAMAGES);
+                Sample::damaged(&mut random, number)
+            }
+        };
+        let (image, chip) = (sample.card.image(), sample.arguments.chip);
+        let length = made(&image, chip).map_or(34, |sheet| sheet.len());
+        let length = random.pick(&[length, length, length - 1, ROOMY, 0]);
+        let (mut buffer, mut fast_buffer) = (vec![PATTERN; length], vec![PATTERN; length]);
+        let answer = make(&image, chip, &mut buffer);
+        assert_eq!(fast::make(&image, chip, &mut fast_buffer), answer);
+        assert_eq!(fast_buffer, buffer);
+    }
+}

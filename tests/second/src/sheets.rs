@@ -1,0 +1,212 @@
+//! Sheets to test with: a builder that lays every field as it is told, and random sheets that the
+//! writer accepts.
+
+mod damage;
+
+use crate::images::{self, Card, Controller, Leaf, TIDY_LEAF, block};
+use crate::random::Random;
+use crate::reader::{CHIPS, COMPACT, LEAF_LIMIT, header_size};
+
+/// The refusals that one damaged field of a sheet can cause, in the writer's order: all but the one
+/// for the image's length.
+pub const SHEET_DAMAGES: [u8; 11] = [24, 7, 25, 26, 2, 11, 14, 15, 16, 17, 18];
+
+/// All that a sheet says. The counts, sizes and sums are laid as the blocks have them.
+#[derive(Debug, Clone)]
+pub struct Sheet {
+    /// ID bytes 0 to 15 and 17.
+    pub id: [u8; 17],
+    pub version: u8,
+    pub address: u64,
+    pub device: u8,
+    pub chip: u16,
+    pub connection: u16,
+    pub control: u8,
+    pub maker: [u8; 2],
+    /// Kind and body of each block.
+    pub blocks: Vec<(u16, Vec<u8>)>,
+}
+
+impl Sheet {
+    /// A sheet with these whole blocks, and zeros in the fields that take any value.
+    pub fn new(chip: u16, connection: u16, blocks: &[Vec<u8>]) -> Self {
+        Self {
+            id: [0; 17],
+            version: 4,
+            address: 0,
+            device: 0,
+            chip,
+            connection,
+            control: 0,
+            maker: [0; 2],
+            blocks: blocks.iter().map(|block| body(block, chip)).collect(),
+        }
+    }
+
+    /// The sheet's bytes.
+    pub fn bytes(&self) -> Vec<u8> {
+        let sizes = self.blocks.iter().map(|(_, body)| body.len() as u8);
+        let sizes: Vec<_> = sizes.collect();
+        let total = sizes
+            .iter()
+            .fold(0, |sum: u8, &size| sum.wrapping_add(size));
+        let mut bytes = vec![self.blocks.len() as u8, total];
+        bytes.extend(self.id);
+        bytes.push(self.version);
+        bytes.extend(&self.address.to_be_bytes()[2..]);
+        bytes.push(self.device);
+        bytes.extend(self.chip.to_le_bytes());
+        bytes.extend(self.connection.to_le_bytes());
+        bytes.push(self.control);
+        bytes.extend(self.maker);
+        bytes.extend(self.blocks.iter().flat_map(|(kind, _)| kind.to_le_bytes()));
+        bytes.extend(sizes);
+        bytes.extend(self.blocks.iter().flat_map(|(_, body)| body));
+        bytes
+    }
+
+    /// The card whose image the writer must write.
+    pub fn card(&self) -> Card {
+        let mut leaf = Leaf::new(TIDY_LEAF, self.chip, self.connection, self.whole_blocks());
+        leaf.control = self.control;
+        let mut card = Card::new(1, vec![leaf]);
+        card.private[..16].copy_from_slice(&self.id[..16]);
+        card.private[17] = self.id[16];
+        card.version = self.version;
+        card.address = self.address;
+        card.controllers = vec![Controller {
+            device: self.device,
+            leaf_offset: TIDY_LEAF as u16,
+        }];
+        card.maker = self.maker;
+        card
+    }
+
+    /// A random sheet of any chip that the writer accepts, once in a while the one with the most
+    /// blocks.
+    pub fn valid(random: &mut Random) -> Self {
+        let chip = random.pick(&CHIPS);
+        let room = LEAF_LIMIT - TIDY_LEAF - header_size(chip);
+        let mut blocks = images::blocks(random, chip, room);
+        if chip == 21041 && random.one_in(8) {
+            blocks = Card::longest(random).leaves.remove(0).blocks;
+        }
+        let connection = images::connection(random, chip);
+        Self {
+            id: random.bytes(),
+            version: random.pick(&[3, 4]),
+            address: images::address(random, 1),
+            device: random.byte(),
+            control: if chip == 21140 { random.byte() } else { 0 },
+            maker: random.bytes(),
+            ..Self::new(chip, connection, &blocks)
+        }
+    }
+
+    /// The bytes of a sheet in which one field is damaged so that the writer refuses it with this
+    /// number, one of [`SHEET_DAMAGES`].
+    pub fn damaged(random: &mut Random, number: u8) -> Vec<u8> {
+        loop {
+            let mut sheet = Self::valid(random);
+            if number == 24 {
+                let mut bytes = sheet.bytes();
+                damage::missum(random, &mut bytes, sheet.blocks.len());
+                return bytes;
+            }
+            if sheet.damage(random, number) {
+                return sheet.bytes();
+            }
+        }
+    }
+
+    fn whole_blocks(&self) -> Vec<Vec<u8>> {
+        let whole = |(kind, body): &(u16, Vec<u8>)| match *kind {
+            0..COMPACT => block::extended(*kind as u8, body),
+            _ => body.clone(),
+        };
+        self.blocks.iter().map(whole).collect()
+    }
+
+    /// Where the leaf ends that holds these blocks.
+    fn leaf_end(&self) -> usize {
+        let opening = |kind| if kind < COMPACT { 2 } else { 0 };
+        let sizes = self.blocks.iter();
+        let sizes = sizes.map(|(kind, body)| opening(*kind) + body.len());
+        TIDY_LEAF + header_size(self.chip) + sizes.sum::<usize>()
+    }
+}
+
+/// Kind and body of a whole block.
+fn body(block: &[u8], chip: u16) -> (u16, Vec<u8>) {
+    let kind = images::damage::kind(block, chip);
+    let opening = if kind < COMPACT { 2 } else { 0 };
+    (kind, block[opening..].to_vec())
+}
+
+#[cfg(test)]
+mod tests {
+    use super::*;
+    use crate::sheet::write;
+
+    const PATTERN: [u8; 128] = [0xA5; 128];
+
+    /// "Writing a sheet": each valid sheet is accepted, with the image that the builder of images
+    /// lays.
+    #[test]
+    fn valid_sheets_are_accepted() {
+        let mut random = Random::new(1);
+        let mut last_places = 0;
+        for _ in 0..10_000 {
+            let sheet = Sheet::valid(&mut random);
+            let mut image = PATTERN;
+            assert_eq!(write(&sheet.bytes(), &mut image), 0, "{sheet:02x?}");
+            assert_eq!(image, sheet.card().image(), "{sheet:02x?}");
+            last_places += usize::from(sheet.leaf_end() == LEAF_LIMIT);
+        }
+        assert!(
+            last_places > 500,
+            "only {last_places} leaves up to byte 123"
+        );
+    }
+
+    /// "its cause met and no earlier cause ... image unchanged": each damage is refused with its
+    /// own number.
+    #[test]
+    fn damages_are_refused() {
+        let mut random = Random::new(2);
+        for number in SHEET_DAMAGES {
+            for _ in 0..500 {
+                let sheet = Sheet::damaged(&mut random, number);
+                let mut image = PATTERN;
+                assert_eq!(write(&sheet, &mut image), number, "{sheet:02x?}");
+                assert_eq!(image, PATTERN, "{sheet:02x?}");
+            }
+        }
+    }
+
+    /// "then": of two damaged fields the one that the writer meets first is answered.
+    #[test]
+    fn first_cause_first() {
+        let mut random = Random::new(3);
+        // From 14 to 17 the first block that is refused decides, not the number.
+        let singles = SHEET_DAMAGES[1..].iter().enumerate();
+        for (place, &first) in singles {
+            for &later in &SHEET_DAMAGES[2 + place..] {
+                if first >= 14 && first != 25 && first != 26 && later < 18 {
+                    continue;
+                }
+                let (mut met, mut tries) = (0, 0);
+                while met < 20 && tries < 100_000 {
+                    tries += 1;
+                    let mut sheet = Sheet::valid(&mut random);
+                    if sheet.damage(&mut random, later) && sheet.damage(&mut random, first) {
+                        let number = write(&sheet.bytes(), &mut PATTERN.clone());
+                        assert_eq!(number, first, "{later}: {sheet:02x?}");
+                        met += 1;
+                    }
+                }
+                assert_eq!(met, 20, "{first} and {later}");
+            }
+        }
+    }
+}

@@ -1,0 +1,207 @@
+//! The autosense walk (document 01, "The walk"), which keeps the table as a list of entries.
+
+pub mod fast;
+
+use crate::reader::{Arguments, Block, Refusal, leaf, refuse_if};
+
+/// The selected block, or the default, where there is none.
+pub const NONE: u8 = 255;
+
+/// The length of a walk's rows: a flag for each block that a leaf can hold, and more.
+pub const ROW_LENGTH: usize = 128;
+
+/// The connection type under which a settled walk stays where it is.
+pub const POWER_UP_ONLY: u16 = 0x8800;
+
+/// The connection types that looks serve.
+pub const SERVED: [u16; 3] = [0x0800, POWER_UP_ONLY, 0x0900];
+
+/// A walk with a row of flags for each property. The library's C interface has the same layout.
+#[repr(C)]
+#[derive(Debug, Clone, Copy, PartialEq, Eq)]
+pub struct Walk {
+    pub loaded: bool,
+    pub connection: u16,
+    pub blocks: u8,
+    pub listed: [u8; ROW_LENGTH],
+    /// 1 for the listed blocks with Active_Invalid only.
+    pub active_invalid: [u8; ROW_LENGTH],
+    pub default_number: u8,
+    pub settled: bool,
+    pub selected: u8,
+    pub looks: u16,
+    pub switches: u16,
+}
+
+impl Walk {
+    pub const FRESH: Self = Self {
+        loaded: false,
+        connection: 0,
+        blocks: 0,
+        listed: [0; ROW_LENGTH],
+        active_invalid: [0; ROW_LENGTH],
+        default_number: NONE,
+        settled: false,
+        selected: NONE,
+        looks: 0,
+        switches: 0,
+    };
+}
+
+/// What a call hands back: number 0 and the walk after it, or the refusal's number and the walk as
+/// it was. The library's C interface has the same layout.
+#[repr(C)]
+#[derive(Debug, Clone, Copy, PartialEq, Eq)]
+pub struct Walked {
+    pub number: u8,
+    pub walk: Walk,
+}
+
+/// "A walk is fresh or loaded." Its calls answer a number, and a refused one changes nothing.
+#[derive(Debug, Clone, Default, PartialEq, Eq)]
+pub enum Autosense {
+    #[default]
+    Fresh,
+    Loaded(Loaded),
+}
+
+/// The state of a loaded walk. Blocks go by their numbers.
+#[derive(Debug, Clone, PartialEq, Eq)]
+pub struct Loaded {
+    connection: u16,
+    blocks: usize,
+    table: Vec<Entry>,
+    default: Option<usize>,
+    settled: bool,
+    selected: Option<usize>,
+    looks: u16,
+    switches: u16,
+}
+
+/// A listed block.
+#[derive(Debug, Clone, Copy, PartialEq, Eq)]
+struct Entry {
+    block: usize,
+    is_active_invalid: bool,
+}
+
+impl Autosense {
+    /// Reads an image into a fresh walk.
+    pub fn load(&mut self, image: &[u8], arguments: Arguments) -> u8 {
+        Refusal::number(&self.try_load(image, arguments))
+    }
+
+    /// Takes the steps of one look at a report with a byte for each block.
+    pub fn look(&mut self, report: &[u8]) -> u8 {
+        Refusal::number(&self.try_look(report))
+    }
+
+    /// "Clearing makes it fresh and always succeeds."
+    pub fn clear(&mut self) -> u8 {
+        *self = Self::Fresh;
+        0
+    }
+
+    /// The same walk with rows of flags.
+    pub fn walk(&self) -> Walk {
+        let Self::Loaded(loaded) = self else {
+            return Walk::FRESH;
+        };
+        let row = |has_property: fn(&Entry) -> bool| {
+            let mut row = [0; ROW_LENGTH];
+            for entry in loaded.table.iter().filter(|entry| has_property(entry)) {
+                row[entry.block] = 1;
+            }
+            row
+        };
+        let number = |block: Option<usize>| block.map_or(NONE, |block| block as u8);
+        Walk {
+            loaded: true,
+            connection: loaded.connection,
+            blocks: loaded.blocks as u8,
+            listed: row(|_| true),
+            active_invalid: row(|entry| entry.is_active_invalid),
+            default_number: number(loaded.default),
+            settled: loaded.settled,
+            selected: number(loaded.selected),
+            looks: loaded.looks,
+            switches: loaded.switches,
+        }
+    }
+
+    fn try_load(&mut self, image: &[u8], arguments: Arguments) -> Result<(), Refusal> {
+        refuse_if(*self != Self::Fresh, Refusal::LoadedWalk)?;
+        let (header, blocks) = leaf(image, arguments, usize::MAX)?;
+        let numbered = blocks.iter().enumerate();
+        let listed = numbered.rev().filter(|(_, block)| block.is_listed());
+        let entry = |(number, block): (usize, &Block)| Entry {
+            block: number,
+            is_active_invalid: block.is_active_invalid,
+        };
+        *self = Self::Loaded(Loaded {
+            connection: header.connection,
+            blocks: blocks.len(),
+            table: listed.map(entry).collect(),
+            default: blocks.iter().position(|block| block.is_default),
+            settled: false,
+            selected: None,
+            looks: 0,
+            switches: 0,
+        });
+        Ok(())
+    }
+
+    fn try_look(&mut self, report: &[u8]) -> Result<(), Refusal> {
+        let Self::Loaded(loaded) = self else {
+            return Err(Refusal::FreshWalk);
+        };
+        let is_served = SERVED.contains(&loaded.connection);
+        refuse_if(!is_served, Refusal::FixedConnection)?;
+        refuse_if(loaded.looks == u16::MAX, Refusal::LooksSpent)?;
+        let report = report.get(..loaded.blocks).ok_or(Refusal::Report)?;
+        refuse_if(report.iter().any(|&byte| byte > 1), Refusal::Report)?;
+        loaded.step(report);
+        Ok(())
+    }
+}
+
+impl Loaded {
+    /// The three steps of a look.
+    fn step(&mut self, report: &[u8]) {
+        let before = self.selected;
+        if !self.stays(report) {
+            match self.candidate(report) {
+                Some(block) => {
+                    self.selected = Some(block);
+                    self.settled = true;
+                }
+                None => self.selected = self.default,
+            }
+        }
+        self.looks += 1;
+        if self.selected != before {
+            self.switches += 1;
+        }
+    }
+
+    /// Step 1: whether the walk is settled with a block selected, and keeps it.
+    fn stays(&self, report: &[u8]) -> bool {
+        let Some(selected) = self.selected.filter(|_| self.settled) else {
+            return false;
+        };
+        let is_kept = |entry: &Entry| entry.block == selected && entry.is_active_invalid;
+        self.connection == POWER_UP_ONLY || self.table.iter().any(is_kept) || report[selected] == 1
+    }
+
+    /// Step 2: the first candidate in table order that is up.
+    fn candidate(&self, report: &[u8]) -> Option<usize> {
+        let is_candidate = |entry: &&Entry| !(self.settled && entry.is_active_invalid);
+        let blocks = self.table.iter().filter(is_candidate);
+        blocks
+            .map(|entry| entry.block)
+            .find(|&block| report[block] == 1)
+    }
+}
+
+#[cfg(test)]
+mod tests;

@@ -1,0 +1,372 @@
+use super::*;
+use crate::calls::{self, Call, Habits};
+use crate::cases::cases;
+use crate::images::{Card, Image, Sample, block};
+use crate::random::Random;
+use crate::reader::NEWEST_LEVEL;
+
+fn newest(chip: u16) -> Arguments {
+    Arguments {
+        chip,
+        controller: 0,
+        level: NEWEST_LEVEL,
+    }
+}
+
+fn at_level(chip: u16, level: u8) -> Arguments {
+    Arguments {
+        level,
+        ..newest(chip)
+    }
+}
+
+fn image(chip: u16, connection: u16, blocks: Vec<Vec<u8>>) -> Image {
+    Card::tidy(chip, connection, blocks).image()
+}
+
+/// A walk that has read the image.
+fn loaded(image: &Image, arguments: Arguments) -> Autosense {
+    let mut walk = Autosense::default();
+    assert_eq!(walk.load(image, arguments), 0);
+    walk
+}
+
+/// What is compared after a call: settled, selected, looks and switches.
+fn state(walk: &Autosense) -> (bool, u8, u16, u16) {
+    let walk = walk.walk();
+    (walk.settled, walk.selected, walk.looks, walk.switches)
+}
+
+/// The selected blocks after each accepted look.
+fn selections(walk: &mut Autosense, reports: &[&[u8]]) -> Vec<u8> {
+    let look = |report: &&[u8]| {
+        assert_eq!(walk.look(report), 0, "{report:?}");
+        walk.walk().selected
+    };
+    reports.iter().map(look).collect()
+}
+
+/// A 21140 leaf: compact blocks with these commands, in which bit 15 is Active_Invalid and 14
+/// Default.
+fn compacts(connection: u16, commands: &[u16]) -> Autosense {
+    let blocks = commands.iter().map(|&it| block::compact(0, 0, it));
+    loaded(&image(21140, connection, blocks.collect()), newest(21140))
+}
+
+/// "k b, reports 000, 101, 100: none, block 2, block 0, 2 switches; under 0x8800: none, 2, 2, 1
+/// switch."
+#[test]
+fn case_k() {
+    let reports: [&[u8]; 3] = [&[0, 0, 0], &[1, 0, 1], &[1, 0, 0]];
+    let case_b = &cases()[1];
+    let mut walk = loaded(&case_b.image, case_b.arguments);
+    assert_eq!(selections(&mut walk, &reports), [NONE, 2, 0]);
+    assert_eq!(state(&walk), (true, 0, 3, 2));
+    let sia = |code| vec![0x86, 0x02, code, 0x01, 0x00, 0x02, 0x00];
+    let blocks = vec![sia(0), vec![0x81, 0x09], sia(1)];
+    assert_eq!(image(21143, 0x0800, blocks.clone()), case_b.image);
+    let mut walk = loaded(&image(21143, 0x8800, blocks), newest(21143));
+    assert_eq!(selections(&mut walk, &reports), [NONE, 2, 2]);
+    assert_eq!(state(&walk), (true, 2, 3, 1));
+}
+
+/// "State when loaded: settled (no), selected (none), looks (0), switches (0)", and a flag for each
+/// property of each block.
+#[test]
+fn loaded_rows() {
+    let blocks = vec![
+        block::symbol(3, 0, 0, 0x8000),
+        block::extended(9, &[]),
+        block::symbol(6, 0, 0, 0x4000),
+        block::reset(&[]),
+        block::sia(0, None, 0x8000, 0x8000),
+        block::symbol(5, 0, 0, 0xC000),
+    ];
+    let image = image(21143, 0x0800, blocks);
+    let row = |flags: &[u8]| {
+        let mut row = [0; ROW_LENGTH];
+        row[..flags.len()].copy_from_slice(flags);
+        row
+    };
+    let expected = Walk {
+        loaded: true,
+        connection: 0x0800,
+        blocks: 6,
+        listed: row(&[1, 0, 1, 0, 1, 1]),
+        active_invalid: row(&[1, 0, 0, 0, 0, 1]),
+        default_number: 2,
+        settled: false,
+        selected: NONE,
+        looks: 0,
+        switches: 0,
+    };
+    assert_eq!(loaded(&image, newest(21143)).walk(), expected);
+    // A reader that does not know type 4 sees neither property, nor the default.
+    let expected = Walk {
+        listed: row(&[0, 0, 0, 0, 1]),
+        active_invalid: row(&[]),
+        default_number: NONE,
+        ..expected
+    };
+    assert_eq!(loaded(&image, at_level(21143, 4)).walk(), expected);
+}
+
+/// "Clearing makes it fresh and always succeeds."
+#[test]
+fn clearing() {
+    let mut walk = Autosense::default();
+    assert_eq!(walk.clear(), 0);
+    assert_eq!(walk.walk(), Walk::FRESH);
+    let mut walk = compacts(0x0800, &[0, 0]);
+    selections(&mut walk, &[&[1, 0], &[0, 1]]);
+    assert_eq!(walk.clear(), 0);
+    assert_eq!(walk.walk(), Walk::FRESH);
+    assert_eq!(walk.look(&[0, 0]), 20);
+}
+
+/// "Loading reads an image": its refusals but 12 leave the walk fresh; "21 already loaded" comes
+/// "before any from the input".
+#[test]
+fn refused_loads() {
+    for case in cases() {
+        let mut walk = Autosense::default();
+        let (mut kinds, mut offsets) = ([0; 255], [0; 255]);
+        let arguments = case.arguments;
+        let answer = crate::reader::read(&case.image, arguments, &mut kinds, &mut offsets);
+        assert_eq!(walk.load(&case.image, arguments), answer.number);
+        assert_eq!(walk.walk().loaded, answer.number == 0);
+        let mut walk = compacts(0x0800, &[0]);
+        let before = walk.clone();
+        assert_eq!(walk.load(&case.image, arguments), 21);
+        assert_eq!(walk.load(&[], arguments), 21);
+        assert_eq!(walk, before);
+    }
+}
+
+/// "From the state, before any from the input ... Look: 20 fresh; 22 fixed type"; "Looks serve
+/// 0x0800, 0x8800 and 0x0900; every other type counts as fixed."
+#[test]
+fn served_types() {
+    assert_eq!(Autosense::default().look(&[]), 20);
+    for chip in crate::reader::CHIPS {
+        for connection in crate::reader::connections(chip) {
+            let is_served = [0x0800, 0x8800, 0x0900].contains(&connection);
+            for report in [&[][..], &[2], &[0], &[1]] {
+                let blocks = vec![block::extended(9, &[])];
+                let blocks = if chip == 21041 { vec![vec![0]] } else { blocks };
+                let mut walk = loaded(&image(chip, connection, blocks), newest(chip));
+                let before = walk.clone();
+                let is_report = report == [0] || report == [1];
+                let expected = match (is_served, is_report) {
+                    (false, _) => 22,
+                    (true, false) => 19,
+                    (true, true) => 0,
+                };
+                assert_eq!(walk.look(report), expected, "{connection:#06x} {report:?}");
+                assert_eq!(walk == before, expected != 0);
+            }
+        }
+    }
+}
+
+/// "19 report shorter than the block count, or one of those bytes above 1"; "later bytes are
+/// ignored".
+#[test]
+fn reports() {
+    let walk = compacts(0x0800, &[0, 0, 0]);
+    for (report, expected) in [
+        (&[][..], 19),
+        (&[0, 0], 19),
+        (&[1, 1], 19),
+        (&[0, 0, 2], 19),
+        (&[255, 0, 0], 19),
+        (&[0, 2, 0, 0], 19),
+        (&[0, 2], 19),
+        (&[0, 0, 0], 0),
+        (&[1, 1, 1], 0),
+        (&[0, 1, 0, 2], 0),
+        (&[0, 0, 0, 255, 255], 0),
+    ] {
+        let mut walk = walk.clone();
+        let before = walk.clone();
+        assert_eq!(walk.look(report), expected, "{report:?}");
+        assert_eq!(walk == before, expected != 0, "{report:?}");
+    }
+    // Without blocks every report will do.
+    let mut walk = compacts(0x0800, &[]);
+    assert_eq!(selections(&mut walk, &[&[], &[255]]), [NONE, NONE]);
+}
+
+/// "With none up, the default is selected, or none; settled is unchanged", before a block has been
+/// up and after.
+#[test]
+fn default_selected() {
+    let mut walk = compacts(0x0800, &[0x4000, 0, 0]);
+    assert_eq!(walk.look(&[0, 0, 0]), 0);
+    assert_eq!(state(&walk), (false, 0, 1, 1));
+    assert_eq!(walk.look(&[0, 0, 0]), 0);
+    assert_eq!(state(&walk), (false, 0, 2, 1));
+    // Not settled, so it does not stay although it is up.
+    assert_eq!(walk.look(&[1, 0, 1]), 0);
+    assert_eq!(state(&walk), (true, 2, 3, 2));
+    assert_eq!(walk.look(&[0, 0, 0]), 0);
+    assert_eq!(state(&walk), (true, 0, 4, 3));
+    // Settled with the default selected: it stays while it is up.
+    assert_eq!(walk.look(&[1, 0, 1]), 0);
+    assert_eq!(state(&walk), (true, 0, 5, 3));
+    assert_eq!(walk.look(&[0, 1, 1]), 0);
+    assert_eq!(state(&walk), (true, 2, 6, 4));
+}
+
+/// "none counts as a selection": a change to it and from it is a switch.
+#[test]
+fn none_selected() {
+    let mut walk = compacts(0x0800, &[0, 0]);
+    let reports: [&[u8]; 6] = [&[0, 0], &[1, 0], &[1, 1], &[0, 0], &[0, 0], &[1, 1]];
+    let selected = selections(&mut walk, &reports);
+    assert_eq!(selected, [NONE, 0, 0, NONE, NONE, 1]);
+    assert_eq!(state(&walk), (true, 1, 6, 3));
+}
+
+/// "the candidates are all listed entries, or, once settled, those without Active_Invalid"; such a
+/// block stays selected.
+#[test]
+fn active_invalid() {
+    // At first it is a candidate like all others, and then it stays.
+    let mut walk = compacts(0x0800, &[0, 0x8000]);
+    assert_eq!(
+        selections(&mut walk, &[&[1, 1], &[1, 0], &[0, 0]]),
+        [1, 1, 1]
+    );
+    assert_eq!(state(&walk), (true, 1, 3, 1));
+    // Once settled on another, it is no candidate any more.
+    let mut walk = compacts(0x0800, &[0, 0x8000]);
+    assert_eq!(
+        selections(&mut walk, &[&[1, 0], &[0, 1], &[0, 1], &[1, 1]]),
+        [0, NONE, NONE, 0]
+    );
+    assert_eq!(state(&walk), (true, 0, 4, 3));
+    // The default bit does not count beside it.
+    let mut walk = compacts(0x0800, &[0, 0xC000]);
+    assert_eq!(selections(&mut walk, &[&[0, 0]]), [NONE]);
+}
+
+/// "it stays where the type is 0x8800": only with a block selected and settled.
+#[test]
+fn power_up_only() {
+    let mut walk = compacts(0x8800, &[0x4000, 0, 0]);
+    let reports: [&[u8]; 5] = [&[0, 0, 0], &[0, 0, 1], &[1, 1, 0], &[0, 0, 0], &[1, 0, 0]];
+    assert_eq!(selections(&mut walk, &reports), [0, 2, 2, 2, 2]);
+    assert_eq!(state(&walk), (true, 2, 5, 2));
+}
+
+/// "The first in table order": of all that are up, the last block of the leaf that is listed.
+#[test]
+fn table_order() {
+    let blocks = vec![
+        block::sia(0, None, 0, 0),
+        block::phy(3, &block::Phy::default()),
+        block::sia(1, None, 0, 0),
+        block::reset(&[]),
+        block::extended(7, &[1, 2]),
+    ];
+    let image = image(21143, 0x0800, blocks);
+    for (level, expected) in [(6, 2), (5, 2), (4, 2), (3, 2), (2, NONE), (0, NONE)] {
+        let mut walk = loaded(&image, at_level(21143, level));
+        assert_eq!(selections(&mut walk, &[&[1; 5]]), [expected]);
+    }
+    for (level, expected) in [(6, 1), (4, 1), (3, 0)] {
+        let mut walk = loaded(&image, at_level(21143, level));
+        assert_eq!(selections(&mut walk, &[&[1, 1, 0, 1, 1]]), [expected]);
+    }
+}
+
+/// "the default medium must be none of the removed entries, and no accepted look may have a removed
+/// entry up": an image and a report for each, with the other met, where newest and older part.
+#[test]
+fn conditions_are_needed() {
+    let sia = block::sia(0, None, 0, 0);
+    let pair = |command| {
+        let blocks = vec![sia.clone(), block::symbol(3, 0, 0, command)];
+        let image = image(21143, 0x0800, blocks);
+        [6, 4].map(|level| loaded(&image, at_level(21143, level)))
+    };
+    let [mut newest, mut older] = pair(0x4000);
+    assert_eq!(selections(&mut newest, &[&[0, 0]]), [1]);
+    assert_eq!(selections(&mut older, &[&[0, 0]]), [NONE]);
+    let [mut newest, mut older] = pair(0x0000);
+    assert_eq!(selections(&mut newest, &[&[1, 1]]), [1]);
+    assert_eq!(selections(&mut older, &[&[1, 1]]), [0]);
+}
+
+/// "23 looks at 65,535", after as many looks, each of them a switch; it comes before 19, and
+/// clearing ends it.
+#[test]
+fn looks_spent() {
+    let mut walk = compacts(0x0800, &[0, 0]);
+    for look in 0..65_535 {
+        let is_even = look % 2 == 0;
+        assert_eq!(walk.look(&[is_even.into(), (!is_even).into()]), 0, "{look}");
+    }
+    assert_eq!(state(&walk), (true, 0, 65_535, 65_535));
+    let before = walk.clone();
+    for report in [&[][..], &[0, 0], &[0, 1], &[2, 0]] {
+        assert_eq!(walk.look(report), 23);
+        assert_eq!(walk, before);
+    }
+    assert_eq!(walk.clear(), 0);
+    assert_eq!(walk.look(&[0, 0]), 20);
+}
+
+/// The walk on its rows takes the same steps.
+#[test]
+fn fast_equals_plain() {
+    let mut random = Random::new(1);
+    for _ in 0..20_000 {
+        let sample = calls::sample(&mut random);
+        let image = sample.card.image();
+        let blocks = calls::block_count(&image, sample.arguments);
+        let habits = Habits::new(&mut random, blocks);
+        let (mut plain, mut by_rows) = (Autosense::default(), fast::fresh());
+        assert_eq!(by_rows, plain.walk());
+        for call in habits.list(&mut random, 16) {
+            let (number, walked) = match &call {
+                Call::Load => (
+                    plain.load(&image, sample.arguments),
+                    fast::load(by_rows, &image, sample.arguments),
+                ),
+                Call::Look(report) => (plain.look(report), fast::look(by_rows, report)),
+                Call::Clear => (plain.clear(), fast::clear(by_rows)),
+            };
+            assert_eq!(walked.number, number, "{call:?} {sample:02x?}");
+            assert_eq!(walked.walk, plain.walk(), "{call:?} {sample:02x?}");
+            by_rows = walked.walk;
+        }
+    }
+}
+
+/// "The first in table order that is up": on valid cards, what is selected is up, listed and above
+/// all others that are, whenever a walk settles.
+#[test]
+fn settling() {
+    let mut random = Random::new(2);
+    let mut met = 0;
+    for _ in 0..20_000 {
+        let mut sample = Sample::valid(&mut random);
+        calls::serve(&mut random, &mut sample.card);
+        calls::mark(&mut random, &mut sample.card);
+        let image = sample.card.image();
+        let mut walk = loaded(&image, sample.arguments);
+        let row = walk.walk();
+        let habits = Habits::new(&mut random, row.blocks.into());
+        let report = habits.links(&mut random);
+        assert_eq!(walk.look(&report), 0);
+        let up = (0..report.len()).filter(|&block| report[block] == 1 && row.listed[block] == 1);
+        let last = up.max().map(|block| block as u8);
+        let after = walk.walk();
+        assert_eq!(after.settled, last.is_some());
+        assert_eq!(after.selected, last.unwrap_or(row.default_number));
+        met += usize::from(after.settled);
+    }
+    assert!(met > 5_000, "only {met} walks settled");
+}
