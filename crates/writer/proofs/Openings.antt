@@ -4,7 +4,7 @@ use mathlib.Core.Path.{_≡_, refl, sym, ap, ap₂, _∙_}
 use mathlib.Core.Bool.{Bool, true, false, _||_}
 use mathlib.Core.List.{List, [], _∷_}
 use native.Mathlib.Omega.{arith}
-use lib.ListN.{length, length-append}
+use lib.ListN.{length, set, length-append}
 use lib.Dec.{eqb, ltb}
 use borrow.Author.Tests.{eq-eqb, ne-eqb, eqb-false, ltb-false}
 use Rattle.block.specs.Format.{kindCompact, kind21041}
@@ -12,7 +12,7 @@ use Rattle.sheet.specs.Image.{isWhole, openingOf, encode}
 use Rattle.sheet.specs.Write.{isOtherFamily, isBadBody, isBad}
 use Rattle.writer.specs.Inside.{entry, openingSize, put, Fits}
 use Rattle.writer.proofs.Tests.{pick-true, pick-false, or-false, or-true, or-second}
-use Rattle.writer.proofs.Puts.{put-put, put-length}
+use Rattle.writer.proofs.Puts.{put-none, put-two, put-put, put-length}
 
 module _ (k : ℕ) where
   pub whole-compact : k ≡ kindCompact → isWhole k ≡ true
@@ -39,21 +39,21 @@ module _ (k : ℕ) where
   either true e f g = f e
   either false e f g = g e
 
-  pub is-whole : openingSize k ≡ 0 → isWhole k ≡ true
+  is-whole : openingSize k ≡ 0 → isWhole k ≡ true
   is-whole e = either (isWhole k) refl (λ w. w) (λ w. let h = size-two w in absurd (omega arith))
 
-  pub is-extended : (openingSize k ≡ 0 → ⊥) → isWhole k ≡ false
+  is-extended : (openingSize k ≡ 0 → ⊥) → isWhole k ≡ false
   is-extended e = either (isWhole k) refl (λ w. absurd (e (sym (size-whole w)))) (λ w. w)
 
   pub size-small : openingSize k ≤ 2
   size-small = either (isWhole k) refl (λ w. let h = size-whole w in omega arith) (λ w. let h = size-two w in omega arith)
 
   module _ (b : List ℕ) where
-    pub opening-none : isWhole k ≡ true → openingOf (entry k b) ≡ []
+    opening-none : isWhole k ≡ true → openingOf (entry k b) ≡ []
     unfolding openingOf
     opening-none e = pick-true (isWhole k) [] _ e
 
-    pub opening-two : isWhole k ≡ false → openingOf (entry k b) ≡ (129 + length b) ∷ k ∷ []
+    opening-two : isWhole k ≡ false → openingOf (entry k b) ≡ (129 + length b) ∷ k ∷ []
     unfolding openingOf
     opening-two e = pick-false (isWhole k) [] _ e ∙ ap (λ (n : ℕ). n ∷ k ∷ []) first
       where
@@ -68,7 +68,7 @@ module _ (k : ℕ) where
     encode-length = length-append (openingOf (entry k b)) b ∙ ap (λ (n : ℕ). n + length b) opening-length
 
     -- an extended block that images hold has a type of one byte and a length of seven bits
-    pub extended-small : (row : ℕ) → isBad row (entry k b) ≡ false → isWhole k ≡ false → (k < 256) × (length b ≤ 126)
+    extended-small : (row : ℕ) → isBad row (entry k b) ≡ false → isWhole k ≡ false → (k < 256) × (length b ≤ 126)
     unfolding isBad isBadBody isWhole
     extended-small row h w =
         let f = or-false (ltb kind21041 k) (isOtherFamily row k || isBadBody k b) h in
@@ -79,6 +79,24 @@ module _ (k : ℕ) where
         let m = eqb-false k kind21041 (p .1) in
         let l = ltb-false 126 (length b) (sym (pick-false (eqb k kindCompact) _ _ (p .0) ∙ pick-false (eqb k kind21041) _ _ (p .1)) ∙ g .1) in
         (omega arith, l)
+
+-- an opening as it is written
+module _ (room : List ℕ) (to size k : ℕ) (b : List ℕ) (fit : Fits room to (entry k b) (openingOf (entry k b))) (is : size ≡ openingSize k) where
+  pub no-opening : size ≡ 0 → room ≡ put room to (openingOf (entry k b))
+  no-opening e = put-none room to ∙ ap (put room to) (sym (opening-none k b (is-whole k (sym is ∙ e))))
+
+  module _ (h : size ≡ 0 → ⊥) where
+    extended : isWhole k ≡ false
+    extended = is-extended k (λ z. h (is ∙ z))
+
+    pub opening-small : (k < 256) × (length b ≤ 126)
+    opening-small = extended-small k b (fit .row) (fit .good) extended
+
+    pub opening-room : to + 2 ≤ length room
+    opening-room = let n = ap length (opening-two k b extended) in omega (arith, fit .fits)
+
+    pub opening-put : set (set room to (129 + length b)) (to + 1) k ≡ put room to (openingOf (entry k b))
+    opening-put = put-two room to (129 + length b) k opening-room ∙ ap (put room to) (sym (opening-two k b extended))
 
 -- one entry: its opening stands, and its body is put behind it
 module _ (room room₁ : List ℕ) (to size k : ℕ) (b : List ℕ) (fit : Fits room to (entry k b) (encode (entry k b)))

@@ -5,7 +5,7 @@ use mathlib.Core.List.{List, [], _∷_, _++_}
 use mathlib.Core.Bool.{true, false}
 use lib.ListN.{length, take, drop, set, replicate}
 use lib.Dec.{ltb}
-use Rattle.rom.specs.Geometry.{leavesEnd, checkedLength, idCrcAt}
+use Rattle.rom.specs.Geometry.{imageLength, leavesEnd, checkedLength, idCrcAt}
 use Rattle.rom.specs.Bytes.{pick}
 use Rattle.rom.specs.Refusal.{Cause, _⇒_, firstMet}
 use Rattle.crc.specs.Crc.{sromCrc, idCrc}
@@ -26,7 +26,7 @@ put xs at ys = take at xs ++ (ys ++ drop (at + length ys) xs)
 
 -- an image with these bytes before the place of its leaf, these maker's bytes, and zeros elsewhere
 unfoldable pub frameOf : List ℕ → List ℕ → List ℕ
-frameOf front maker = front ++ (zeros (leavesEnd - leafStart) ++ (maker ++ zeros 2))
+frameOf front maker = front ++ (zeros (leavesEnd - leafStart) ++ (maker ++ zeros (imageLength - checkedLength)))
 
 -- an image with its ID CRC, and with its SROM CRC
 unfoldable pub identified : List ℕ → List ℕ

@@ -5,7 +5,7 @@ use block::chip;
 use rom::ByteOffset;
 use rom::refusal;
 ghost use mathlib.Core.Path.{_≡_};
-ghost use Prim.Native.Nat.{_+_, _≤_, _<_};
+ghost use Prim.Native.Nat.{_<_};
 ghost use lib.ListN.{length};
 ghost use Rattle.rom.specs.Bytes.{byteAt};
 ghost use Rattle.rom.specs.Refusal.{firstMet};

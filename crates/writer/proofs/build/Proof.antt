@@ -29,7 +29,10 @@ seal-requires : tie.Need-seal-requires
 seal-requires c κs = search needs
 
 returns : tie.Need-returns
-returns c = built-is (c .before .before .before .before .before .before .before .args .sheet .now) (c .before .before .before .before .before .before .before .pre) _ _ _ _ (c .before .before .before .before .before .frame .ensures) (c .before .before .before .before .identify .ensures) (c .before .before .put-leaf .ensures) (c .seal .ensures)
+returns c =
+    let start = c .before .before .before .before .before .before .before in
+    let past = c .before .before .before .before in
+    built-is (start .args .sheet .now) (start .pre) _ _ _ _ (past .before .frame .ensures) (past .identify .ensures) (c .before .before .put-leaf .ensures) (c .seal .ensures)
 
 pub build-spec : {M : Type 1} → statement M
 build-spec =

@@ -82,7 +82,9 @@ put-bytes-requires-4 : tie.Need-put-bytes-requires-4
 put-bytes-requires-4 c κs = search needs
 
 returns : tie.Need-returns
-returns c = cc (frame-is (c .before .before .before .before .before .before .before .before .before .before .before .before .before .before .before .before .before .before .before .before .before .args .sheet .now) (c .before .before .before .before .before .before .before .before .before .before .before .before .before .before .before .before .before .before .before .before .before .pre))
+returns c =
+    let start = c .before .before .before .before .before .before .before .before .before .before .before .before .before .before .before .before .before .before .before .before .before in
+    cc (frame-is (start .args .sheet .now) (start .pre))
 
 pub frame-spec : {M : Type 1} → statement M
 frame-spec =

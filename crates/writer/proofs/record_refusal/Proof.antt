@@ -33,7 +33,10 @@ stray-control-requires c κs = search needs
 
 returns-2 : tie.Need-returns-2
 unfolding sheetFrom
-returns-2 c = record-25 (sheetFrom (c .before .before .before .before .before .before .before .args .sheet .now)) _ (c .before .before .before .before .row-of .ensures ∙ ap rowOf (c .before .before .before .before .before .word-at .ensures)) (c .before .before .before .if1 .left) _ (c .before .stray-control .ensures ∙ ap (strayControl (c .before .before .before .before .row-of .result)) (c .before .before .byte-at .ensures)) (c .if2 .taken)
+returns-2 c =
+    let seen = c .before .before .before .before in
+    let start = seen .before .before .before in
+    record-25 (sheetFrom (start .args .sheet .now)) _ (seen .row-of .ensures ∙ ap rowOf (seen .before .word-at .ensures)) (c .before .before .before .if1 .left) _ (c .before .stray-control .ensures ∙ ap (strayControl (seen .row-of .result)) (c .before .before .byte-at .ensures)) (c .if2 .taken)
 
 count-at-requires : tie.Need-count-at-requires
 count-at-requires c κs = search needs
@@ -88,8 +91,12 @@ refusal-of-requires c κs = (cut-parts _ (c .before .before .before .before .bef
 
 returns-3 : tie.Need-returns-3
 unfolding sheetFrom
-returns-3 c = record-entries (sheetFrom (c .before .before .before .before .before .before .before .before .before .before .before .before .before .args .sheet .now)) _ (c .before .before .before .before .before .before .before .before .before .before .row-of .ensures ∙ ap rowOf (c .before .before .before .before .before .before .before .before .before .before .before .word-at .ensures)) (c .before .before .before .before .before .before .before .before .before .if1 .left) _ (c .before .before .before .before .before .before .before .stray-control .ensures ∙ ap (strayControl (c .before .before .before .before .before .before .before .before .before .before .row-of .result)) (c .before .before .before .before .before .before .before .before .byte-at .ensures)) _ _ (c .before .before .before .before .before .before .if2 .left) (c .before .before .before .before .header-length .ensures .0)
-    (c .refusal-of .ensures ∙ ap (λ (l : List Entry). firstMet (entryCauses (c .before .before .before .before .before .before .before .before .before .before .row-of .result) (30 + c .before .before .before .before .header-length .result) l)) (cut-entries _ (c .before .before .before .before .before .before .before .before .before .before .before .before .before .pre) _ (c .before .before .before .before .before .count-at .ensures .0)))
+returns-3 c =
+    let counted = c .before .before .before .before .before in
+    let seen = counted .before .before .before .before .before in
+    let start = seen .before .before .before in
+    record-entries (sheetFrom (start .args .sheet .now)) _ (seen .row-of .ensures ∙ ap rowOf (seen .before .word-at .ensures)) (counted .before .before .before .before .if1 .left) _ (counted .before .before .stray-control .ensures ∙ ap (strayControl (seen .row-of .result)) (counted .before .before .before .byte-at .ensures)) _ _ (counted .before .if2 .left) (c .before .before .before .before .header-length .ensures .0)
+    (c .refusal-of .ensures ∙ ap (λ (l : List Entry). firstMet (entryCauses (seen .row-of .result) (30 + c .before .before .before .before .header-length .result) l)) (cut-entries _ (start .pre) _ (counted .count-at .ensures .0)))
 
 pub record-refusal-spec : {M : Type 1} → statement M
 record-refusal-spec =

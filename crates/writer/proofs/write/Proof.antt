@@ -40,7 +40,13 @@ judge-requires c κs = search needs
 
 returns-4 : tie.Need-returns-4
 unfolding sheetFrom newest
-returns-4 c = kept _ _ _ (write-judged _ _ (sym (c .before .before .before .before .before .before .before .before .before .is-sheet .ensures) ∙ not-false _ (c .before .before .before .before .before .before .before .before .if1 .left)) (c .before .before .before .before .before .before .before .if2 .left) _ _ _ (sym (c .before .before .before .before .before .before .record-refusal .ensures) ∙ c .before .before .before .before .before .if3 .left) (c .before .before .before .before .build .ensures) (c .before .before .before .word-at .ensures) (c .before .judge .ensures)) (c .if4 .taken)
+returns-4 c =
+    let built = c .before .before .before .before in
+    let measured = built .before .before in
+    kept _ _ _
+    (write-judged _ _ (sym (measured .before .before .before .is-sheet .ensures) ∙ not-false _ (measured .before .before .if1 .left)) (measured .before .if2 .left)
+    _ _ _ (sym (measured .record-refusal .ensures) ∙ built .before .if3 .left) (built .build .ensures) (c .before .before .before .word-at .ensures) (c .before .judge .ensures))
+    (c .if4 .taken)
 
 slice-aggregate-copy : tie.Need-slice-aggregate-copy
 slice-aggregate-copy c = search needs
@@ -53,8 +59,16 @@ same-length c = search needs
 
 returns-5 : tie.Need-returns-5
 unfolding sheetFrom newest
-returns-5 c = let number = write-judged (c .before .before .before .before .before .before .before .before .before .before .before .before .before .before .before .before .before .args .sheet .now) (length (c .before .before .before .before .before .before .before .before .before .before .before .before .before .before .before .before .before .args .image .now)) (sym (c .before .before .before .before .before .before .before .before .before .before .before .before .before .before .is-sheet .ensures) ∙ not-false _ (c .before .before .before .before .before .before .before .before .before .before .before .before .before .if1 .left)) (c .before .before .before .before .before .before .before .before .before .before .before .before .if2 .left) _ _ _ (sym (c .before .before .before .before .before .before .before .before .before .before .before .record-refusal .ensures) ∙ c .before .before .before .before .before .before .before .before .before .before .if3 .left) (c .before .before .before .before .before .before .before .before .before .build .ensures) (c .before .before .before .before .before .before .before .before .word-at .ensures) (c .before .before .before .before .before .before .judge .ensures) in
-    copied (c .before .before .before .before .before .before .before .before .before .before .before .before .before .before .before .before .before .args .sheet .now) (c .before .before .before .before .before .before .before .before .before .before .before .before .before .before .before .before .before .args .image .now) _ (sym (c .before .before .before .before .before .if4 .left) ∙ number) (whole-copy (c .before .before .before .before .before .before .before .before .before .build .result) (c .before .before .before .before .before .before .before .before .before .before .before .before .before .before .before .before .before .args .image .now) _ (search needs) (c .before .before .copy .ensures .1) ∙ c .before .before .before .before .before .before .before .before .before .build .ensures)
+returns-5 c =
+    let judged = c .before .before .before .before .before .before in
+    let built = judged .before .before .before in
+    let measured = built .before .before in
+    let start = measured .before .before .before .before .before .before in
+    let number =
+    write-judged (start .args .sheet .now) (length (start .args .image .now)) (sym (measured .before .before .before .is-sheet .ensures) ∙ not-false _ (measured .before .before .if1 .left))
+    (measured .before .if2 .left) _ _ _ (sym (measured .record-refusal .ensures) ∙ built .before .if3 .left) (built .build .ensures) (judged .before .before .word-at .ensures) (judged .judge .ensures) in
+    copied (start .args .sheet .now) (start .args .image .now) _ (sym (c .before .before .before .before .before .if4 .left) ∙ number)
+    (whole-copy (built .build .result) (start .args .image .now) _ (search needs) (c .before .before .copy .ensures .1) ∙ built .build .ensures)
 
 pub write-spec : {M : Type 1} → statement M
 write-spec =

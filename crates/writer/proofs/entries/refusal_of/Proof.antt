@@ -25,22 +25,30 @@ count-at-requires : tie.Need-count-at-requires Inv-loop μ-loop
 count-at-requires c κs = search needs
 
 slice-aggregate-is-bad : tie.Need-slice-aggregate-is-bad Inv-loop μ-loop
-slice-aggregate-is-bad c = sym (next-body _ _ _ (c .before .before .before .before .loop .body-rest .now) _ _ (c .before .before .before .loop-test .taken) (c .before .before .before .before .loop .inv .parts) (c .before .before .word-at .ensures) (c .before .count-at .ensures .0))
+slice-aggregate-is-bad c =
+    let turn = c .before in
+    sym (next-body _ _ _ (turn .before .before .before .loop .body-rest .now) _ _ (turn .before .before .loop-test .taken) (turn .before .before .before .loop .inv .parts) (turn .before .word-at .ensures) (turn .count-at .ensures .0))
 
 is-bad-requires : tie.Need-is-bad-requires Inv-loop μ-loop
 is-bad-requires c κs = search needs
 
 returns : tie.Need-returns Inv-loop μ-loop
-returns c = sized-bad _ _ _ _ _ _ (c .before .before .before .before .before .loop-test .taken) (c .before .before .before .before .before .before .loop .inv .parts) (c .before .before .before .before .word-at .ensures) (c .before .before .before .count-at .ensures .0) (c .before .before .before .before .before .before .loop .inv) (sym (c .if1 .taken) ∙ c .before .is-bad .ensures)
+returns c =
+    let turn = c .before .before .before in
+    sized-bad _ _ _ _ _ _ (turn .before .before .loop-test .taken) (turn .before .before .before .loop .inv .parts) (turn .before .word-at .ensures) (turn .count-at .ensures .0) (turn .before .before .before .loop .inv) (sym (c .if1 .taken) ∙ c .before .is-bad .ensures)
 
 opening-size-requires : tie.Need-opening-size-requires Inv-loop μ-loop
 opening-size-requires c κs = search needs
 
 add-end : tie.Need-add-end Inv-loop μ-loop
-add-end c = let h = sized-room _ _ _ _ _ _ (c .before .before .before .before .before .before .loop-test .taken) (c .before .before .before .before .before .before .before .loop .inv .parts) (c .before .before .before .before .before .word-at .ensures) (c .before .before .before .before .count-at .ensures .0) (c .before .before .before .before .before .before .before .loop .inv) _ (c .opening-size .ensures) (c .before .before .before .before .count-at .ensures .1) in omega arith
+add-end c =
+    let turn = c .before .before .before .before in
+    let h = sized-room _ _ _ _ _ _ (turn .before .before .loop-test .taken) (turn .before .before .before .loop .inv .parts) (turn .before .word-at .ensures) (turn .count-at .ensures .0) (turn .before .before .before .loop .inv) _ (c .opening-size .ensures) (turn .count-at .ensures .1) in omega arith
 
 add-end-2 : tie.Need-add-end-2 Inv-loop μ-loop
-add-end-2 c = let h = sized-room _ _ _ _ _ _ (c .before .before .before .before .before .before .loop-test .taken) (c .before .before .before .before .before .before .before .loop .inv .parts) (c .before .before .before .before .before .word-at .ensures) (c .before .before .before .before .count-at .ensures .0) (c .before .before .before .before .before .before .before .loop .inv) _ (c .opening-size .ensures) (c .before .before .before .before .count-at .ensures .1) in omega arith
+add-end-2 c =
+    let turn = c .before .before .before .before in
+    let h = sized-room _ _ _ _ _ _ (turn .before .before .loop-test .taken) (turn .before .before .before .loop .inv .parts) (turn .before .word-at .ensures) (turn .count-at .ensures .0) (turn .before .before .before .loop .inv) _ (c .opening-size .ensures) (turn .count-at .ensures .1) in omega arith
 
 sub-kind-rest : tie.Need-sub-kind-rest Inv-loop μ-loop
 sub-kind-rest c = parts-next _ _ _ _ (c .before .before .before .before .before .before .loop-test .taken) (c .before .before .before .before .before .before .before .loop .inv .parts) .kind
@@ -61,10 +69,14 @@ part-size-rest-end : tie.Need-part-size-rest-end Inv-loop μ-loop
 part-size-rest-end c = le-refl _
 
 sub-body-rest : tie.Need-sub-body-rest Inv-loop μ-loop
-sub-body-rest c = next-fits _ _ _ _ _ _ (c .before .before .before .before .before .before .before .before .loop-test .taken) (c .before .before .before .before .before .before .before .before .before .loop .inv .parts) (c .before .before .before .before .before .before .before .word-at .ensures) (c .before .before .before .before .before .before .count-at .ensures .0)
+sub-body-rest c =
+    let past = c .before .before .before .before .before .before in
+    next-fits _ _ _ _ _ _ (past .before .before .loop-test .taken) (past .before .before .before .loop .inv .parts) (past .before .word-at .ensures) (past .count-at .ensures .0)
 
 part-body-rest-start : tie.Need-part-body-rest-start Inv-loop μ-loop
-part-body-rest-start c = next-fits _ _ _ _ _ _ (c .before .before .before .before .before .before .before .before .loop-test .taken) (c .before .before .before .before .before .before .before .before .before .loop .inv .parts) (c .before .before .before .before .before .before .before .word-at .ensures) (c .before .before .before .before .before .before .count-at .ensures .0)
+part-body-rest-start c =
+    let past = c .before .before .before .before .before .before in
+    next-fits _ _ _ _ _ _ (past .before .before .loop-test .taken) (past .before .before .before .loop .inv .parts) (past .before .word-at .ensures) (past .count-at .ensures .0)
 
 part-body-rest-end : tie.Need-part-body-rest-end Inv-loop μ-loop
 part-body-rest-end c = le-refl _
@@ -76,7 +88,9 @@ loop-less : tie.Need-loop-less Inv-loop μ-loop
 loop-less c = search needs
 
 loop-again : tie.Need-loop-again Inv-loop μ-loop
-loop-again c = sized-more _ _ _ _ _ _ (c .before .before .before .before .before .before .before .before .before .loop-test .taken) (c .before .before .before .before .before .before .before .before .before .before .loop .inv .parts) (c .before .before .before .before .before .before .before .before .word-at .ensures) (c .before .before .before .before .before .before .before .count-at .ensures .0) (c .before .before .before .before .before .before .before .before .before .before .loop .inv) _ (c .before .before .before .opening-size .ensures) (c .before .before .before .before .before .before .before .count-at .ensures .1) (sym (c .before .before .before .before .if1 .left) ∙ c .before .before .before .before .before .is-bad .ensures)
+loop-again c =
+    let turn = c .before .before .before .before .before .before .before in
+    sized-more _ _ _ _ _ _ (turn .before .before .loop-test .taken) (turn .before .before .before .loop .inv .parts) (turn .before .word-at .ensures) (turn .count-at .ensures .0) (turn .before .before .before .loop .inv) _ (c .before .before .before .opening-size .ensures) (turn .count-at .ensures .1) (sym (c .before .before .before .before .if1 .left) ∙ c .before .before .before .before .before .is-bad .ensures)
 
 returns-2 : tie.Need-returns-2 Inv-loop μ-loop
 returns-2 c = sized-long (c .before .before .loop .inv) (c .before .loop-test .left) (c .if2 .taken)

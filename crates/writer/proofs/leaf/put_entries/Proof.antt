@@ -25,10 +25,14 @@ count-at-requires : tie.Need-count-at-requires Inv-loop μ-loop
 count-at-requires c κs = search needs
 
 slice-aggregate-put-entry : tie.Need-slice-aggregate-put-entry Inv-loop μ-loop
-slice-aggregate-put-entry c = sym (next-body _ _ _ (c .before .before .before .before .before .loop .body-rest .now) _ _ (c .before .before .before .before .loop-test .taken) (c .before .before .before .before .before .loop .inv .parts) (c .before .before .before .word-at .ensures) (c .before .before .count-at .ensures .0))
+slice-aggregate-put-entry c =
+    let turn = c .before .before in
+    sym (next-body _ _ _ (turn .before .before .before .loop .body-rest .now) _ _ (turn .before .before .loop-test .taken) (turn .before .before .before .loop .inv .parts) (turn .before .word-at .ensures) (turn .count-at .ensures .0))
 
 put-entry-requires : tie.Need-put-entry-requires Inv-loop μ-loop
-put-entry-requires c κs = filled-fits _ _ _ _ _ _ (c .before .before .before .before .loop-test .taken) (c .before .before .before .before .before .loop .inv .parts) (c .before .before .before .word-at .ensures) (c .before .before .count-at .ensures .0) (c .before .before .before .before .before .loop .inv)
+put-entry-requires c κs =
+    let turn = c .before .before in
+    filled-fits _ _ _ _ _ _ (turn .before .before .loop-test .taken) (turn .before .before .before .loop .inv .parts) (turn .before .word-at .ensures) (turn .count-at .ensures .0) (turn .before .before .before .loop .inv)
 
 sub-kind-rest : tie.Need-sub-kind-rest Inv-loop μ-loop
 sub-kind-rest c = parts-next _ _ _ _ (c .before .before .before .before .before .before .before .loop-test .taken) (c .before .before .before .before .before .before .before .before .loop .inv .parts) .kind
@@ -49,10 +53,14 @@ part-size-rest-end : tie.Need-part-size-rest-end Inv-loop μ-loop
 part-size-rest-end c = le-refl _
 
 sub-body-rest : tie.Need-sub-body-rest Inv-loop μ-loop
-sub-body-rest c = next-fits _ _ _ _ _ _ (c .before .before .before .before .before .before .before .before .before .loop-test .taken) (c .before .before .before .before .before .before .before .before .before .before .loop .inv .parts) (c .before .before .before .before .before .before .before .before .word-at .ensures) (c .before .before .before .before .before .before .before .count-at .ensures .0)
+sub-body-rest c =
+    let past = c .before .before .before .before .before .before .before in
+    next-fits _ _ _ _ _ _ (past .before .before .loop-test .taken) (past .before .before .before .loop .inv .parts) (past .before .word-at .ensures) (past .count-at .ensures .0)
 
 part-body-rest-start : tie.Need-part-body-rest-start Inv-loop μ-loop
-part-body-rest-start c = next-fits _ _ _ _ _ _ (c .before .before .before .before .before .before .before .before .before .loop-test .taken) (c .before .before .before .before .before .before .before .before .before .before .loop .inv .parts) (c .before .before .before .before .before .before .before .before .word-at .ensures) (c .before .before .before .before .before .before .before .count-at .ensures .0)
+part-body-rest-start c =
+    let past = c .before .before .before .before .before .before .before in
+    next-fits _ _ _ _ _ _ (past .before .before .loop-test .taken) (past .before .before .before .loop .inv .parts) (past .before .word-at .ensures) (past .count-at .ensures .0)
 
 part-body-rest-end : tie.Need-part-body-rest-end Inv-loop μ-loop
 part-body-rest-end c = le-refl _
@@ -64,7 +72,9 @@ loop-less : tie.Need-loop-less Inv-loop μ-loop
 loop-less c = search needs
 
 loop-again : tie.Need-loop-again Inv-loop μ-loop
-loop-again c = filled-more _ _ _ _ _ _ (c .before .before .before .before .before .before .before .before .before .before .loop-test .taken) (c .before .before .before .before .before .before .before .before .before .before .before .loop .inv .parts) (c .before .before .before .before .before .before .before .before .before .word-at .ensures) (c .before .before .before .before .before .before .before .before .count-at .ensures .0) (c .before .before .before .before .before .before .before .before .before .before .before .loop .inv) _ _ (c .before .before .before .before .before .put-entry .ensures .0) (c .before .before .before .before .before .put-entry .ensures .1)
+loop-again c =
+    let turn = c .before .before .before .before .before .before .before .before in
+    filled-more _ _ _ _ _ _ (turn .before .before .loop-test .taken) (turn .before .before .before .loop .inv .parts) (turn .before .word-at .ensures) (turn .count-at .ensures .0) (turn .before .before .before .loop .inv) _ _ (c .before .before .before .before .before .put-entry .ensures .0) (c .before .before .before .before .before .put-entry .ensures .1)
 
 same-length : tie.Need-same-length Inv-loop μ-loop
 same-length c = c .before .loop .inv .same

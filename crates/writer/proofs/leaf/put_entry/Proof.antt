@@ -24,7 +24,10 @@ same-length : tie.Need-same-length
 same-length c = search needs
 
 returns : tie.Need-returns
-returns c = (entry-end _ _ _ _ _ _ (c .before .before .before .before .before .before .before .before .before .before .before .pre) (c .before .before .before .before .opening-size .ensures) (c .before .before .before .before .before .before .before .put-opening .ensures), entry-put _ _ _ _ _ _ (c .before .before .before .before .before .before .before .before .before .before .before .pre) (c .before .before .before .before .opening-size .ensures) (c .before .before .before .before .before .before .before .put-opening .ensures) _ (c .before .before .put-bytes .ensures))
+returns c =
+    let start = c .before .before .before .before .before .before .before .before .before .before .before in
+    let past = c .before .before .before .before in
+    (entry-end _ _ _ _ _ _ (start .pre) (past .opening-size .ensures) (past .before .before .before .put-opening .ensures), entry-put _ _ _ _ _ _ (start .pre) (past .opening-size .ensures) (past .before .before .before .put-opening .ensures) _ (c .before .before .put-bytes .ensures))
 
 pub put-entry-spec : {M : Type 1} → statement M
 put-entry-spec =

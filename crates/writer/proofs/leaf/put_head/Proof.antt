@@ -28,7 +28,10 @@ same-length : tie.Need-same-length
 same-length c = search needs
 
 returns : tie.Need-returns
-returns c = head-21140 (c .before .before .before .before .before .before .before .before .before .before .args .sheet .now) (c .before .before .before .before .before .before .before .before .before .before .args .row) _ (c .before .before .before .before .before .before .before .before .before .before .args .room .now) _ (c .before .before .before .before .before .before .before .before .before .before .pre .0) (c .before .before .before .before .before .before .word-at .ensures) (c .before .before .before .before .before .before .before .before .before .before .pre .1) (c .before .before .before .before .before .put-word .ensures) (c .before .before .if1 .taken)
+returns c =
+    let start = c .before .before .before .before .before .before .before .before .before .before in
+    let past = c .before .before .before .before .before in
+    head-21140 (start .args .sheet .now) (start .args .row) _ (start .args .room .now) _ (start .pre .0) (past .before .word-at .ensures) (start .pre .1) (past .put-word .ensures) (c .before .before .if1 .taken)
 
 shared-slice-read-room-3 : tie.Need-shared-slice-read-room-3
 shared-slice-read-room-3 c = search needs
@@ -40,7 +43,10 @@ same-length-2 : tie.Need-same-length-2
 same-length-2 c = search needs
 
 returns-2 : tie.Need-returns-2
-returns-2 c = head-other (c .before .before .before .before .before .before .before .before .before .args .sheet .now) (c .before .before .before .before .before .before .before .before .before .args .row) _ (c .before .before .before .before .before .before .before .before .before .args .room .now) _ (c .before .before .before .before .before .before .before .before .before .pre .0) (c .before .before .before .before .before .word-at .ensures) (c .before .before .before .before .before .before .before .before .before .pre .1) (c .before .before .before .before .put-word .ensures) (c .before .if1 .left)
+returns-2 c =
+    let start = c .before .before .before .before .before .before .before .before .before in
+    let past = c .before .before .before .before in
+    head-other (start .args .sheet .now) (start .args .row) _ (start .args .room .now) _ (start .pre .0) (past .before .word-at .ensures) (start .pre .1) (past .put-word .ensures) (c .before .if1 .left)
 
 pub put-head-spec : {M : Type 1} → statement M
 put-head-spec =

@@ -65,14 +65,22 @@ part-put-entries-end-3 c = search needs
 
 put-entries-requires : tie.Need-put-entries-requires
 unfolding sheetFrom
-put-entries-requires c κs = leaf-holds (c .before .before .before .before .before .before .before .before .before .before .before .before .before .before .args .sheet .now) (c .before .before .before .before .before .before .before .before .before .before .before .before .before .before .pre .0) _ (c .before .before .before .before .before .count-at .ensures .0) _ _ (c .before .before .before .before .before .before .before .before .before .before .row-of .ensures ∙ ap rowOf (c .before .before .before .before .before .before .before .before .before .before .before .word-at .ensures)) (c .before .before .before .header-length .ensures .0) (c .before .before .before .before .before .before .before .before .before .before .before .before .before .before .args .room .now) _ (c .before .before .before .before .before .before .before .before .before .before .before .before .before .before .pre .1) (c .before .before .before .before .before .before .before .before .put-head .ensures)
+put-entries-requires c κs =
+    let counted = c .before .before .before .before .before in
+    let seen = counted .before .before .before .before .before in
+    let start = seen .before .before .before .before in
+    leaf-holds (start .args .sheet .now) (start .pre .0) _ (counted .count-at .ensures .0) _ _ (seen .row-of .ensures ∙ ap rowOf (seen .before .word-at .ensures)) (c .before .before .before .header-length .ensures .0) (start .args .room .now) _ (start .pre .1) (counted .before .before .before .put-head .ensures)
 
 same-length : tie.Need-same-length
 same-length c = search needs
 
 returns : tie.Need-returns
 unfolding sheetFrom
-returns c = leaf-put (c .before .before .before .before .before .before .before .before .before .before .before .before .before .before .before .before .before .args .sheet .now) (c .before .before .before .before .before .before .before .before .before .before .before .before .before .before .before .before .before .pre .0) _ (c .before .before .before .before .before .before .before .before .count-at .ensures .0) _ _ (c .before .before .before .before .before .before .before .before .before .before .before .before .before .row-of .ensures ∙ ap rowOf (c .before .before .before .before .before .before .before .before .before .before .before .before .before .before .word-at .ensures)) (c .before .before .before .before .before .before .header-length .ensures .0) (c .before .before .before .before .before .before .before .before .before .before .before .before .before .before .before .before .before .args .room .now) _ (c .before .before .before .before .before .before .before .before .before .before .before .before .before .before .before .before .before .pre .1) (c .before .before .before .before .before .before .before .before .before .before .before .put-head .ensures) _ (c .before .before .put-entries .ensures)
+returns c =
+    let counted = c .before .before .before .before .before .before .before .before in
+    let seen = counted .before .before .before .before .before in
+    let start = seen .before .before .before .before in
+    leaf-put (start .args .sheet .now) (start .pre .0) _ (counted .count-at .ensures .0) _ _ (seen .row-of .ensures ∙ ap rowOf (seen .before .word-at .ensures)) (c .before .before .before .before .before .before .header-length .ensures .0) (start .args .room .now) _ (start .pre .1) (counted .before .before .before .put-head .ensures) _ (c .before .before .put-entries .ensures)
 
 pub put-leaf-spec : {M : Type 1} → statement M
 put-leaf-spec =
