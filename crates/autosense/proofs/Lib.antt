@@ -6,9 +6,7 @@ pub mod Numbered
 pub mod Simulation
 pub mod OlderReadings
 pub mod OlderReader
-pub mod Worked
 pub mod Refusals
 pub mod Order
 pub mod Counting
-pub mod Conditions
 pub mod Standing

@@ -3,5 +3,3 @@ pub mod Calls
 pub mod Claims
 pub mod Written
 pub mod OlderReader
-pub mod Conditions
-pub mod Cases

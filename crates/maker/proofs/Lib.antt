@@ -1,4 +1,3 @@
-pub mod Put
 pub mod Blocks
 pub mod Measuring
 pub mod Filling

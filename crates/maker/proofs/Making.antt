@@ -18,7 +18,7 @@ use Rattle.reader.specs.Image.{controllerCount, leafAt, restFrom}
 use Rattle.reader.specs.Reading.{judgeCauses, acceptedAnswer, acceptedReading, judgedReading}
 use Rattle.reader.proofs.Readings.{Accepted, restOf, accepted-judged, reading-number, reading-start, reading-blocks}
 use Rattle.reader.proofs.Promised.{judge-numbered}
-use Rattle.sheet.specs.Lists.{allZero, over}
+use Rattle.sheet.specs.Lists.{allZero, over, put}
 use Rattle.sheet.specs.Layout.{chipAt, headLength}
 use Rattle.sheet.specs.Sheet.{bodyBytes, partsOf}
 use Rattle.sheet.specs.Image.{leafStart, newest, imageFrom, leafEnd, upToLeavesEnd, isTidy}
@@ -26,8 +26,8 @@ use Rattle.sheet.specs.Make.{sheetFor, makeCauses, makeNumber, makeLength, made
 use Rattle.maker.specs.declared.Made.{Made}
 use Rattle.maker.specs.declared.parts.Measured.{Measured}
 use Rattle.maker.specs.Answer.{madeFor, refusedMade}
-use Rattle.maker.specs.Code.{AcceptedBlocks, entriesOf, measuredOf, isTidyFrom, put, frontBytes, fieldBytes, Sheetable}
-use Rattle.maker.proofs.Put.{put-length}
+use Rattle.maker.specs.Code.{AcceptedBlocks, entriesOf, measuredOf, isTidyFrom, frontBytes, fieldBytes, Sheetable}
+use Rattle.sheet.proofs.Put.{put-length}
 use Rattle.maker.proofs.Sheets.{front-long, field-long, third-room, three-put, read-whole, read-entries, read-sheet, read-long}
 
 -- ## Whether an image is tidy

@@ -12,7 +12,7 @@ use Rattle.reader.specs.declared.Reading.{Reading}
 use Rattle.reader.specs.Image.{restFrom}
 use Rattle.reader.specs.Reading.{acceptedAnswer, acceptedReading}
 use Rattle.reader.proofs.Readings.{Accepted, restOf, whole-image}
-use Rattle.sheet.specs.Lists.{wordBytes}
+use Rattle.sheet.specs.Lists.{wordBytes, put}
 use Rattle.sheet.specs.Layout.{chipAt, headLength}
 use Rattle.sheet.specs.Record.{Entry}
 use Rattle.sheet.specs.Sheet.{headOf, kindBytes, sizeBytes, bodyBytes, partsOf, sheetOf}
@@ -20,8 +20,8 @@ use Rattle.sheet.specs.Image.{newest, imageFrom}
 use Rattle.sheet.specs.Make.{sheetFor}
 use Rattle.sheet.proofs.Blocks.{entries-length}
 use Rattle.sheet.proofs.Sheets.{kind-length, size-length}
-use Rattle.maker.specs.Code.{put, entriesOf, frontBytes, fieldBytes}
-use Rattle.maker.proofs.Put.{put-length, joined}
+use Rattle.maker.specs.Code.{entriesOf, frontBytes, fieldBytes}
+use Rattle.sheet.proofs.Put.{put-length, joined}
 
 -- ## Three parts
 

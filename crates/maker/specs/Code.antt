@@ -13,7 +13,7 @@ use Rattle.reader.specs.declared.Reading.{Reading}
 use Rattle.reader.specs.Image.{controllerCount, leafAt}
 use Rattle.reader.specs.Leaf.{cut, blockCauses}
 use Rattle.reader.specs.Reading.{judgedReading}
-use Rattle.sheet.specs.Lists.{wordBytes, allZero}
+use Rattle.sheet.specs.Lists.{wordBytes, allZero, put}
 use Rattle.sheet.specs.Record.{Entry}
 use Rattle.sheet.specs.Sheet.{bodyBytes}
 use Rattle.sheet.specs.Image.{leafStart, entryOf, sizes, upToLeavesEnd, newest, imageFrom}
@@ -40,10 +40,6 @@ isTidyFrom end image =
     eqb (controllerCount image) 1 && (eqb (leafAt image 0) leafStart && allZero (upToLeavesEnd end image))
 
 -- ## Bytes laid into a sheet
-
--- the list with other bytes from a place on
-unfoldable pub put : List ℕ → ℕ → List ℕ → List ℕ
-put xs at ys = take at xs ++ (ys ++ drop (at + length ys) xs)
 
 -- bytes 0 to 26 of a sheet: the sizes, ID bytes 0 to 15, ID byte 17 and the version, the address and the device number
 unfoldable pub frontBytes : ℕ → ℕ → List ℕ → List ℕ

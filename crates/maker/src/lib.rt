@@ -14,11 +14,11 @@ ghost use mathlib.Core.Path.{_≡_};
 ghost use Prim.Native.Nat.{_≤_};
 ghost use lib.ListN.{length};
 ghost use Rattle.rom.specs.Geometry.{imageLength, leavesEnd};
-ghost use Rattle.sheet.specs.Lists.{allZero};
+ghost use Rattle.sheet.specs.Lists.{allZero, put};
 ghost use Rattle.sheet.specs.Layout.{chipAt, headLength};
 ghost use Rattle.sheet.specs.Make.{sheetFor, made};
 ghost use Rattle.maker.specs.Answer.{madeFor, refusedMade};
-ghost use Rattle.maker.specs.Code.{put, frontBytes, fieldBytes, isTidyFrom, Sheetable};
+ghost use Rattle.maker.specs.Code.{frontBytes, fieldBytes, isTidyFrom, Sheetable};
 
 // The sheet's length, or a refusal's number and 0.
 #[repr(C)]

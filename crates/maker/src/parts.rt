@@ -10,7 +10,8 @@ ghost use lib.ListN.{length};
 ghost use Rattle.sheet.specs.Layout.{headLength};
 ghost use Rattle.sheet.specs.Sheet.{kindBytes, sizeBytes, bodyBytes, partsOf};
 ghost use Rattle.sheet.specs.Image.{openingLength};
-ghost use Rattle.maker.specs.Code.{AcceptedBlocks, entriesOf, measuredOf, put};
+ghost use Rattle.sheet.specs.Lists.{put};
+ghost use Rattle.maker.specs.Code.{AcceptedBlocks, entriesOf, measuredOf};
 
 // How many bytes a leaf's blocks take, and how many of those their bodies.
 pub struct Measured {

@@ -3,8 +3,7 @@ ghost use mathlib.Core.Path.{_≡_};
 ghost use mathlib.Core.List.{[], _∷_};
 ghost use Prim.Native.Nat.{_+_, _≤_};
 ghost use lib.ListN.{length};
-ghost use Rattle.sheet.specs.Lists.{wordBytes};
-ghost use Rattle.maker.specs.Code.{put};
+ghost use Rattle.sheet.specs.Lists.{wordBytes, put};
 
 pub fn put_byte(sheet: &mut [u8], at: usize, byte: u8)
     requires { ⌜ at + 1 ≤ length (now sheet) ⌝ }

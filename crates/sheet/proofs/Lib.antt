@@ -1,3 +1,4 @@
+pub mod Put
 pub mod Basics
 pub mod Blocks
 pub mod Sheets

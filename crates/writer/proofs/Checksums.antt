@@ -4,8 +4,7 @@ use mathlib.Core.Path.{_≡_, refl, sym, ap, ap₂, _∙_}
 use mathlib.Core.List.{List, _++_}
 use native.Mathlib.Omega.{arith}
 use lib.ListN.{length, List·getD-append}
-use lib.Seq.{take-append-le}
-use Rattle.rom.specs.Geometry.{imageLength, checkedLength}
+use Rattle.rom.specs.Geometry.{imageLength}
 use Rattle.rom.specs.Bytes.{byteAt, wordAt}
 use Rattle.crc.specs.declared.Checksum.{Checksum}
 use Rattle.crc.specs.Crc.{sromCrc, idCrc, idBits, idWords, word, ones}
@@ -41,8 +40,3 @@ module _ (s t : List ℕ) (same : (i : ℕ) → i < 16 → byteAt s i ≡ byteAt
 pub id-front : (xs ys : List ℕ) → 18 ≤ length xs → idCrc (xs ++ ys) ≡ idCrc xs
 id-front xs ys h =
     id-same (xs ++ ys) xs (λ i l. List·getD-append xs ys 0 i (omega arith)) (List·getD-append xs ys 0 17 (omega arith))
-
--- the SROM CRC covers bytes 0 to 125
-pub srom-front : (xs ys : List ℕ) → checkedLength ≤ length xs → sromCrc (xs ++ ys) ≡ sromCrc xs
-unfolding sromCrc
-srom-front xs ys h = rw (take-append-le checkedLength xs ys h)

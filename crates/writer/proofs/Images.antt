@@ -1,21 +1,22 @@
 -- The image as it is built. Assumes nothing.
 use Prim.Native.Nat.{ℕ, zero, suc, _+_, _-_, _≤_}
 use mathlib.Core.Path.{_≡_, refl, sym, ap, ap₂, _∙_}
-use mathlib.Core.List.{List, [], _∷_, _++_, append-assoc, append-nil}
+use mathlib.Core.List.{List, _++_, append-assoc, append-nil}
 use native.Mathlib.Omega.{arith}
 use native.Mathlib.Nat.{sub-zero, zero-sub, suc-sub-suc}
 use lib.ListN.{length, take, drop, set, length-append, length-drop, length-replicate, drop-of-length-le}
-use lib.Seq.{take-at, drop-at, set-at, drop-cons, length-take-le}
+use lib.Seq.{take-at, drop-at, set-at, length-take-le}
 use borrow.Rule.Slice.PartMut.{putMid}
 use Rattle.rom.specs.Geometry.{imageLength, checkedLength, leavesEnd, idCrcAt}
-use Rattle.rom.specs.Bytes.{byteAt}
 use Rattle.crc.specs.Crc.{sromCrc, idCrc}
-use Rattle.sheet.specs.Lists.{wordBytes, padded}
+use Rattle.sheet.specs.Lists.{wordBytes, padded, put}
 use Rattle.sheet.specs.Layout.{headLength}
 use Rattle.sheet.specs.Sheet.{sheetFrom}
 use Rattle.sheet.specs.Image.{leafStart, frontWith, frontOf, leafOf, coveredOf, imageOf}
-use Rattle.writer.specs.Inside.{zeros, put, frameOf, identified, sealed, Writable}
-use Rattle.writer.proofs.Checksums.{id-front, srom-front}
+use Rattle.writer.specs.Inside.{zeros, frameOf, identified, sealed, Writable}
+use Rattle.sheet.proofs.Crcs.{srom-front}
+use Rattle.sheet.proofs.Basics.{padded-length, spell, spelled}
+use Rattle.writer.proofs.Checksums.{id-front}
 use Rattle.writer.proofs.Sheets.{has-head, leaf-fits}
 
 -- ## Zeros
@@ -31,16 +32,6 @@ unfolding zeros
 zeros-length n = length-replicate n 0
 
 -- ## The frame
-
--- n bytes from byte k on, one by one
-unfoldable spell : ℕ → ℕ → List ℕ → List ℕ
-spell k zero s = []
-spell k (suc n) s = byteAt s k ∷ spell (suc k) n s
-
-spelled : (k n : ℕ) (s : List ℕ) → k + n ≤ length s → take n (drop k s) ≡ spell k n s
-unfolding spell
-spelled k zero s h = refl
-spelled k (suc n) s h = ap (take (suc n)) (drop-cons s k 0 (omega arith)) ∙ ap (λ (l : List ℕ). byteAt s k ∷ l) (spelled (suc k) n s (omega arith))
 
 -- what stands before the leaf, and the maker's bytes, part by part
 pub frame-is : (s : List ℕ) → headLength ≤ length s
@@ -83,9 +74,6 @@ module _ (s : List ℕ) (h : headLength ≤ length s) where
 padded-is : (n : ℕ) (l : List ℕ) → padded n l ≡ l ++ zeros (n - length l)
 unfolding padded zeros
 padded-is n l = refl
-
-padded-length : (n : ℕ) (l : List ℕ) → length l ≤ n → length (padded n l) ≡ n
-padded-length n l h = rw padded-is (simp length-append (omega (arith, zeros-length (n - length l))))
 
 -- a room of zeros with bytes at its front
 laid : (n : ℕ) (l : List ℕ) → put (zeros n) 0 l ≡ padded n l

@@ -1,5 +1,4 @@
 pub mod Tests
-pub mod Puts
 pub mod Bodies
 pub mod Openings
 pub mod Parts

@@ -16,9 +16,10 @@ use Rattle.sheet.specs.Record.{Entry}
 use Rattle.sheet.specs.Sheet.{entriesFrom}
 use Rattle.sheet.specs.Image.{encode, encodes}
 use Rattle.sheet.specs.Write.{isBad, anyBad}
-use Rattle.writer.specs.Inside.{entry, put, openingSize, Parts, Fits, Holds, entryCauses}
-use Rattle.writer.proofs.Tests.{or-false}
-use Rattle.writer.proofs.Puts.{put-length, put-take, put-drop}
+use Rattle.sheet.specs.Lists.{put}
+use Rattle.writer.specs.Inside.{entry, openingSize, Parts, Fits, Holds, entryCauses}
+use Rattle.sheet.proofs.Basics.{or-false}
+use Rattle.sheet.proofs.Put.{put-length, put-take, put-drop}
 use Rattle.writer.proofs.Openings.{encode-length, size-small}
 use Rattle.writer.proofs.Parts.{entries-none, next, next-body, rests, first}
 

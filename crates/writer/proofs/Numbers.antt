@@ -5,11 +5,11 @@ use mathlib.Core.Bool.{Bool, true, false, _||_, not}
 use mathlib.Core.List.{List, _++_}
 use native.Mathlib.Omega.{arith}
 use lib.ListN.{length}
-use lib.Dec.{eqb, ltb, lit<}
+use lib.Dec.{eqb, ltb}
 use borrow.Author.Tests.{eq-eqb, ne-eqb, lt-ltb, le-ltb}
 use Rattle.rom.specs.Geometry.{imageLength, leavesEnd}
 use Rattle.rom.specs.Bytes.{pick, isIn}
-use Rattle.rom.specs.Refusal.{firstMet, Numbered}
+use Rattle.rom.specs.Refusal.{firstMet}
 use Rattle.rom.proofs.First.{after-accepted, after-refused}
 use Rattle.rom.proofs.Reached.{reached, stop, skip}
 use Rattle.block.specs.Format.{chips, rowOf}
@@ -22,8 +22,10 @@ use Rattle.sheet.specs.Record.{Plain}
 use Rattle.sheet.specs.Sheet.{sheetFrom, isSheet}
 use Rattle.sheet.specs.Image.{leafStart, encodes, leafOf, imageOf, newest}
 use Rattle.sheet.specs.Write.{anyBad, strayControl, cannotHold, recordCauses, writeCauses, writeNumber, written}
+use Rattle.sheet.proofs.Returns.{record-numbered}
 use Rattle.writer.specs.Inside.{entryCauses}
-use Rattle.writer.proofs.Tests.{pick-true, pick-false, or-second}
+use Rattle.sheet.proofs.Basics.{pick-true, pick-false}
+use Rattle.writer.proofs.Tests.{or-second}
 use Rattle.writer.proofs.Sheets.{leaf-length}
 
 -- ## 7, 25 and 26
@@ -65,10 +67,6 @@ module _ (p : Plain) (row : ℕ) (er : row ≡ rowOf (p .chip)) where
         or-none false b e = e
 
 -- ## The whole list
-
-record-numbered : (p : Plain) → Numbered (recordCauses p)
-unfolding recordCauses
-record-numbered p = (lit< tt, (lit< tt, (lit< tt, tt)))
 
 module _ (s : List ℕ) (k : ℕ) where
   pub write-24 : isSheet s ≡ false → 24 ≡ writeNumber s k

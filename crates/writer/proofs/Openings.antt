@@ -10,9 +10,11 @@ use borrow.Author.Tests.{eq-eqb, ne-eqb, eqb-false, ltb-false}
 use Rattle.block.specs.Format.{kindCompact, kind21041}
 use Rattle.sheet.specs.Image.{isWhole, openingOf, encode}
 use Rattle.sheet.specs.Write.{isOtherFamily, isBadBody, isBad}
-use Rattle.writer.specs.Inside.{entry, openingSize, put, Fits}
-use Rattle.writer.proofs.Tests.{pick-true, pick-false, or-false, or-true, or-second}
-use Rattle.writer.proofs.Puts.{put-none, put-two, put-put, put-length}
+use Rattle.sheet.specs.Lists.{put}
+use Rattle.writer.specs.Inside.{entry, openingSize, Fits}
+use Rattle.sheet.proofs.Basics.{or-false, pick-true, pick-false}
+use Rattle.writer.proofs.Tests.{or-true, or-second}
+use Rattle.sheet.proofs.Put.{put-none, put-two, put-put, put-length}
 
 module _ (k : ℕ) where
   pub whole-compact : k ≡ kindCompact → isWhole k ≡ true
@@ -83,7 +85,7 @@ module _ (k : ℕ) where
 -- an opening as it is written
 module _ (room : List ℕ) (to size k : ℕ) (b : List ℕ) (fit : Fits room to (entry k b) (openingOf (entry k b))) (is : size ≡ openingSize k) where
   pub no-opening : size ≡ 0 → room ≡ put room to (openingOf (entry k b))
-  no-opening e = put-none room to ∙ ap (put room to) (sym (opening-none k b (is-whole k (sym is ∙ e))))
+  no-opening e = sym (put-none room to) ∙ ap (put room to) (sym (opening-none k b (is-whole k (sym is ∙ e))))
 
   module _ (h : size ≡ 0 → ⊥) where
     extended : isWhole k ≡ false

@@ -13,15 +13,15 @@ use Rattle.rom.proofs.First.{none-here}
 use Rattle.block.specs.Format.{rowOf, row21140}
 use Rattle.reader.specs.Image.{headerLength}
 use Rattle.reader.proofs.Cuts.{rest-part}
-use Rattle.sheet.specs.Lists.{wordBytes, sum}
+use Rattle.sheet.specs.Lists.{wordBytes, sum, put}
 use Rattle.sheet.specs.Layout.{headLength}
 use Rattle.sheet.specs.Record.{Entry, Plain}
 use Rattle.sheet.specs.Sheet.{countIn, totalIn, kindsIn, sizesIn, bodiesIn, entriesFrom, sheetFrom, isSheet}
 use Rattle.sheet.specs.Image.{leafStart, encodes, controlBytes, leafHeadOf, leafOf}
 use Rattle.sheet.specs.Write.{anyBad, cannotHold, recordCauses}
-use Rattle.writer.specs.Inside.{put, Parts, Holds, Writable}
-use Rattle.writer.proofs.Tests.{and-true, or-false, pick-true, pick-false}
-use Rattle.writer.proofs.Puts.{put-one, put-two, put-put, put-length}
+use Rattle.writer.specs.Inside.{Parts, Holds, Writable}
+use Rattle.sheet.proofs.Basics.{and-true, or-false, pick-true, pick-false}
+use Rattle.sheet.proofs.Put.{put-one, put-two, put-put, put-length}
 use Rattle.writer.proofs.Parts.{entries-length}
 
 -- ## Length and sum

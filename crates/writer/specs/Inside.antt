@@ -9,7 +9,7 @@ use Rattle.rom.specs.Geometry.{imageLength, leavesEnd, checkedLength, idCrcAt}
 use Rattle.rom.specs.Bytes.{pick}
 use Rattle.rom.specs.Refusal.{Cause, _⇒_, firstMet}
 use Rattle.crc.specs.Crc.{sromCrc, idCrc}
-use Rattle.sheet.specs.Lists.{wordBytes, sum}
+use Rattle.sheet.specs.Lists.{wordBytes, sum, put}
 use Rattle.sheet.specs.Record.{Entry}
 use Rattle.sheet.specs.Sheet.{entriesFrom, sheetFrom, isSheet}
 use Rattle.sheet.specs.Image.{leafStart, isWhole, encodes}
@@ -19,10 +19,6 @@ use Rattle.sheet.specs.Write.{isBad, anyBad, recordCauses}
 
 unfoldable pub zeros : ℕ → List ℕ
 zeros n = replicate n 0
-
--- xs with ys from a place on
-unfoldable pub put : List ℕ → ℕ → List ℕ → List ℕ
-put xs at ys = take at xs ++ (ys ++ drop (at + length ys) xs)
 
 -- an image with these bytes before the place of its leaf, these maker's bytes, and zeros elsewhere
 unfoldable pub frameOf : List ℕ → List ℕ → List ℕ

@@ -14,7 +14,8 @@ ghost use Rattle.reader.specs.Image.{headerLength};
 ghost use Rattle.sheet.specs.Layout.{headLength};
 ghost use Rattle.sheet.specs.Sheet.{entriesFrom, sheetFrom};
 ghost use Rattle.sheet.specs.Image.{leafStart, openingOf, encode, encodes, leafHeadOf, leafOf};
-ghost use Rattle.writer.specs.Inside.{entry, put, Fits, Holds, Writable};
+ghost use Rattle.sheet.specs.Lists.{put};
+ghost use Rattle.writer.specs.Inside.{entry, Fits, Holds, Writable};
 
 // The first byte of an extended block with an empty body: the top bit, and the length of the type byte alone.
 const EMPTY_EXTENDED: u8 = 129;

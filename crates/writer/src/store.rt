@@ -2,8 +2,7 @@
 ghost use mathlib.Core.Path.{_≡_};
 ghost use Prim.Native.Nat.{_+_, _≤_};
 ghost use lib.ListN.{length};
-ghost use Rattle.sheet.specs.Lists.{wordBytes};
-ghost use Rattle.writer.specs.Inside.{put};
+ghost use Rattle.sheet.specs.Lists.{wordBytes, put};
 
 pub fn put_bytes(out: &mut [u8], at: usize, source: &[u8])
     requires { ⌜ at + length (now source) ≤ length (now out) ⌝ }

@@ -1,19 +1,25 @@
-//! The calls of `libsrom.a` as safe functions over slices.
+//! The calls of `libsrom.a` as safe functions over slices, and their comparison with the second
+//! implementation.
+
+pub mod compare;
+pub mod lent;
+pub mod levels;
 
 pub use second::crc::Checksum;
 pub use second::reader::{Answer, Arguments};
 pub use second::sheet::Made;
 pub use second::walk::{Walk, Walked};
 
-mod archive {
-    use super::{Answer, Arguments, Checksum, Made, Walk, Walked};
+/// Where a part of the image starts, and how many bytes it has: 0 and 0 for none.
+#[repr(C)]
+#[derive(Debug, Clone, Copy, PartialEq, Eq)]
+pub struct Part {
+    pub start: usize,
+    pub length: usize,
+}
 
-    /// Where a part of the image starts, and how many bytes it has: 0 and 0 for none.
-    #[repr(C)]
-    pub struct Part {
-        pub start: usize,
-        pub length: usize,
-    }
+mod archive {
+    use super::{Answer, Arguments, Checksum, Made, Part, Walk, Walked};
 
     unsafe extern "C" {
         pub fn srom_crc(image: *const u8, length: usize) -> Checksum;
@@ -93,9 +99,14 @@ pub fn read(image: &[u8], arguments: Arguments, kinds: &mut [u16], offsets: &mut
 /// The bytes of the block that an entry of the table names, in the image; an empty part where the
 /// image is refused or the table has no such entry.
 pub fn view(image: &[u8], arguments: Arguments, entry: usize) -> &[u8] {
-    // SAFETY: the call only reads the bytes at `image`, which the slice lends it.
-    let part = unsafe { archive::srom_view(image.as_ptr(), image.len(), arguments, entry) };
+    let part = view_part(image, arguments, entry);
     &image[part.start..][..part.length]
+}
+
+/// The place of what [`view`] hands back.
+pub fn view_part(image: &[u8], arguments: Arguments, entry: usize) -> Part {
+    // SAFETY: the call only reads the bytes at `image`, which the slice lends it.
+    unsafe { archive::srom_view(image.as_ptr(), image.len(), arguments, entry) }
 }
 
 /// A walk that has read no image.

@@ -1,5 +1,7 @@
 //! The CRC calls of the library against the second implementation.
 
+use library::compare::{self, agreed};
+use library::lent::hex;
 use second::crc::{self, ID_CRC_OFFSET, ID_LAST_OFFSET, IMAGE_LENGTH, SROM_CRC_OFFSET, lay_crcs};
 use second::random::Random;
 
@@ -9,13 +11,8 @@ const IMAGE_BITS: usize = 8 * IMAGE_LENGTH;
 
 /// Both calls answer as the second implementation does.
 fn compare(image: &[u8]) {
-    let (srom, id) = (library::srom_crc(image), library::id_crc(image));
-    assert_eq!(srom, crc::srom_crc(image), "SROM CRC of {}", hex(image));
-    assert_eq!(id, crc::id_crc(image), "ID CRC of {}", hex(image));
-}
-
-fn hex(image: &[u8]) -> String {
-    image.iter().map(|byte| format!("{byte:02x}")).collect()
+    agreed(compare::srom_crc(image));
+    agreed(compare::id_crc(image));
 }
 
 fn valid(random: &mut Random) -> Image {

@@ -1,9 +1,11 @@
 //! Reading and the block view of the library against the second implementation.
 
+use library::compare::{self, agreed};
+use second::calls::block_count;
 use second::crc::{IMAGE_LENGTH, lay_crcs};
-use second::images::{Card, DAMAGES, Image, Sample};
+use second::images::{Card, DAMAGES, Sample, random_image};
 use second::random::Random;
-use second::reader::{self, Answer, Arguments, CHIPS, NEWEST_LEVEL, header_size};
+use second::reader::{self, Arguments, CHIPS, NEWEST_LEVEL};
 use std::fmt::Write as _;
 use std::io::{self, Write as _};
 use std::thread;
@@ -28,49 +30,15 @@ struct Tally {
 impl Tally {
     /// Compares a reading into arrays of so many elements.
     fn compare_read(&mut self, image: &[u8], arguments: Arguments, lengths: (usize, usize)) {
-        let (mut kinds, mut offsets) = (pattern(0x5A00), pattern(0xC300));
-        let (mut second_kinds, mut second_offsets) = (kinds, offsets);
-        let answer = library::read(
-            image,
-            arguments,
-            &mut kinds[..lengths.0],
-            &mut offsets[..lengths.1],
-        );
-        let second_answer = reader::read(
-            image,
-            arguments,
-            &mut second_kinds[..lengths.0],
-            &mut second_offsets[..lengths.1],
-        );
-        assert!(
-            answer == second_answer && kinds == second_kinds && offsets == second_offsets,
-            "reading differs for arrays of {lengths:?}, {arguments:?}\n\
-             image   {}\n\
-             library {answer:?} {}\n\
-             second  {second_answer:?} {}",
-            hex(image),
-            entries(&kinds, &offsets, answer),
-            entries(&second_kinds, &second_offsets, second_answer),
-        );
+        let answer = agreed(compare::read(image, arguments, lengths)).answer;
         self.numbers[usize::from(answer.number)] += 1;
         self.calls += 1;
     }
 
-    /// Compares a view, by its place in the image too: the second implementation hands back an
-    /// empty part at the image's start.
     fn compare_view(&mut self, image: &[u8], arguments: Arguments, entry: usize) {
-        let part = library::view(image, arguments, entry);
-        let second_part = reader::view(image, arguments, entry);
-        assert!(
-            part.as_ptr_range() == second_part.as_ptr_range(),
-            "view of entry {entry} differs, {arguments:?}\n\
-             image   {}\n\
-             library {}\n\
-             second  {}",
-            hex(image),
-            place(image, part),
-            place(image, second_part),
-        );
+        let part = agreed(compare::view(image, arguments, entry));
+        let view = library::view(image, arguments, entry);
+        assert_eq!(view, &image[part.start..][..part.length]);
         self.calls += 1;
     }
 
@@ -78,7 +46,7 @@ impl Tally {
     /// count, and the views of every entry and of one past.
     fn compare(&mut self, random: &mut Random, image: &[u8], arguments: Arguments) {
         self.compare_read(image, arguments, (ROOMY, ROOMY));
-        let count = block_count(image, arguments).unwrap_or(0);
+        let count = block_count(image, arguments);
         self.compare_read(image, arguments, (count, count));
         let mut near = || random.pick(&[count.saturating_sub(1), count, count + 1, count / 2, 255]);
         let lengths = (near(), near());
@@ -93,39 +61,6 @@ impl Tally {
 
 /// A name and the calls that go by it.
 type Family = (&'static str, fn() -> Tally);
-
-/// An array whose elements all differ.
-fn pattern(first: u16) -> [u16; ROOMY] {
-    std::array::from_fn(|index| first + index as u16)
-}
-
-/// The block count as it stands where the arguments point, right or wrong.
-fn block_count(image: &[u8], arguments: Arguments) -> Option<usize> {
-    let controller = 26 + 3 * usize::from(arguments.controller);
-    let leaf = u16::from_le_bytes([*image.get(controller + 1)?, *image.get(controller + 2)?]);
-    let count = image.get(usize::from(leaf) + header_size(arguments.chip) - 1)?;
-    Some((*count).into())
-}
-
-fn hex(image: &[u8]) -> String {
-    image.iter().map(|byte| format!("{byte:02x}")).collect()
-}
-
-/// The first elements of both arrays, one more than the answer lists.
-fn entries(kinds: &[u16], offsets: &[u16], answer: Answer) -> String {
-    let entries = kinds
-        .iter()
-        .zip(offsets)
-        .take(1 + usize::from(answer.listed));
-    entries
-        .map(|(kind, offset)| format!(" {kind}@{offset}"))
-        .collect()
-}
-
-fn place(image: &[u8], part: &[u8]) -> String {
-    let start = part.as_ptr().addr().wrapping_sub(image.as_ptr().addr());
-    format!("{} bytes at {start}: {}", part.len(), hex(part))
-}
 
 /// "accepts exactly the images": valid cards of every chip, with unknown types among their blocks,
 /// for each controller and one that is none, at every level, and for another chip.
@@ -174,7 +109,7 @@ fn array_lengths() -> Tally {
                 level,
                 ..sample.arguments
             };
-            let count = block_count(&image, arguments).expect("a valid card has a leaf");
+            let count = block_count(&image, arguments);
             for length in 0..=count + 2 {
                 tally.compare_read(&image, arguments, (length, length));
                 tally.compare_read(&image, arguments, (length, ROOMY));
@@ -266,21 +201,6 @@ fn random_bytes() -> Tally {
         tally.compare(&mut random, &image, arguments);
     }
     tally
-}
-
-/// Random bytes with both CRCs, and mostly with a version and a controller count.
-fn random_image(random: &mut Random) -> Image {
-    let mut image = random.bytes();
-    if !random.one_in(8) {
-        image[18] = random.pick(&[3, 4]);
-    }
-    if !random.one_in(8) {
-        let count = 1 + random.below(32);
-        image[19] = count as u8;
-        image[26 + 3 * count] = 0;
-    }
-    lay_crcs(&mut image);
-    image
 }
 
 /// "1 image not 128 bytes": every length up to 300, of a valid image with bytes after it and of

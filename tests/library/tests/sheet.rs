@@ -1,11 +1,14 @@
 //! The writer and the sheet maker of the library against the second implementation, and both
 //! returns.
 
+use library::compare::{self, agreed};
+use library::lent::{Lent, hex};
 use second::crc::{IMAGE_LENGTH, lay_crcs};
-use second::images::{Card, DAMAGES, Image, Sample, TIDY_LEAF};
+use second::images::Card;
 use second::random::Random;
-use second::reader::{Arguments, CHIPS, LEAF_LIMIT, NEWEST_LEVEL};
-use second::sheet::{self, CHIP, KINDS, Made};
+use second::reader::CHIPS;
+use second::sheet::{CHIP, KINDS, Made};
+use second::sheets::tidy::{TIDY_DAMAGES, damaged, tidy, untidy};
 use second::sheets::{SHEET_DAMAGES, Sheet};
 use std::fmt::Write as _;
 use std::io::{self, Write as _};
@@ -29,9 +32,6 @@ const LONGEST_SHEET: usize = KINDS + 3 * 91 + 91;
 /// More bytes than any sheet of a tidy image has.
 const ROOMY: usize = LONGEST_SHEET + 40;
 
-/// Bytes before and after what is lent, which nobody may touch.
-const GUARD: usize = 16;
-
 /// How often the writer and the maker answered each number, and how many sheets and images were
 /// compared.
 #[derive(Default)]
@@ -46,22 +46,9 @@ impl Tally {
     /// Compares the writing of a sheet to an image of so many bytes, which a refusal must leave as
     /// it is; an accepted sheet is made again.
     fn compare_write(&mut self, sheet: &[u8], length: usize) {
-        let before = pattern(length);
-        let (mut image, mut second_image) = (before.clone(), before.clone());
-        let number = library::write(sheet, lent(&mut image));
-        let second_number = sheet::write(sheet, lent(&mut second_image));
+        let (number, image) = agreed(compare::write(sheet, length));
         assert!(
-            number == second_number && image == second_image,
-            "writing differs to {length} bytes\n\
-             sheet   {}\n\
-             library {number} {}\n\
-             second  {second_number} {}",
-            hex(sheet),
-            hex(&image),
-            hex(&second_image),
-        );
-        assert!(
-            number == 0 || image == before,
+            number == 0 || image == Lent::pattern(length).elements(),
             "refused with {number}, and changed the image\nsheet {}",
             hex(sheet)
         );
@@ -69,7 +56,7 @@ impl Tally {
         if number == 0 {
             let chip = u16::from_le_bytes([sheet[CHIP], sheet[CHIP + 1]]);
             let mut again = vec![0; sheet.len()];
-            let made = library::make_sheet(lent(&mut image), chip, &mut again);
+            let made = library::make_sheet(&image, chip, &mut again);
             let expected = Made {
                 number: 0,
                 length: sheet.len(),
@@ -86,30 +73,17 @@ impl Tally {
     /// Compares the making of a sheet in a buffer of so many bytes, of which a refusal must leave
     /// all as they are and acceptance those past the sheet; an accepted sheet is written again.
     fn compare_make(&mut self, image: &[u8], chip: u16, length: usize) -> Made {
-        let before = pattern(length);
-        let (mut buffer, mut second_buffer) = (before.clone(), before.clone());
-        let made = library::make_sheet(image, chip, lent(&mut buffer));
-        let second_made = sheet::make(image, chip, lent(&mut second_buffer));
-        assert!(
-            made == second_made && buffer == second_buffer,
-            "making differs in {length} bytes for the {chip}\n\
-             image   {}\n\
-             library {made:?} {}\n\
-             second  {second_made:?} {}",
-            hex(image),
-            hex(&buffer),
-            hex(&second_buffer),
-        );
-        let end = GUARD + made.length;
-        assert!(
-            buffer[..GUARD] == before[..GUARD] && buffer[end..] == before[end..],
+        let (made, buffer) = agreed(compare::make_sheet(image, chip, length));
+        assert_eq!(
+            buffer[made.length..],
+            Lent::pattern(length).elements()[made.length..],
             "{made:?}, and changed other bytes\nimage {}",
             hex(image)
         );
         self.makes[usize::from(made.number)] += 1;
         if made.number == 0 {
             let mut again = [0xA5; IMAGE_LENGTH];
-            let number = library::write(&buffer[GUARD..end], &mut again);
+            let number = library::write(&buffer[..made.length], &mut again);
             assert!(
                 number == 0 && again == image,
                 "{number}\nimage {}\nagain {}",
@@ -149,22 +123,6 @@ impl Tally {
 
 /// A name and the calls that go by it.
 type Family = (&'static str, fn() -> Tally);
-
-/// So many bytes to lend, with guards around them, all different from their neighbours and none 0.
-fn pattern(length: usize) -> Vec<u8> {
-    let bytes = 0..length + 2 * GUARD;
-    bytes.map(|index| 1 + (index * 37 % 251) as u8).collect()
-}
-
-/// What is lent of a pattern.
-fn lent(pattern: &mut [u8]) -> &mut [u8] {
-    let end = pattern.len() - GUARD;
-    &mut pattern[GUARD..end]
-}
-
-fn hex(bytes: &[u8]) -> String {
-    bytes.iter().map(|byte| format!("{byte:02x}")).collect()
-}
 
 /// "Writing a sheet": valid sheets of every chip, and the image that the builder of images lays;
 /// then "making a sheet of a tidy image", of that image.
@@ -244,42 +202,7 @@ fn values(random: &mut Random, byte: u8, all: bool) -> Vec<u8> {
 fn random_sheets() -> Tally {
     let (mut tally, mut random) = (Tally::default(), Random::new(5));
     for _ in 0..40_000 {
-        let chip = random.pick(&CHIPS);
-        let mut sheet = Sheet::valid(&mut random);
-        sheet.chip = chip;
-        sheet.control = if random.one_in(8) { random.byte() } else { 0 };
-        let body = |_| {
-            let kind = match random.below(8) {
-                0 => random.word(),
-                1 => random.below(300) as u16,
-                2 => random.below(10) as u16,
-                _ if chip == 21041 => 257,
-                _ => random.pick(&[256, 0, 1, 2, 3, 4, 5, 6, 200]),
-            };
-            let size = match kind {
-                257 => random.pick(&[1, 1, 1, 7]),
-                256 => 4,
-                _ if random.one_in(16) => random.below(256),
-                _ => random.below(16),
-            };
-            let sparse = random.one_in(2);
-            let mut body = random.row(size);
-            if sparse {
-                body.iter_mut().for_each(|byte| *byte &= 0x03);
-            }
-            (kind, body)
-        };
-        let blocks = (0..4).map(body).collect::<Vec<_>>();
-        sheet.blocks = blocks[..random.below(5)].to_vec();
-        let mut bytes = sheet.bytes();
-        if random.one_in(16) {
-            let length = random.below(bytes.len() + 1);
-            bytes.truncate(length);
-        }
-        if random.one_in(32) {
-            let length = random.below(600);
-            bytes = random.row(length);
-        }
+        let bytes = Sheet::wild(&mut random);
         tally.compare_sheet(&mut random, &bytes);
     }
     tally
@@ -311,19 +234,11 @@ fn lengths() -> Tally {
     tally
 }
 
-/// A tidy card of any chip.
-fn tidy(random: &mut Random) -> (Card, u16) {
-    let sheet = Sheet::valid(random);
-    (sheet.card(), sheet.chip)
-}
-
 /// "reader's numbers (12 apart)": each field of a tidy image damaged, and "27 not tidy": a byte
 /// after the leaf, the leaf elsewhere, more controllers.
 fn damaged_images() -> Tally {
     let (mut tally, mut random) = (Tally::default(), Random::new(7));
-    // Those of the controller, the level and the address are not for controller 0.
-    let damages = DAMAGES.iter().filter(|number| ![6, 8, 9].contains(*number));
-    for &number in damages.cycle().take(26_000) {
+    for &number in TIDY_DAMAGES.iter().cycle().take(26_000) {
         let sample = damaged(&mut random, number);
         let image = sample.card.image();
         tally.compare_image(&mut random, &image, sample.arguments.chip);
@@ -331,44 +246,6 @@ fn damaged_images() -> Tally {
         tally.compare_image(&mut random, &image, chip);
     }
     tally
-}
-
-/// A tidy card with one field damaged.
-fn damaged(random: &mut Random, number: u8) -> Sample {
-    loop {
-        let (card, chip) = tidy(random);
-        let arguments = Arguments {
-            chip,
-            controller: 0,
-            level: NEWEST_LEVEL,
-        };
-        let mut sample = Sample { card, arguments };
-        if sample.damage(random, number) {
-            return sample;
-        }
-    }
-}
-
-/// An image that the newest reader accepts and that is mostly not tidy.
-fn untidy(random: &mut Random) -> (Image, u16) {
-    let (mut card, chip) = tidy(random);
-    let leaf = &mut card.leaves[0];
-    let end = leaf.end();
-    let places = LEAF_LIMIT - end;
-    match random.below(4) {
-        0 if places > 0 => {
-            let any = end + random.below(places);
-            let offset = random.pick(&[end, any, LEAF_LIMIT - 1]);
-            card.private[offset] = 1 << random.below(8);
-        }
-        1 if places > 0 => {
-            leaf.offset = TIDY_LEAF + 1 + random.below(places);
-            card.controllers[0].leaf_offset = leaf.offset as u16;
-        }
-        2 => card.private[TIDY_LEAF..].fill(random.byte()),
-        _ => card = Card::valid(random, chip),
-    }
-    (card.image(), chip)
 }
 
 /// Each byte of a tidy image changed, before and after the CRCs are mended, and leaves of random

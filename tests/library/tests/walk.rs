@@ -1,12 +1,13 @@
 //! The walk of the library against the second implementation, and the newest reader's walk against
 //! those of older levels.
 
-use library::Walk;
-use second::calls::{self, Call, Habits};
-use second::images::{Card, Sample, block};
+use library::compare::{Pair, agreed};
+use library::levels::Older;
+use second::calls::{self, Call, Habits, Step};
+use second::images::{Card, block};
 use second::random::Random;
-use second::reader::{self, Answer, Arguments, COMPACT, NEWEST_LEVEL, NO_DEFAULT, RESET};
-use second::walk::{Autosense, NONE};
+use second::reader::{self, Arguments, NEWEST_LEVEL};
+use second::walk::NONE;
 use std::io::{self, Write as _};
 use std::thread;
 
@@ -31,6 +32,14 @@ struct Tally {
 }
 
 impl Tally {
+    fn count(&mut self, call: &Call, number: u8) {
+        match call {
+            Call::Load => self.loads[usize::from(number)] += 1,
+            Call::Look(_) => self.looks[usize::from(number)] += 1,
+            Call::Clear => self.clears += 1,
+        }
+    }
+
     fn add(&mut self, other: &Self) {
         for number in 0..=HIGHEST_REFUSAL {
             self.loads[number] += other.loads[number];
@@ -41,86 +50,18 @@ impl Tally {
     }
 }
 
-/// One walk by the library and by the second implementation, compared after every call.
-struct Pair {
-    library: Walk,
-    second: Autosense,
-}
-
-impl Pair {
-    fn fresh() -> Self {
-        let (library, second) = (library::fresh(), Autosense::default());
-        assert_eq!(library, second.walk(), "the fresh walks differ");
-        Self { library, second }
-    }
-
-    /// Makes a call of both and answers its number; loads take this image and these arguments.
-    fn call(&mut self, tally: &mut Tally, call: &Call, image: &[u8], arguments: Arguments) -> u8 {
-        let before = self.library;
-        let (walked, number) = match call {
-            Call::Load => (
-                library::load(before, image, arguments),
-                self.second.load(image, arguments),
-            ),
-            Call::Look(report) => (library::look(before, report), self.second.look(report)),
-            Call::Clear => (library::clear(before), self.second.clear()),
-        };
-        let second = self.second.walk();
-        assert!(
-            walked.number == number && walked.walk == second,
-            "{call:?} differs, {arguments:?}\n\
-             image   {}\n\
-             before  {before:?}\n\
-             library {} {:?}\n\
-             second  {number} {second:?}",
-            hex(image),
-            walked.number,
-            walked.walk,
-        );
-        assert!(
-            number == 0 || walked.walk == before,
-            "{call:?} was refused with {number}, and changed {before:?}"
-        );
-        self.library = walked.walk;
-        match call {
-            Call::Load => tally.loads[usize::from(number)] += 1,
-            Call::Look(_) => tally.looks[usize::from(number)] += 1,
-            Call::Clear => tally.clears += 1,
-        }
-        number
-    }
-}
-
-fn hex(image: &[u8]) -> String {
-    image.iter().map(|byte| format!("{byte:02x}")).collect()
-}
-
-/// Lists on two images, of which each load takes one, now and then not all of it: a walk that was
-/// cleared and loaded again must have kept nothing.
+/// Lists on two images.
 fn random_lists(seed: u64, lists: usize) -> Tally {
     let (mut tally, mut random) = (Tally::default(), Random::new(seed));
     while tally.lists < lists {
-        let samples = [calls::sample(&mut random), calls::sample(&mut random)];
-        let images = samples.each_ref().map(|sample| sample.card.image());
-        let mut pair = Pair::fresh();
-        let mut habits = Habits::new(&mut random, 4);
-        let length = 1 + random.below(32);
-        for place in 0..length {
-            let index = random.pick(&[0, 0, 1]);
-            let arguments = samples[index].arguments;
-            let mut image = images[index].to_vec();
-            if random.one_in(50) {
-                let length = random.pick(&[0, 127, 129, 256, 384]);
-                image.resize(length, 0);
+        let mut pair = agreed(Pair::fresh());
+        for step in calls::steps(&mut random) {
+            let number = agreed(pair.step(&step));
+            match step {
+                Step::Load(..) => tally.loads[usize::from(number)] += 1,
+                Step::Look(_) => tally.looks[usize::from(number)] += 1,
+                Step::Clear => tally.clears += 1,
             }
-            if pair.library.loaded {
-                habits.blocks = pair.library.blocks.into();
-            }
-            let call = match place {
-                0 if !random.one_in(8) => Call::Load,
-                _ => habits.call(&mut random),
-            };
-            pair.call(&mut tally, &call, &image, arguments);
         }
         tally.lists += 1;
     }
@@ -152,19 +93,24 @@ fn spent_looks() -> Tally {
             controller: 0,
             level: NEWEST_LEVEL,
         };
-        let mut pair = Pair::fresh();
-        assert_eq!(pair.call(&mut tally, &Call::Load, &image, arguments), 0);
+        let mut pair = agreed(Pair::fresh());
+        let mut call = |pair: &mut Pair, call: &Call| {
+            let number = agreed(pair.call(call, &image, arguments));
+            tally.count(call, number);
+            number
+        };
+        assert_eq!(call(&mut pair, &Call::Load), 0);
         let habits = Habits {
             blocks: card.leaves[0].blocks.len(),
             rarity: 4,
         };
         let mut accepted = 0;
         while accepted < usize::from(u16::MAX) {
-            let call = Call::Look(match switches {
+            let look = Call::Look(match switches {
                 Some(_) => vec![(accepted % 2) as u8, (1 - accepted % 2) as u8],
                 None => habits.report(&mut random),
             });
-            match pair.call(&mut tally, &call, &image, arguments) {
+            match call(&mut pair, &look) {
                 0 => accepted += 1,
                 number => assert_eq!(number, 19, "after {accepted} looks"),
             }
@@ -175,12 +121,12 @@ fn spent_looks() -> Tally {
             assert_eq!(spent.switches, switches);
         }
         for _ in 0..LEAST_OFTEN {
-            let call = Call::Look(habits.report(&mut random));
-            assert_eq!(pair.call(&mut tally, &call, &image, arguments), 23);
+            let look = Call::Look(habits.report(&mut random));
+            assert_eq!(call(&mut pair, &look), 23);
         }
         assert_eq!(pair.library, spent);
-        for call in habits.list(&mut random, 1_000) {
-            pair.call(&mut tally, &call, &image, arguments);
+        for later in habits.list(&mut random, 1_000) {
+            call(&mut pair, &later);
         }
         tally.lists += 1;
     }
@@ -248,14 +194,6 @@ fn case_k() {
     }
 }
 
-/// An older level against the newest, for one image: which blocks' entries are removed.
-struct Older {
-    newest: Arguments,
-    older: Arguments,
-    removed: Vec<usize>,
-    is_default_removed: bool,
-}
-
 /// What the newest and an older level were seen to do.
 #[derive(Debug, Default)]
 struct Levels {
@@ -286,158 +224,43 @@ impl Levels {
     }
 }
 
-/// What a list showed.
-#[derive(Default)]
-struct Shown {
-    differs: bool,
-    had_removed_up: bool,
-    looks: usize,
-    selections: usize,
-}
-
-/// "Compared after each call of the list are acceptance or refusal number, then fresh or loaded,
-/// and if loaded, settled, selected block number or none, looks and switches."
-fn compared(number: u8, walk: &Walk) -> (u8, Option<(bool, u8, u16, u16)>) {
-    let state = (walk.settled, walk.selected, walk.looks, walk.switches);
-    (number, walk.loaded.then_some(state))
-}
-
-impl Older {
-    /// Sets a level against the newest, and checks what demand 3 says of the two tables.
-    fn new(image: &[u8], newest: Arguments, level: u8) -> Self {
-        let older = Arguments { level, ..newest };
-        let is_removed = |kind: u16| kind < COMPACT && kind >= level.into();
-        let (second_answer, second_table) = read(image, newest, reader::read);
-        assert_eq!(second_answer.number, 0, "the newest reader accepts it");
-        let numbers = block_numbers(image, newest);
-        let removed: Vec<_> = numbers
-            .into_iter()
-            .zip(second_table)
-            .filter(|&(_, (kind, _))| is_removed(kind))
-            .map(|(number, _)| number)
-            .collect();
-        let is_default_removed = removed.contains(&second_answer.default_number.into());
-
-        let (answer, mut table) = read(image, newest, library::read);
-        let (older_answer, older_table) = read(image, older, library::read);
-        table.retain(|&(kind, _)| !is_removed(kind));
-        assert_eq!(older_table, table, "{}", hex(image));
-        let removed_count = removed.len() as u8;
-        let lost_resets = if RESET < level.into() {
-            0
-        } else {
-            answer.resets
-        };
-        let expected = Answer {
-            listed: answer.listed - removed_count,
-            resets: answer.resets - lost_resets,
-            skipped: answer.skipped + removed_count + lost_resets,
-            default_number: if is_default_removed {
-                NO_DEFAULT
-            } else {
-                answer.default_number
-            },
-            ..answer
-        };
-        assert_eq!(older_answer, expected, "{}", hex(image));
-        Self {
-            newest,
-            older,
-            removed,
-            is_default_removed,
-        }
-    }
-
-    /// Runs a list on two fresh walks. Where removed entries are kept down, they are so in the
-    /// looks that the newest walk accepts and in no others.
-    fn run(&self, tally: &mut Tally, image: &[u8], list: &[Call], keeps_down: bool) -> Shown {
-        let (mut newest, mut older) = (Pair::fresh(), Pair::fresh());
-        let mut shown = Shown::default();
-        for call in list {
-            let mut call = call.clone();
-            let mut is_up = false;
-            if let Call::Look(report) = &mut call
-                && newest.second.clone().look(report) == 0
-            {
-                for &number in &self.removed {
-                    report[number] &= u8::from(!keeps_down);
-                    is_up |= report[number] == 1;
-                }
-                shown.looks += 1;
-            }
-            let newest_number = newest.call(tally, &call, image, self.newest);
-            let older_number = older.call(tally, &call, image, self.older);
-            let (newest, older) = (&newest.library, &older.library);
-            shown.differs |= compared(newest_number, newest) != compared(older_number, older);
-            shown.had_removed_up |= is_up;
-            let is_look = matches!(call, Call::Look(_)) && newest_number == 0;
-            shown.selections += usize::from(is_look && newest.selected != NONE);
-        }
-        tally.lists += 1;
-        shown
-    }
-}
-
-/// The answer of a reader and the entries of its table, kind and offset.
-fn read(
-    image: &[u8],
-    arguments: Arguments,
-    reader: impl Fn(&[u8], Arguments, &mut [u16], &mut [u16]) -> Answer,
-) -> (Answer, Vec<(u16, u16)>) {
-    let (mut kinds, mut offsets) = ([0; 255], [0; 255]);
-    let answer = reader(image, arguments, &mut kinds, &mut offsets);
-    let entries = kinds.into_iter().zip(offsets);
-    (answer, entries.take(answer.listed.into()).collect())
-}
-
-/// The block numbers of the table's entries, in its order.
-fn block_numbers(image: &[u8], arguments: Arguments) -> Vec<usize> {
-    let mut walk = Autosense::default();
-    walk.load(image, arguments);
-    let listed = walk.walk().listed;
-    let numbers = (0..listed.len()).rev();
-    numbers.filter(|&number| listed[number] == 1).collect()
-}
-
 /// Lists on images that the newest reader accepts, at each level below the newest.
 fn older_levels(seed: u64, images: usize) -> (Tally, [Levels; NEWEST_LEVEL as usize]) {
     let (mut tally, mut random) = (Tally::default(), Random::new(seed));
     let mut levels: [Levels; NEWEST_LEVEL as usize] = Default::default();
     for _ in 0..images {
-        let mut sample = Sample::valid(&mut random);
-        if !random.one_in(16) {
-            calls::serve(&mut random, &mut sample.card);
-        }
-        if random.one_in(2) {
-            calls::mark(&mut random, &mut sample.card);
-        }
+        let sample = calls::accepted(&mut random);
         let image = sample.card.image();
         let blocks = calls::block_count(&image, sample.arguments);
         for (level, seen) in levels.iter_mut().enumerate() {
-            let older = Older::new(&image, sample.arguments, level as u8);
+            let older = Older::new(&image, sample.arguments, level as u8)
+                .expect("the newest reader accepts it");
+            agreed(older.compare_tables());
             let habits = Habits::new(&mut random, blocks);
             let length = 2 + random.below(16);
             let list = habits.list(&mut random, length);
+            let mut run = |list: &[Call]| {
+                tally.lists += 1;
+                agreed(older.run(list, |call, number| tally.count(call, number)))
+            };
             seen.lists += 1;
-            let shown = older.run(&mut tally, &image, &list, true);
+            let shown = run(&older.keep_down(list.clone()));
             if older.is_default_removed {
                 seen.with_default += 1;
-                seen.default_differs += usize::from(shown.differs);
+                seen.default_differs += usize::from(shown.difference.is_some());
                 continue;
             }
-            assert!(
-                !shown.differs,
-                "level {level} differs on {list:?}, {:?}\nimage {}",
-                older.newest,
-                hex(&image)
-            );
+            agreed(shown.difference.map_or(Ok(()), Err));
             seen.with_removed += usize::from(!older.removed.is_empty());
             seen.looks += shown.looks;
             seen.selections += shown.selections;
-            let shown = older.run(&mut tally, &image, &list, false);
+            let shown = run(&list);
             seen.with_up += usize::from(shown.had_removed_up);
-            seen.up_differs += usize::from(shown.differs);
-            assert!(shown.had_removed_up || !shown.differs, "{list:?}");
+            seen.up_differs += usize::from(shown.difference.is_some());
+            assert!(
+                shown.had_removed_up || shown.difference.is_none(),
+                "{list:?}"
+            );
         }
     }
     (tally, levels)

@@ -4,11 +4,35 @@ use crate::images::damage::{command_offset, kind};
 use crate::images::{Card, DAMAGES, Sample};
 use crate::random::Random;
 use crate::reader::{ACTIVE_INVALID, Arguments, DEFAULT, header_size};
+use crate::walk::Autosense;
+use std::fmt::{self, Display, Formatter};
 
 /// A call of a list. A load takes the image and the arguments that go with the list.
 #[derive(Debug, Clone, PartialEq, Eq)]
 pub enum Call {
     Load,
+    Look(Vec<u8>),
+    Clear,
+}
+
+/// The call's name, and a report in hex.
+impl Display for Call {
+    fn fmt(&self, formatter: &mut Formatter) -> fmt::Result {
+        match self {
+            Self::Load => formatter.write_str("srom_load"),
+            Self::Look(report) => {
+                let report: String = report.iter().map(|byte| format!("{byte:02x}")).collect();
+                write!(formatter, "srom_look [{report}]")
+            }
+            Self::Clear => formatter.write_str("srom_clear"),
+        }
+    }
+}
+
+/// A call of a walk with all that it takes.
+#[derive(Debug, Clone, PartialEq, Eq)]
+pub enum Step {
+    Load(Vec<u8>, Arguments),
     Look(Vec<u8>),
     Clear,
 }
@@ -76,6 +100,56 @@ impl Habits {
         let link = |_| u8::from(random.one_in(self.rarity));
         (0..self.blocks).map(link).collect()
     }
+}
+
+/// Steps on two images, of which each load takes one, now and then not all of it: a walk that was
+/// cleared and loaded again must have kept nothing.
+pub fn steps(random: &mut Random) -> Vec<Step> {
+    let samples = [sample(random), sample(random)];
+    let images = samples.each_ref().map(|sample| sample.card.image());
+    let mut walk = Autosense::default();
+    let mut habits = Habits::new(random, 4);
+    let length = 1 + random.below(32);
+    let step = |place| {
+        let index = random.pick(&[0, 0, 1]);
+        let arguments = samples[index].arguments;
+        let mut image = images[index].to_vec();
+        if random.one_in(50) {
+            let length = random.pick(&[0, 127, 129, 256, 384]);
+            image.resize(length, 0);
+        }
+        if let Some(blocks) = walk.blocks() {
+            habits.blocks = blocks;
+        }
+        let call = match place {
+            0 if !random.one_in(8) => Call::Load,
+            _ => habits.call(random),
+        };
+        match call {
+            Call::Load => {
+                walk.load(&image, arguments);
+                Step::Load(image, arguments)
+            }
+            Call::Look(report) => Step::Look(report),
+            Call::Clear => {
+                walk.clear();
+                Step::Clear
+            }
+        }
+    };
+    (0..length).map(step).collect()
+}
+
+/// A sample that the newest reader accepts, mostly served, and marked in half of the cases.
+pub fn accepted(random: &mut Random) -> Sample {
+    let mut sample = Sample::valid(random);
+    if !random.one_in(16) {
+        serve(random, &mut sample.card);
+    }
+    if random.one_in(2) {
+        mark(random, &mut sample.card);
+    }
+    sample
 }
 
 /// The arguments of a list's loads, and a card for them that is mostly accepted and served.
@@ -146,7 +220,6 @@ pub fn block_count(image: &[u8], arguments: Arguments) -> usize {
 #[cfg(test)]
 mod tests {
     use super::*;
-    use crate::walk::Autosense;
 
     /// "From the state, before any from the input": the lists meet each refusal of load and look
     /// but 12 and 23, and mostly acceptance.

@@ -8,6 +8,7 @@ use crate::crc::{IMAGE_LENGTH, SROM_CRC_OFFSET, lay_crcs, lay_srom_crc};
 use crate::random::Random;
 use crate::reader::{
     Arguments, CHIPS, LEAF_LIMIT, MOST_BLOCKS, NEWEST_LEVEL, connections, first_leaf, header_size,
+    leaf,
 };
 use block::Deck;
 
@@ -213,6 +214,34 @@ impl Card {
     }
 }
 
+/// Random bytes with both CRCs, and mostly with a version and a controller count.
+pub fn random_image(random: &mut Random) -> Image {
+    let mut image = random.bytes();
+    if !random.one_in(8) {
+        image[18] = random.pick(&[3, 4]);
+    }
+    if !random.one_in(8) {
+        let count = 1 + random.below(32);
+        image[19] = count as u8;
+        image[26 + 3 * count] = 0;
+    }
+    lay_crcs(&mut image);
+    image
+}
+
+/// The image without one block of the leaf that the arguments name, both CRCs mended; none where
+/// the reader refuses the image or there is no such block.
+pub fn without_block(image: &[u8], arguments: Arguments, number: usize) -> Option<Image> {
+    let mut image: Image = image.try_into().ok()?;
+    let (header, blocks) = leaf(&image, arguments, usize::MAX).ok()?;
+    let block = blocks.get(number)?;
+    image.copy_within(block.start + block.size..LEAF_LIMIT, block.start);
+    image[LEAF_LIMIT - block.size..LEAF_LIMIT].fill(0);
+    image[header.first_block - 1] -= 1;
+    lay_crcs(&mut image);
+    Some(image)
+}
+
 /// A card and the arguments of a call that reads it.
 #[derive(Debug, Clone)]
 pub struct Sample {
@@ -387,6 +416,36 @@ mod tests {
                 }
             }
         }
+    }
+
+    /// "Leaf and blocks": a leaf that loses a block is the leaf of the others.
+    #[test]
+    fn lost_block() {
+        let mut random = Random::new(5);
+        let blocks = vec![
+            block::sia(0, None, 1, 2),
+            block::reset(&[3]),
+            block::sia(1, Some([4; 6]), 5, 6),
+        ];
+        let arguments = Arguments {
+            chip: 21143,
+            controller: 0,
+            level: NEWEST_LEVEL,
+        };
+        let private = random.bytes::<18>();
+        let image = |blocks: &[Vec<u8>]| {
+            let mut card = Card::tidy(21143, 0x0800, blocks.to_vec());
+            card.private[..18].copy_from_slice(&private);
+            card.image()
+        };
+        for number in 0..3 {
+            let mut others = blocks.clone();
+            others.remove(number);
+            let lost = without_block(&image(&blocks), arguments, number);
+            assert_eq!(lost, Some(image(&others)));
+        }
+        assert_eq!(without_block(&image(&blocks), arguments, 3), None);
+        assert_eq!(without_block(&[0; 128], arguments, 0), None);
     }
 
     /// "at most 91 blocks": the longest leaf is accepted, every place listed from the last.

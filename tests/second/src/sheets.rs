@@ -2,6 +2,7 @@
 //! writer accepts.
 
 mod damage;
+pub mod tidy;
 
 use crate::images::{self, Card, Controller, Leaf, TIDY_LEAF, block};
 use crate::random::Random;
@@ -117,6 +118,47 @@ impl Sheet {
                 return sheet.bytes();
             }
         }
+    }
+
+    /// The bytes of a sheet with any kinds, sizes and bodies, and with sums that are mostly right.
+    pub fn wild(random: &mut Random) -> Vec<u8> {
+        let chip = random.pick(&CHIPS);
+        let mut sheet = Self::valid(random);
+        sheet.chip = chip;
+        sheet.control = if random.one_in(8) { random.byte() } else { 0 };
+        let body = |_| {
+            let kind = match random.below(8) {
+                0 => random.word(),
+                1 => random.below(300) as u16,
+                2 => random.below(10) as u16,
+                _ if chip == 21041 => 257,
+                _ => random.pick(&[256, 0, 1, 2, 3, 4, 5, 6, 200]),
+            };
+            let size = match kind {
+                257 => random.pick(&[1, 1, 1, 7]),
+                256 => 4,
+                _ if random.one_in(16) => random.below(256),
+                _ => random.below(16),
+            };
+            let sparse = random.one_in(2);
+            let mut body = random.row(size);
+            if sparse {
+                body.iter_mut().for_each(|byte| *byte &= 0x03);
+            }
+            (kind, body)
+        };
+        let blocks = (0..4).map(body).collect::<Vec<_>>();
+        sheet.blocks = blocks[..random.below(5)].to_vec();
+        let mut bytes = sheet.bytes();
+        if random.one_in(16) {
+            let length = random.below(bytes.len() + 1);
+            bytes.truncate(length);
+        }
+        if random.one_in(32) {
+            let length = random.below(600);
+            bytes = random.row(length);
+        }
+        bytes
     }
 
     fn whole_blocks(&self) -> Vec<Vec<u8>> {

@@ -102,6 +102,14 @@ impl Autosense {
         0
     }
 
+    /// How many blocks the image counts that was loaded; none where none is.
+    pub fn blocks(&self) -> Option<usize> {
+        match self {
+            Self::Fresh => None,
+            Self::Loaded(loaded) => Some(loaded.blocks),
+        }
+    }
+
     /// The same walk with rows of flags.
     pub fn walk(&self) -> Walk {
         let Self::Loaded(loaded) = self else {

@@ -2,8 +2,8 @@
 use native.Mathlib.Omega.{arith}
 use Prim.Native.Nat.{ℕ}
 use mathlib.Core.Path.{ap, _∙_}
-use Rattle.sheet.specs.Lists.{wordBytes}
-use Rattle.writer.specs.Inside.{put, sealed}
+use Rattle.sheet.specs.Lists.{wordBytes, put}
+use Rattle.writer.specs.Inside.{sealed}
 use Rattle.writer.proofs.Checksums.{srom-value}
 use borrow.Author.Needs.{needs}
 use Rattle.writer.proofs.seal.Statement.{statement}

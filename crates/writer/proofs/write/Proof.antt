@@ -5,7 +5,7 @@ use borrow.Author.Tests.{not-true, not-false}
 use lib.ListN.{length}
 use Rattle.sheet.specs.Sheet.{sheetFrom}
 use Rattle.sheet.specs.Image.{newest}
-use Rattle.writer.proofs.Puts.{whole-copy}
+use Rattle.sheet.proofs.Put.{whole-copy}
 use Rattle.writer.proofs.Numbers.{kept, copied, write-24, write-1, write-record, write-judged}
 use borrow.Author.Needs.{needs}
 use Rattle.writer.proofs.write.Statement.{statement}

@@ -1,5 +1,5 @@
 -- One store. Assumes nothing.
-use Rattle.maker.proofs.Put.{put-one}
+use Rattle.sheet.proofs.Put.{put-one}
 use borrow.Author.Needs.{needs}
 use Rattle.maker.proofs.stores.put_byte.Statement.{statement}
 use Rattle.maker.proofs.stores.put_byte.Tie as tie

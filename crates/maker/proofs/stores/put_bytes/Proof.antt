@@ -1,5 +1,5 @@
 -- A whole copy into the part of its length. Assumes nothing.
-use Rattle.maker.proofs.Put.{put-part}
+use Rattle.sheet.proofs.Put.{put-part}
 use borrow.Author.Needs.{needs}
 use Rattle.maker.proofs.stores.put_bytes.Statement.{statement}
 use Rattle.maker.proofs.stores.put_bytes.Tie as tie

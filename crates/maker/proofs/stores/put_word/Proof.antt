@@ -2,7 +2,7 @@
 use lib.ListN.{length-set}
 use native.Mathlib.Omega.{arith}
 use Rattle.sheet.specs.Lists.{wordBytes}
-use Rattle.maker.proofs.Put.{put-two}
+use Rattle.sheet.proofs.Put.{put-two}
 use borrow.Author.Needs.{needs}
 use Rattle.maker.proofs.stores.put_word.Statement.{statement}
 use Rattle.maker.proofs.stores.put_word.Tie as tie

@@ -1,5 +1,5 @@
 -- A whole copy into the part of its length. Assumes nothing.
-use Rattle.writer.proofs.Puts.{put-part}
+use Rattle.sheet.proofs.Put.{put-part}
 use borrow.Author.Needs.{needs}
 use Rattle.writer.proofs.store.put_bytes.Statement.{statement}
 use Rattle.writer.proofs.store.put_bytes.Tie as tie

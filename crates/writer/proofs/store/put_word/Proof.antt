@@ -2,7 +2,7 @@
 use native.Mathlib.Omega.{arith}
 use lib.ListN.{length-set}
 use Rattle.sheet.specs.Lists.{wordBytes}
-use Rattle.writer.proofs.Puts.{put-two}
+use Rattle.sheet.proofs.Put.{put-two}
 use borrow.Author.Needs.{needs}
 use Rattle.writer.proofs.store.put_word.Statement.{statement}
 use Rattle.writer.proofs.store.put_word.Tie as tie

@@ -1,4 +1,4 @@
--- Laws of `put`: what stands before, at and behind a place, and what follows each other. Assumes nothing.
+-- Laws of `put`: a list with other bytes from a place on. Assumes nothing.
 use Prim.Native.Nat.{ℕ, _+_, _-_, _≤_}
 use mathlib.Core.Path.{_≡_, sym, ap, ap₂, _∙_}
 use mathlib.Core.List.{List, [], _∷_, _++_, append-assoc, append-nil}
@@ -8,11 +8,11 @@ use native.Mathlib.Numerals.{add-one}
 use lib.ListN.{length, take, drop, set, length-append, length-take, length-drop, take-append-drop, drop-of-length-le}
 use lib.Seq.{take-at, drop-at, take-all, drop-drop, sets-eq}
 use borrow.Rule.Slice.PartMut.{putMid, midOf}
-use Rattle.writer.specs.Inside.{put}
+use Rattle.sheet.specs.Lists.{put}
 
-pub put-none : (xs : List ℕ) (at : ℕ) → xs ≡ put xs at []
+pub put-none : (xs : List ℕ) (at : ℕ) → put xs at [] ≡ xs
 unfolding put
-put-none xs at = sym (ap (λ (n : ℕ). take at xs ++ drop n xs) (add-zero at) ∙ take-append-drop at xs)
+put-none xs at = ap (λ (n : ℕ). take at xs ++ drop n xs) (add-zero at) ∙ take-append-drop at xs
 
 module _ (xs : List ℕ) (at : ℕ) (ys : List ℕ) (h : at + length ys ≤ length xs) where
   pub put-length : length (put xs at ys) ≡ length xs
@@ -42,7 +42,11 @@ put-put xs at a b h =
     same : at + length a + length b ≡ at + length (a ++ b)
     same = simp length-append (omega arith)
 
--- one store and two
+-- the same for what two calls leave
+pub joined : (xs : List ℕ) (at : ℕ) (a b : List ℕ) {ys zs : List ℕ} {next : ℕ} → ys ≡ put xs at a → zs ≡ put ys next b → next ≡ at + length a → at + length a ≤ length xs → zs ≡ put xs at (a ++ b)
+joined xs at a b {ys} {zs} {next} ey ez en h = ez ∙ ap₂ (λ (l : List ℕ) (n : ℕ). put l n b) ey en ∙ put-put xs at a b h
+
+-- one store, and two
 pub put-one : (xs : List ℕ) (at a : ℕ) → at + 1 ≤ length xs → set xs at a ≡ put xs at (a ∷ [])
 unfolding put
 put-one xs at a h = sets-eq (a ∷ []) xs at h ∙ append-assoc (take at xs) (a ∷ []) _
@@ -52,17 +56,18 @@ unfolding put
 put-two xs at a b h = ap (λ (n : ℕ). set (set xs at a) n b) (add-one at) ∙ sets-eq (a ∷ b ∷ []) xs at h ∙ append-assoc (take at xs) (a ∷ b ∷ []) _
 
 -- a whole copy into the part of its length
-pub put-part : (xs : List ℕ) (at : ℕ) (ys zs : List ℕ) → zs ≡ take (length ys) ys ++ drop (length ys) (midOf at (at + length ys - at) xs)
-    → putMid at (at + length ys - at) xs zs ≡ put xs at ys
+pub put-part : (xs : List ℕ) (at : ℕ) (ys zs : List ℕ) → zs ≡ take (length ys) ys ++ drop (length ys) (midOf at (at + length ys - at) xs) → putMid at (at + length ys - at) xs zs ≡ put xs at ys
 unfolding put
 put-part xs at ys zs is =
-    let k : at + length ys - at ≡ length ys = omega arith in
-    let z : zs ≡ ys =
-    is ∙ ap₂ (λ (a b : List ℕ). a ++ b) (take-all (length ys) ys (omega arith)) (drop-of-length-le (midOf at (at + length ys - at) xs) {i = length ys} (short k)) ∙ append-nil ys in
-    ap₂ (λ (a b : List ℕ). take at xs ++ (a ++ b)) z (drop-drop (at + length ys - at) at xs ∙ ap (λ (n : ℕ). drop (at + n) xs) k)
+    let z : zs ≡ ys
+    = is ∙ ap₂ (λ (a b : List ℕ). a ++ b) (take-all (length ys) ys (omega arith)) (drop-of-length-le (midOf at (at + length ys - at) xs) {i = length ys} short) ∙ append-nil ys in
+    ap₂ (λ (a b : List ℕ). take at xs ++ (a ++ b)) z (drop-drop (at + length ys - at) at xs ∙ ap (λ (n : ℕ). drop (at + n) xs) long)
   where
-    short : at + length ys - at ≡ length ys → length (midOf at (at + length ys - at) xs) ≤ length ys
-    short k = simp length-take (omega arith)
+    long : at + length ys - at ≡ length ys
+    long = omega arith
+
+    short : length (midOf at (at + length ys - at) xs) ≤ length ys
+    short = simp length-take (omega arith)
 
 -- a whole copy
 pub whole-copy : (xs out ys : List ℕ) → length xs ≡ length out → ys ≡ take (length xs) xs ++ drop (length xs) out → ys ≡ xs

@@ -1,0 +1,191 @@
+/*
+ * The 21X4 serial ROM of Ethernet cards: reading, writing and the autosense walk.
+ *
+ * Link libsrom.a, which `rt staticlib srom` writes to target/staticlib. Every function below is proved to end and to answer
+ * exactly what document 01 defines, for every input: any bytes, any length, any arguments. None keeps a pointer, allocates,
+ * or reads or writes anything but what it is lent.
+ *
+ * An array is lent as a pointer and its length in elements. A length of 0 may come with any pointer that is not null.
+ * Arrays that are lent to one call for writing do not overlap each other or what is read.
+ *
+ * A refusal is a number other than 0: the first of the causes below that is met, in the order that each call gives. On a
+ * refusal every other field of the answer is 0 and what was lent is unchanged; a walk is handed back as it was.
+ */
+#ifndef SROM_H
+#define SROM_H
+
+#include <stdbool.h>
+#include <stddef.h>
+#include <stdint.h>
+
+#ifdef __cplusplus
+extern "C" {
+#endif
+
+/* ---- Numbers ---- */
+
+enum {
+    SROM_IMAGE_LENGTH = 128, /* bytes of an image */
+    SROM_NEWEST_LEVEL = 6,   /* a reader of level n knows the extended types below n */
+    SROM_NONE = 255          /* no default block, no selected block */
+};
+
+/* Why a call is refused. */
+enum {
+    SROM_ACCEPTED = 0,
+    SROM_BAD_IMAGE_LENGTH = 1,     /* image not 128 bytes */
+    SROM_BAD_VERSION = 2,          /* version neither 3 nor 4 */
+    SROM_BAD_SROM_CRC = 3,         /* SROM CRC differs */
+    SROM_BAD_ID_CRC = 4,           /* ID CRC differs */
+    SROM_BAD_COUNT = 5,            /* controller count not 1 to 32, or the reserved byte behind the controllers not 0 */
+    SROM_NO_CONTROLLER = 6,        /* controller not below the count */
+    SROM_NO_CHIP = 7,              /* none of the chips below */
+    SROM_BAD_LEVEL = 8,            /* level over SROM_NEWEST_LEVEL */
+    SROM_BAD_ADDRESS = 9,          /* base address and controller over 2^48 - 1 */
+    SROM_LEAF_OUTSIDE = 10,        /* leaf header outside its bounds */
+    SROM_BAD_CONNECTION = 11,      /* connection type that the chip does not take */
+    SROM_ARRAY_TOO_SHORT = 12,     /* lent array shorter than the block count, or sheet buffer too short */
+    SROM_BLOCK_OUTSIDE = 13,       /* block past byte 123 */
+    SROM_BAD_BLOCK_TYPE = 14,      /* extended length 0, or a compact block or known type that the chip does not permit */
+    SROM_BAD_BLOCK_LENGTH = 15,    /* length wrong for the type */
+    SROM_BAD_BLOCK_CODE = 16,      /* media code or reserved bits */
+    SROM_BAD_ADVERTISEMENT = 17,   /* a PHY advertises what it is not capable of */
+    SROM_CLASHING_BLOCKS = 18,     /* two resets, a reset and a PHY that resets, or two defaults */
+    SROM_BAD_REPORT = 19,          /* report shorter than the block count, or one of those bytes above 1 */
+    SROM_WALK_FRESH = 20,          /* look at a walk that is not loaded */
+    SROM_WALK_LOADED = 21,         /* load of a walk that is loaded */
+    SROM_FIXED_CONNECTION = 22,    /* look under a connection type that looks do not serve */
+    SROM_TOO_MANY_LOOKS = 23,      /* 65,535 looks */
+    SROM_BAD_SHEET = 24,           /* sheet length or sum of sizes */
+    SROM_BAD_SHEET_ENTRY = 25,     /* kind, body or control byte that no image of the chip can hold */
+    SROM_LEAF_TOO_LONG = 26,       /* leaf past byte 123 */
+    SROM_NOT_TIDY = 27             /* more than one controller, leaf not at 30, or bytes behind the leaf not 0 */
+};
+
+/* Chips, by their decimal numbers. The 21140A counts as 21140. */
+enum { SROM_21041 = 21041, SROM_21140 = 21140, SROM_21142 = 21142, SROM_21143 = 21143, SROM_21145 = 21145 };
+
+/* Kinds of blocks: an extended block's type (0 to 255), or one of these. */
+enum { SROM_KIND_COMPACT = 256, SROM_KIND_21041 = 257 };
+
+/* Connection types that looks serve. */
+enum { SROM_AUTOSENSE = 0x0800, SROM_AUTOSENSE_ONCE = 0x8800, SROM_AUTOSENSE_NWAY = 0x0900 };
+
+/* ---- Checksums ---- */
+
+typedef struct srom_checksum {
+    uint8_t number;
+    uint16_t value;
+} srom_checksum;
+
+/* The CRC that bytes 126 and 127 should hold, low byte first. Refusal: 1. */
+srom_checksum srom_crc(const uint8_t *image, size_t image_length);
+
+/* The CRC that byte 16 should hold. Refusal: 1. */
+srom_checksum srom_id_crc(const uint8_t *image, size_t image_length);
+
+/* ---- Reading ---- */
+
+/* Which controller of a card to read, from 0, for which chip, and how many extended types the reader knows. */
+typedef struct srom_arguments {
+    uint16_t chip;
+    uint8_t controller;
+    uint8_t level;
+} srom_arguments;
+
+typedef struct srom_answer {
+    uint8_t number;
+    uint16_t connection;    /* connection type of the leaf */
+    uint8_t control;        /* general purpose control byte; 0 but for the 21140 */
+    uint64_t address;       /* the controller's station address, the first byte in bits 47:40 */
+    uint8_t blocks;         /* blocks of the leaf: listed + resets + skipped */
+    uint8_t listed;         /* entries of the media table */
+    uint8_t resets;         /* known type 5 blocks */
+    uint8_t skipped;        /* blocks of types that the reader does not know */
+    uint8_t default_number; /* block number of the default medium, or SROM_NONE */
+} srom_answer;
+
+/*
+ * The media table of a controller's leaf, in autosense order: kinds and byte offsets of the listed blocks, from the last block
+ * to the first. Elements behind the listed ones are unchanged; on a refusal both arrays are. Arrays of 91 elements are long
+ * enough for every image that is accepted.
+ * Refusals: 1 to 18 in order, the blocks judged one after another (13 to 17 each), 18 last.
+ */
+srom_answer srom_read(const uint8_t *image, size_t image_length, srom_arguments arguments,
+                      uint16_t *kinds, size_t kinds_length, uint16_t *offsets, size_t offsets_length);
+
+/* A part of the image: its first byte is image[start]. */
+typedef struct srom_part {
+    size_t start;
+    size_t length;
+} srom_part;
+
+/*
+ * The block of an entry of the media table, counted from 0. Start and length are 0 where the image is refused (12 apart, since
+ * no array is lent) or the table has no such entry.
+ */
+srom_part srom_view(const uint8_t *image, size_t image_length, srom_arguments arguments, size_t entry);
+
+/* ---- The autosense walk ---- */
+
+/* A walk's state, passed and returned by value. The flags stand by block number. */
+typedef struct srom_walk {
+    bool loaded;
+    uint16_t connection;
+    uint8_t blocks;
+    uint8_t listed[128];         /* 1 for an entry of the media table */
+    uint8_t active_invalid[128]; /* 1 for an entry with Active_Invalid */
+    uint8_t default_number;      /* or SROM_NONE */
+    bool settled;
+    uint8_t selected;            /* block number, or SROM_NONE */
+    uint16_t looks;
+    uint16_t switches;
+} srom_walk;
+
+typedef struct srom_walked {
+    uint8_t number;
+    srom_walk walk;
+} srom_walked;
+
+/* A fresh walk. */
+srom_walk srom_fresh(void);
+
+/* Loads the walk with an image. Refusals: 21, then those of srom_read without 12. */
+srom_walked srom_load(srom_walk walk, const uint8_t *image, size_t image_length, srom_arguments arguments);
+
+/*
+ * Looks at the links, one byte a block, 1 up and 0 down; later bytes are ignored. A settled walk stays on its block where the
+ * connection type is SROM_AUTOSENSE_ONCE, or the block has Active_Invalid, or its link is up. Otherwise it takes the first
+ * entry in table order whose link is up (once settled, among those without Active_Invalid), or the default, or none.
+ * Refusals: 20, 22, 23, 19.
+ */
+srom_walked srom_look(srom_walk walk, const uint8_t *report, size_t report_length);
+
+/* Makes the walk fresh. Always succeeds. */
+srom_walked srom_clear(srom_walk walk);
+
+/* ---- Sheets ---- */
+
+/*
+ * Writes the image of a sheet: one controller, its leaf at byte 30, both CRCs, zeros elsewhere. The image is unchanged on a
+ * refusal. Refusals: 24, 1, 7, 25, 26, then those of srom_read without 12 for controller 0 at the newest level.
+ */
+uint8_t srom_write(const uint8_t *sheet, size_t sheet_length, uint8_t *image, size_t image_length);
+
+typedef struct srom_made {
+    uint8_t number;
+    size_t length; /* of the sheet, in bytes */
+} srom_made;
+
+/*
+ * Makes the sheet of a tidy image, blocks of unknown types included. Bytes of the buffer behind the sheet are unchanged; on a
+ * refusal all of them are. Writing the sheet gives the image back, and a sheet that was written comes back byte for byte.
+ * Refusals: those of srom_read without 12, for controller 0 at the newest level, then 27, then 12.
+ */
+srom_made srom_make_sheet(const uint8_t *image, size_t image_length, uint16_t chip, uint8_t *buffer, size_t buffer_length);
+
+#ifdef __cplusplus
+}
+#endif
+
+#endif

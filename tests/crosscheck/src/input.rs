@@ -1,0 +1,194 @@
+//! The inputs of the cross-check, and their comparison.
+
+use crate::tally::{Name, Tally};
+use library::compare::{self, Difference, Pair};
+use library::lent::hex;
+use library::levels::Older;
+use second::calls::{Call, Step};
+use second::reader::Arguments;
+use std::fmt::{self, Display, Formatter};
+
+/// A call with all that it takes, or a list of calls.
+#[derive(Debug, Clone, PartialEq, Eq)]
+pub enum Input {
+    SromCrc(Vec<u8>),
+    IdCrc(Vec<u8>),
+    Read {
+        image: Vec<u8>,
+        arguments: Arguments,
+        kinds: usize,
+        offsets: usize,
+    },
+    View {
+        image: Vec<u8>,
+        arguments: Arguments,
+        entry: usize,
+    },
+    /// Steps from a fresh walk, each so many times.
+    Walk(Vec<(Step, usize)>),
+    /// The newest level against an older one.
+    Levels {
+        image: Vec<u8>,
+        arguments: Arguments,
+        level: u8,
+        list: Vec<Call>,
+    },
+    Write {
+        sheet: Vec<u8>,
+        length: usize,
+    },
+    MakeSheet {
+        image: Vec<u8>,
+        chip: u16,
+        length: usize,
+    },
+}
+
+impl Input {
+    /// Makes the calls of both implementations, as far as the first difference.
+    pub fn compare(&self, tally: &mut Tally) -> Result<(), Difference> {
+        match self {
+            Self::SromCrc(image) => tally.count(Name::SromCrc, compare::srom_crc(image)?),
+            Self::IdCrc(image) => tally.count(Name::IdCrc, compare::id_crc(image)?),
+            Self::Read {
+                image,
+                arguments,
+                kinds,
+                offsets,
+            } => {
+                let reading = compare::read(image, *arguments, (*kinds, *offsets))?;
+                tally.count(Name::Read, reading.answer.number);
+            }
+            Self::View {
+                image,
+                arguments,
+                entry,
+            } => {
+                let part = compare::view(image, *arguments, *entry)?;
+                tally.count_view(part.length == 0);
+            }
+            Self::Walk(steps) => compare_steps(steps, tally)?,
+            Self::Levels {
+                image,
+                arguments,
+                level,
+                list,
+            } => compare_levels(image, *arguments, *level, list, tally)?,
+            Self::Write { sheet, length } => {
+                let (number, _) = compare::write(sheet, *length)?;
+                tally.count(Name::Write, number);
+            }
+            Self::MakeSheet {
+                image,
+                chip,
+                length,
+            } => {
+                let (made, _) = compare::make_sheet(image, *chip, *length)?;
+                tally.count(Name::MakeSheet, made.number);
+            }
+        }
+        Ok(())
+    }
+
+    /// How many calls of the library a comparison makes, about.
+    pub fn cost(&self) -> usize {
+        match self {
+            Self::Walk(steps) => 1 + steps.iter().map(|(_, times)| times).sum::<usize>(),
+            Self::Levels { list, .. } => 4 + 2 * list.len(),
+            _ => 1,
+        }
+    }
+}
+
+fn compare_steps(steps: &[(Step, usize)], tally: &mut Tally) -> Result<(), Difference> {
+    let mut pair = Pair::fresh()?;
+    tally.count(Name::Fresh, 0);
+    for (step, times) in steps {
+        let name = match step {
+            Step::Load(..) => Name::Load,
+            Step::Look(_) => Name::Look,
+            Step::Clear => Name::Clear,
+        };
+        for _ in 0..*times {
+            tally.count(name, pair.step(step)?);
+        }
+    }
+    Ok(())
+}
+
+/// Demand 3. Where a condition is not met, the calls are compared and the levels are not.
+fn compare_levels(
+    image: &[u8],
+    arguments: Arguments,
+    level: u8,
+    list: &[Call],
+    tally: &mut Tally,
+) -> Result<(), Difference> {
+    let Some(older) = Older::new(image, arguments, level) else {
+        return Ok(());
+    };
+    older.compare_tables()?;
+    let shown = older.run(list, |call, number| {
+        let name = match call {
+            Call::Load => Name::Load,
+            Call::Look(_) => Name::Look,
+            Call::Clear => Name::Clear,
+        };
+        tally.count(name, number);
+    })?;
+    for name in [Name::Read, Name::Fresh] {
+        tally.count(name, 0);
+        tally.count(name, 0);
+    }
+    let seen = &mut tally.levels[usize::from(level)];
+    seen.lists += 1;
+    if older.is_default_removed || shown.had_removed_up {
+        return Ok(());
+    }
+    seen.under_conditions += 1;
+    seen.with_removed += u64::from(!older.removed.is_empty());
+    seen.looks += shown.looks as u64;
+    seen.selections += shown.selections as u64;
+    shown.difference.map_or(Ok(()), Err)
+}
+
+/// The calls of a list, a line for each, and a line that leads to the one that differs; nothing for
+/// a single call, which its difference shows.
+impl Display for Input {
+    fn fmt(&self, formatter: &mut Formatter) -> fmt::Result {
+        match self {
+            Self::Walk(steps) => {
+                writeln!(formatter, "srom_fresh")?;
+                for (step, times) in steps {
+                    match step {
+                        Step::Load(image, arguments) => {
+                            write!(formatter, "srom_load {arguments:?} [{}]", hex(image))?;
+                        }
+                        Step::Look(report) => write!(formatter, "srom_look [{}]", hex(report))?,
+                        Step::Clear => write!(formatter, "srom_clear")?,
+                    }
+                    match times {
+                        1 => writeln!(formatter)?,
+                        _ => writeln!(formatter, ", {times} times")?,
+                    }
+                }
+                writeln!(formatter, "the call that differs:")
+            }
+            Self::Levels {
+                image,
+                arguments,
+                level,
+                list,
+            } => {
+                writeln!(formatter, "level {level} against {arguments:?}")?;
+                writeln!(formatter, "image   {}", hex(image))?;
+                writeln!(formatter, "srom_read at both levels, srom_fresh")?;
+                for call in list {
+                    writeln!(formatter, "{call}")?;
+                }
+                writeln!(formatter, "the call that differs:")
+            }
+            _ => Ok(()),
+        }
+    }
+}

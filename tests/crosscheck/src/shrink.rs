@@ -1,0 +1,414 @@
+//! The smallest input that still differs, found greedily: calls and blocks are dropped, rows of
+//! bytes cut and bytes lowered, most often to 0, as long as the difference stays.
+
+use crate::input::Input;
+use second::calls::{Call, Step, block_count};
+use second::crc::lay_crcs;
+use second::images::without_block;
+use second::reader::{Arguments, NEWEST_LEVEL};
+use second::sheet::{COUNT, KINDS, TOTAL};
+
+/// Passes over all edits, and calls in all of them, after which the input is small enough.
+const MOST_PASSES: usize = 64;
+const MOST_CALLS: usize = 10_000_000;
+
+/// A change that makes an input smaller. It does nothing where the input has no such place any
+/// more.
+#[derive(Debug, Clone, Copy)]
+enum Edit {
+    /// Drops so many calls of a list.
+    Drop { first: usize, calls: usize },
+    /// Lowers an array's length, an entry or how often a step is taken.
+    Number { index: usize, lower: Lower },
+    /// Drops a block of an image or of a sheet.
+    Block { row: usize, number: usize },
+    /// Cuts a row of bytes.
+    Cut { row: usize, lower: Lower },
+    /// Lowers a byte, and mends the CRCs of its image.
+    Byte {
+        row: usize,
+        offset: usize,
+        lower: Lower,
+        mends: bool,
+    },
+}
+
+#[derive(Debug, Clone, Copy)]
+enum Lower {
+    Zero,
+    Half,
+    Less,
+}
+
+const LOWER: [Lower; 3] = [Lower::Zero, Lower::Half, Lower::Less];
+
+impl Lower {
+    fn of(self, number: usize) -> usize {
+        match self {
+            Self::Zero => 0,
+            Self::Half => number / 2,
+            Self::Less => number.saturating_sub(1),
+        }
+    }
+}
+
+/// A row of bytes that a call is lent.
+struct Row<'a> {
+    bytes: &'a mut Vec<u8>,
+    sort: Sort,
+}
+
+#[derive(Clone, Copy, PartialEq, Eq)]
+enum Sort {
+    /// With the arguments that say whose leaf is read.
+    Image(Arguments),
+    Sheet,
+    Other,
+}
+
+impl<'a> Row<'a> {
+    fn new(bytes: &'a mut Vec<u8>, sort: Sort) -> Self {
+        Self { bytes, sort }
+    }
+
+    fn block_count(&self) -> usize {
+        match self.sort {
+            Sort::Image(arguments) => block_count(self.bytes, arguments),
+            Sort::Sheet => self.bytes.first().copied().unwrap_or(0).into(),
+            Sort::Other => 0,
+        }
+    }
+
+    fn drop_block(&mut self, number: usize) {
+        match self.sort {
+            Sort::Image(arguments) => {
+                if let Some(image) = without_block(self.bytes, arguments, number) {
+                    self.bytes.copy_from_slice(&image);
+                }
+            }
+            Sort::Sheet => drop_from_sheet(self.bytes, number),
+            Sort::Other => {}
+        }
+    }
+}
+
+/// The smallest input that was found to differ, by the first one that does.
+pub fn shrink(mut input: Input, mut differs: impl FnMut(&Input) -> bool) -> Input {
+    let mut calls = 0;
+    for _ in 0..MOST_PASSES {
+        let mut is_smaller = false;
+        for edit in edits(&input) {
+            let mut smaller = input.clone();
+            edit.apply(&mut smaller);
+            if smaller == input {
+                continue;
+            }
+            calls += smaller.cost();
+            if calls > MOST_CALLS {
+                return input;
+            }
+            if differs(&smaller) {
+                input = smaller;
+                is_smaller = true;
+            }
+        }
+        if !is_smaller {
+            break;
+        }
+    }
+    input
+}
+
+/// The edits of one pass, those that take most first.
+fn edits(input: &Input) -> Vec<Edit> {
+    let mut input = input.clone();
+    let mut edits = Vec::new();
+    let list = list_length(&input);
+    let mut calls = list;
+    while calls > 0 {
+        // From the last, so that the places before a dropped call stay.
+        let firsts = (0..list).step_by(calls).rev();
+        edits.extend(firsts.map(|first| Edit::Drop { first, calls }));
+        calls /= 2;
+    }
+    let numbers = numbers(&mut input).len();
+    for index in 0..numbers {
+        edits.extend(LOWER.map(|lower| Edit::Number { index, lower }));
+    }
+    for (index, row) in rows(&mut input).iter().enumerate() {
+        let blocks = (0..row.block_count()).rev();
+        edits.extend(blocks.map(|number| Edit::Block { row: index, number }));
+        edits.extend(LOWER.map(|lower| Edit::Cut { row: index, lower }));
+        let mendings: &[bool] = match row.sort {
+            Sort::Image(_) => &[true, false],
+            _ => &[false],
+        };
+        for &mends in mendings {
+            for offset in (0..row.bytes.len()).filter(|&offset| row.bytes[offset] > 0) {
+                edits.extend(LOWER.map(|lower| Edit::Byte {
+                    row: index,
+                    offset,
+                    lower,
+                    mends,
+                }));
+            }
+        }
+    }
+    edits
+}
+
+impl Edit {
+    fn apply(self, input: &mut Input) {
+        match self {
+            Self::Drop { first, calls } => drop_calls(input, first, calls),
+            Self::Number { index, lower } => {
+                if let Some(number) = numbers(input).get_mut(index) {
+                    **number = lower.of(**number);
+                }
+            }
+            Self::Block { row, number } => {
+                if let Some(row) = rows(input).get_mut(row) {
+                    row.drop_block(number);
+                }
+            }
+            Self::Cut { row, lower } => {
+                if let Some(Row { bytes, .. }) = rows(input).get_mut(row) {
+                    bytes.truncate(lower.of(bytes.len()));
+                }
+            }
+            Self::Byte {
+                row,
+                offset,
+                lower,
+                mends,
+            } => {
+                let mut rows = rows(input);
+                let Some(Row { bytes, .. }) = rows.get_mut(row) else {
+                    return;
+                };
+                if let Some(byte) = bytes.get_mut(offset) {
+                    *byte = lower.of((*byte).into()) as u8;
+                }
+                if let (true, Ok(image)) = (mends, bytes.as_mut_slice().try_into()) {
+                    lay_crcs(image);
+                }
+            }
+        }
+    }
+}
+
+fn list_length(input: &Input) -> usize {
+    match input {
+        Input::Walk(steps) => steps.len(),
+        Input::Levels { list, .. } => list.len(),
+        _ => 0,
+    }
+}
+
+fn drop_calls(input: &mut Input, first: usize, calls: usize) {
+    let length = list_length(input);
+    let dropped = first.min(length)..(first + calls).min(length);
+    match input {
+        Input::Walk(steps) => drop(steps.drain(dropped)),
+        Input::Levels { list, .. } => drop(list.drain(dropped)),
+        _ => {}
+    }
+}
+
+/// Takes a block out of a sheet, its kind, its size and its body, where the sheet has room for all
+/// three.
+fn drop_from_sheet(sheet: &mut Vec<u8>, number: usize) {
+    let count = sheet.first().copied().unwrap_or(0).into();
+    let (sizes, bodies) = (KINDS + 2 * count, KINDS + 3 * count);
+    if number >= count || bodies > sheet.len() {
+        return;
+    }
+    let size = usize::from(sheet[sizes + number]);
+    let before = sheet[sizes..sizes + number].iter();
+    let body = bodies + before.map(|&size| usize::from(size)).sum::<usize>();
+    if body + size > sheet.len() {
+        return;
+    }
+    sheet.drain(body..body + size);
+    sheet.remove(sizes + number);
+    sheet.drain(KINDS + 2 * number..KINDS + 2 * number + 2);
+    sheet[COUNT] -= 1;
+    sheet[TOTAL] = sheet[TOTAL].wrapping_sub(size as u8);
+}
+
+fn numbers(input: &mut Input) -> Vec<&mut usize> {
+    match input {
+        Input::Read { kinds, offsets, .. } => vec![kinds, offsets],
+        Input::View { entry, .. } => vec![entry],
+        Input::Walk(steps) => steps.iter_mut().map(|(_, times)| times).collect(),
+        Input::Write { length, .. } | Input::MakeSheet { length, .. } => vec![length],
+        _ => Vec::new(),
+    }
+}
+
+fn rows(input: &mut Input) -> Vec<Row<'_>> {
+    match input {
+        Input::SromCrc(image) | Input::IdCrc(image) => vec![Row::new(image, Sort::Other)],
+        Input::Read {
+            image, arguments, ..
+        }
+        | Input::View {
+            image, arguments, ..
+        } => vec![Row::new(image, Sort::Image(*arguments))],
+        Input::MakeSheet { image, chip, .. } => {
+            let arguments = Arguments {
+                chip: *chip,
+                controller: 0,
+                level: NEWEST_LEVEL,
+            };
+            vec![Row::new(image, Sort::Image(arguments))]
+        }
+        Input::Write { sheet, .. } => vec![Row::new(sheet, Sort::Sheet)],
+        Input::Walk(steps) => {
+            let rows = steps.iter_mut().filter_map(|(step, _)| match step {
+                Step::Load(image, arguments) => Some(Row::new(image, Sort::Image(*arguments))),
+                Step::Look(report) => Some(Row::new(report, Sort::Other)),
+                Step::Clear => None,
+            });
+            rows.collect()
+        }
+        Input::Levels {
+            image,
+            arguments,
+            list,
+            ..
+        } => {
+            let reports = list.iter_mut().filter_map(|call| match call {
+                Call::Look(report) => Some(Row::new(report, Sort::Other)),
+                _ => None,
+            });
+            let image = Row::new(image, Sort::Image(*arguments));
+            [image].into_iter().chain(reports).collect()
+        }
+    }
+}
+
+#[cfg(test)]
+mod tests {
+    use super::*;
+    use crate::rounds::Rounds;
+    use second::random::Random;
+    use second::reader::read;
+    use second::sheet::write;
+    use second::sheets::Sheet;
+
+    const ARGUMENTS: Arguments = Arguments {
+        chip: 21143,
+        controller: 0,
+        level: 6,
+    };
+
+    /// A difference at one byte above 6: that byte alone is left, and it is 7.
+    #[test]
+    fn one_byte() {
+        let input = Input::SromCrc(Random::new(1).row(128));
+        let is_high = |bytes: &[u8]| bytes.get(40).is_some_and(|&byte| byte > 6);
+        let smallest = shrink(input, |input| match input {
+            Input::SromCrc(bytes) => is_high(bytes),
+            _ => false,
+        });
+        let mut expected = vec![0; 41];
+        expected[40] = 7;
+        assert_eq!(smallest, Input::SromCrc(expected));
+    }
+
+    /// A difference at a look with two links up after a load: both calls are left, and the report
+    /// has two bytes.
+    #[test]
+    fn two_calls() {
+        let mut steps = vec![(Step::Clear, 3)];
+        for round in 0..20 {
+            steps.push((Step::Load(vec![round; 128], ARGUMENTS), 1));
+            steps.push((Step::Look(vec![round % 2; 30]), 1_000));
+        }
+        let differs = |steps: &[(Step, usize)]| {
+            let load = steps
+                .iter()
+                .position(|(step, times)| matches!(step, Step::Load(..)) && *times > 0);
+            let later = load.map_or(&[][..], |load| &steps[load..]);
+            later.iter().any(|(step, times)| match step {
+                Step::Look(report) => report.starts_with(&[1, 1]) && *times > 4,
+                _ => false,
+            })
+        };
+        let smallest = shrink(Input::Walk(steps), |input| match input {
+            Input::Walk(steps) => differs(steps),
+            _ => false,
+        });
+        let expected = vec![
+            (Step::Load(Vec::new(), ARGUMENTS), 1),
+            (Step::Look(vec![1, 1]), 5),
+        ];
+        assert_eq!(smallest, Input::Walk(expected));
+    }
+
+    /// A difference at accepted images alone: the CRCs are mended, so that what is not needed
+    /// becomes 0 all the same.
+    #[test]
+    fn mended_image() {
+        let accepts_two = |input: &Input| match input {
+            Input::Read {
+                image, arguments, ..
+            } => read(image, *arguments, &mut [0; 255], &mut [0; 255]).listed > 1,
+            _ => false,
+        };
+        let drawn = Rounds::new(1).flatten().filter(accepts_two).take(20);
+        for input in drawn {
+            let smallest = shrink(input, accepts_two);
+            let Input::Read {
+                image,
+                arguments,
+                kinds,
+                offsets,
+            } = smallest
+            else {
+                panic!("another call: {smallest:?}");
+            };
+            assert_eq!((kinds, offsets), (0, 0));
+            let answer = read(&image, arguments, &mut [0; 255], &mut [0; 255]);
+            assert_eq!((answer.listed, answer.blocks), (2, 2));
+            assert_eq!(image[..16], [0; 16]);
+            assert_eq!(image[20..26], [0; 6], "{image:02x?}");
+        }
+    }
+
+    /// A difference at accepted sheets with a block: one block is left.
+    #[test]
+    fn dropped_blocks() {
+        let mut random = Random::new(2);
+        for _ in 0..20 {
+            let has_block = |input: &Input| match input {
+                Input::Write { sheet, length } => {
+                    write(sheet, &mut vec![0; *length]) == 0 && sheet[COUNT] > 0
+                }
+                _ => false,
+            };
+            let input = Input::Write {
+                sheet: Sheet::valid(&mut random).bytes(),
+                length: 128,
+            };
+            if has_block(&input) {
+                let Input::Write { sheet, length } = shrink(input, has_block) else {
+                    panic!("another call");
+                };
+                assert_eq!((sheet[COUNT], length), (1, 128), "{sheet:02x?}");
+            }
+        }
+    }
+
+    /// It comes to an end where every input differs, with nothing left.
+    #[test]
+    fn everything_differs() {
+        for input in Rounds::new(3).take(3).flatten() {
+            let smallest = shrink(input, |_| true);
+            assert_eq!(list_length(&smallest), 0);
+            let mut left = smallest.clone();
+            assert!(rows(&mut left).iter().all(|row| row.bytes.is_empty()));
+        }
+    }
+}

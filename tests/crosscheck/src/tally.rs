@@ -1,0 +1,117 @@
+//! What was called and answered, as tables.
+
+use second::reader::NEWEST_LEVEL;
+
+const HIGHEST_REFUSAL: usize = 27;
+
+/// The exported calls.
+#[derive(Debug, Clone, Copy)]
+pub enum Name {
+    SromCrc,
+    IdCrc,
+    Read,
+    View,
+    Fresh,
+    Load,
+    Look,
+    Clear,
+    Write,
+    MakeSheet,
+}
+
+/// Their names without `srom_`, in the same order.
+const NAMES: [&str; 10] = [
+    "crc",
+    "id_crc",
+    "read",
+    "view",
+    "fresh",
+    "load",
+    "look",
+    "clear",
+    "write",
+    "make_sheet",
+];
+
+/// How often each call answered each number, and what demand 3's lists showed.
+#[derive(Default)]
+pub struct Tally {
+    numbers: [[u64; HIGHEST_REFUSAL + 1]; NAMES.len()],
+    /// Views that handed back an empty part; they have no number.
+    empty_views: u64,
+    pub levels: [Level; NEWEST_LEVEL as usize],
+}
+
+/// What the lists at one older level showed.
+#[derive(Debug, Clone, Copy, Default)]
+pub struct Level {
+    pub lists: u64,
+    /// Lists under both conditions, and those of them with a removed entry.
+    pub under_conditions: u64,
+    pub with_removed: u64,
+    /// The looks that the newest walk accepted under both conditions, and those of them that left a
+    /// block selected.
+    pub looks: u64,
+    pub selections: u64,
+}
+
+impl Tally {
+    pub fn count(&mut self, name: Name, number: u8) {
+        self.numbers[name as usize][usize::from(number)] += 1;
+    }
+
+    pub fn count_view(&mut self, is_empty: bool) {
+        match is_empty {
+            true => self.empty_views += 1,
+            false => self.count(Name::View, 0),
+        }
+    }
+
+    pub fn calls(&self) -> u64 {
+        self.numbers.iter().flatten().sum::<u64>() + self.empty_views
+    }
+
+    /// The numbers that were answered, a row for each, with a column for each call; then the lists
+    /// of demand 3, a row for each older level.
+    pub fn table(&self) -> String {
+        let mut table = row("number", NAMES.map(String::from));
+        for number in 0..=HIGHEST_REFUSAL {
+            let often = self.numbers.map(|numbers| numbers[number]);
+            if often.iter().any(|&often| often > 0) {
+                table += &row(&number.to_string(), often.map(cell));
+            }
+        }
+        let mut empty = [0; NAMES.len()];
+        empty[Name::View as usize] = self.empty_views;
+        table += &row("empty", empty.map(cell));
+        let mut calls = self.numbers.map(|numbers| numbers.iter().sum::<u64>());
+        calls[Name::View as usize] += self.empty_views;
+        table += &row("calls", calls.map(cell));
+        let titles = ["lists", "conditions", "removed", "looks", "selected"];
+        table += &row("\nolder", titles.map(String::from));
+        for (level, seen) in self.levels.iter().enumerate() {
+            let cells = [
+                seen.lists,
+                seen.under_conditions,
+                seen.with_removed,
+                seen.looks,
+                seen.selections,
+            ];
+            table += &row(&level.to_string(), cells.map(cell));
+        }
+        table
+    }
+}
+
+/// A number that is 0 leaves its cell empty.
+fn cell(often: u64) -> String {
+    match often {
+        0 => String::new(),
+        _ => often.to_string(),
+    }
+}
+
+fn row<const CELLS: usize>(first: &str, cells: [String; CELLS]) -> String {
+    let cells = cells.map(|cell| format!("{cell:>11}")).concat();
+    format!("{first:<7}{cells}").trim_end().to_owned() + "\n"
+}

@@ -1,0 +1,32 @@
+//! The program's status and output.
+
+use std::process::{Command, Output};
+
+fn run(arguments: &[&str]) -> Output {
+    Command::new(env!("CARGO_BIN_EXE_crosscheck"))
+        .args(arguments)
+        .output()
+        .expect("the program starts")
+}
+
+/// Status 2 and a line on how to use it.
+#[test]
+fn bad_usage() {
+    for arguments in [&[][..], &["1"], &["one", "1"], &["1", "1", "1", "1"]] {
+        let output = run(arguments);
+        assert_eq!(output.status.code(), Some(2), "{arguments:?}");
+        assert!(output.stderr.starts_with(b"usage: crosscheck SECONDS SEED"));
+    }
+}
+
+/// The rounds decide where they are given; the same seed and rounds give the same table.
+#[test]
+fn same_table() {
+    let [first, again, other] = ["1", "1", "2"].map(|seed| run(&["0", seed, "20"]));
+    assert_eq!(first.status.code(), Some(0));
+    assert_eq!(first.stdout, again.stdout);
+    assert_ne!(first.stdout, other.stdout);
+    let text = String::from_utf8(first.stdout).expect("the table is text");
+    assert!(text.contains("seed 1, rounds 20, "), "{text}");
+    assert!(text.ends_with(" differences 0\n"), "{text}");
+}

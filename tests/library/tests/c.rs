@@ -1,0 +1,244 @@
+//! The header and the example driver, as a C or C++ author meets them: compiled with warnings as errors, linked to the
+//! archive, and run. Needs `cc` and `c++`.
+
+use second::crc::Checksum;
+use second::reader::{self, Answer, Arguments};
+use second::sheet::Made;
+use second::walk::{Walk, Walked};
+use std::fs;
+use std::mem::{offset_of, size_of};
+use std::path::{Path, PathBuf};
+use std::process::{Command, Output};
+
+fn root() -> PathBuf {
+    Path::new(env!("CARGO_MANIFEST_DIR")).join("../..")
+}
+
+/// A place for what a test builds.
+fn scratch(name: &str) -> PathBuf {
+    Path::new(env!("CARGO_TARGET_TMPDIR")).join(name)
+}
+
+fn run(command: &mut Command) -> Output {
+    let output = command.output().expect("the command starts");
+    assert!(
+        output.status.code().is_some(),
+        "{command:?} was ended by a signal"
+    );
+    output
+}
+
+fn compile(compiler: &str, arguments: &[&str], source: &Path, program: &Path) {
+    let output = run(Command::new(compiler)
+        .args(["-Wall", "-Wextra", "-Werror", "-I"])
+        .arg(root().join("include"))
+        .args(arguments)
+        .arg(source)
+        .arg(root().join("target/staticlib/libsrom.a"))
+        .arg("-o")
+        .arg(program));
+    assert!(
+        output.status.success(),
+        "{}",
+        String::from_utf8_lossy(&output.stderr)
+    );
+}
+
+fn lines(output: &Output) -> Vec<String> {
+    String::from_utf8_lossy(&output.stdout)
+        .lines()
+        .map(str::to_owned)
+        .collect()
+}
+
+/// What C and C++ make of each struct: name, field or `size`, number.
+fn layout_source() -> String {
+    let structs = [
+        ("srom_checksum", &["number", "value"][..]),
+        ("srom_arguments", &["chip", "controller", "level"]),
+        (
+            "srom_answer",
+            &[
+                "number",
+                "connection",
+                "control",
+                "address",
+                "blocks",
+                "listed",
+                "resets",
+                "skipped",
+                "default_number",
+            ],
+        ),
+        (
+            "srom_walk",
+            &[
+                "loaded",
+                "connection",
+                "blocks",
+                "listed",
+                "active_invalid",
+                "default_number",
+                "settled",
+                "selected",
+                "looks",
+                "switches",
+            ],
+        ),
+        ("srom_walked", &["number", "walk"]),
+        ("srom_made", &["number", "length"]),
+        ("srom_part", &["start", "length"]),
+    ];
+    let mut body = String::new();
+    for (name, fields) in structs {
+        body += &format!("    printf(\"{name} size %zu\\n\", sizeof({name}));\n");
+        for field in fields {
+            body +=
+                &format!("    printf(\"{name} {field} %zu\\n\", offsetof({name}, {field}));\n");
+        }
+    }
+    format!("#include <srom.h>\n#include <stdio.h>\n\nint main(void)\n{{\n{body}    return 0;\n}}\n")
+}
+
+/// The same of the types through which the other tests hold the archive to the second implementation.
+fn layout_expected() -> Vec<String> {
+    macro_rules! layout {
+        ($name:literal, $type:ty, $($field:ident),+) => {
+            vec![
+                format!(concat!($name, " size {}"), size_of::<$type>()),
+                $(format!(concat!($name, " ", stringify!($field), " {}"), offset_of!($type, $field))),+
+            ]
+        };
+    }
+    #[repr(C)]
+    struct Part {
+        start: usize,
+        length: usize,
+    }
+    [
+        layout!("srom_checksum", Checksum, number, value),
+        layout!("srom_arguments", Arguments, chip, controller, level),
+        layout!(
+            "srom_answer",
+            Answer,
+            number,
+            connection,
+            control,
+            address,
+            blocks,
+            listed,
+            resets,
+            skipped,
+            default_number
+        ),
+        layout!(
+            "srom_walk",
+            Walk,
+            loaded,
+            connection,
+            blocks,
+            listed,
+            active_invalid,
+            default_number,
+            settled,
+            selected,
+            looks,
+            switches
+        ),
+        layout!("srom_walked", Walked, number, walk),
+        layout!("srom_made", Made, number, length),
+        layout!("srom_part", Part, start, length),
+    ]
+    .concat()
+}
+
+fn header_in(compiler: &str, standard: &str, extension: &str) {
+    let source = scratch(&format!("layout.{extension}"));
+    let program = scratch(&format!("layout-{extension}"));
+    fs::write(&source, layout_source()).unwrap();
+    compile(compiler, &[standard], &source, &program);
+    assert_eq!(lines(&run(&mut Command::new(&program))), layout_expected());
+}
+
+#[test]
+fn header_is_c11() {
+    header_in("cc", "-std=c11", "c");
+}
+
+#[test]
+fn header_is_cpp17() {
+    header_in("c++", "-std=c++17", "cc");
+}
+
+fn probe(arguments: &[&str]) -> Output {
+    static ONCE: std::sync::Once = std::sync::Once::new();
+    let program = scratch("probe");
+    ONCE.call_once(|| {
+        compile(
+            "cc",
+            &["-std=c11"],
+            &root().join("examples/driver/probe.c"),
+            &program,
+        );
+    });
+    run(Command::new(program).current_dir(root()).args(arguments))
+}
+
+/// The line of an entry, from the second implementation's table and view.
+fn entry_line(image: &[u8], arguments: Arguments, entry: usize, kind: u16, offset: u16) -> String {
+    let bytes: String = reader::view(image, arguments, entry)
+        .iter()
+        .map(|byte| format!(" {byte:02x}"))
+        .collect();
+    format!("  entry {entry}: type {kind} at byte {offset}:{bytes}")
+}
+
+/// Document 01, 'The walk', on the mission's card: the default with no link up, the first in table order that is up, and
+/// once settled another when its own link is down.
+#[test]
+fn probe_walks_the_replacement_card() {
+    let image = fs::read(root().join("samples/new-type.rom")).unwrap();
+    let arguments = Arguments {
+        chip: 21143,
+        controller: 0,
+        level: 6,
+    };
+    let output = probe(&["samples/new-type.rom", "21143", "0", "0000", "1001", "1001", "1000"]);
+    let mut expected = vec!["address 0000f8001700, connection type 0x0800".to_owned()];
+    for (entry, (kind, offset)) in [(3, 57), (4, 48), (2, 33)].into_iter().enumerate() {
+        expected.push(entry_line(&image, arguments, entry, kind, offset));
+    }
+    expected.extend(
+        [
+            "  0 resets, 1 blocks of unknown types stepped over",
+            "links 0000: block 2, the default, since no link is up",
+            "links 1001: block 3, the first in table order that may be taken and is up",
+            "links 1001: stays on block 3",
+            "links 1000: block 0, the first in table order that may be taken and is up",
+        ]
+        .map(str::to_owned),
+    );
+    assert_eq!(lines(&output), expected);
+    assert_eq!(output.status.code(), Some(0));
+}
+
+#[test]
+fn probe_names_a_refusal() {
+    let output = probe(&["samples/case-d.rom", "21143", "0"]);
+    assert_eq!(lines(&output), ["refused 14"]);
+    assert_eq!(output.status.code(), Some(1));
+}
+
+#[test]
+fn probe_refuses_a_bad_report() {
+    let output = probe(&["samples/case-b.rom", "21143", "0", "00"]);
+    assert_eq!(lines(&output).last().unwrap(), "links 00: refused 19");
+    assert_eq!(output.status.code(), Some(1));
+}
+
+#[test]
+fn probe_wants_a_file_of_128_bytes() {
+    let output = probe(&["samples/README.md", "21143", "0"]);
+    assert_eq!(output.status.code(), Some(2));
+    assert!(!output.stderr.is_empty());
+}
