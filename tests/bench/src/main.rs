@@ -1,5 +1,6 @@
 //! Times each call of the library against the fastest plain form of the second implementation,
-//! over the same inputs: `cargo run --release -p bench`.
+//! over the same inputs: `cargo run --release -p bench`. With `only CALL SIDE PASSES` it prints nothing
+//! and makes one side's passes over the inputs of one call, for tools/instructions to count.
 
 use library::{Answer, Made, Walk};
 use second::crc;
@@ -8,16 +9,18 @@ use second::images::{Card, Image};
 use second::random::Random;
 use second::reader::{self, Arguments, NEWEST_LEVEL};
 use second::{sheet, walk};
-use std::{hint::black_box, time::Instant};
+use std::{env, hint::black_box, time::Instant};
 
 const IMAGE_COUNT: usize = 1_000;
 const ROUNDS: usize = 200;
 
 fn main() {
-    println!(
-        "{:<14}{:>12}{:>12}{:>8}",
-        "call", "library ns", "second ns", "ratio"
-    );
+    if only().is_none() {
+        println!(
+            "{:<14}{:>12}{:>12}{:>8}",
+            "call", "library ns", "second ns", "ratio"
+        );
+    }
     let typical = images(|random| Card {
         private: random.bytes(),
         ..typical_card()
@@ -32,6 +35,7 @@ fn main() {
         card.private[..18].copy_from_slice(&random.bytes::<18>());
         card
     });
+    contest_by_value(&tidy);
     contest_walking("typical", 21143, &tidy);
     contest_walking("longest", 21041, &longest);
     contest_sheets("typical", 21143, &tidy);
@@ -116,6 +120,24 @@ fn contest_walking(leaf: &str, chip: u16, images: &[Image]) {
     );
 }
 
+/// What it costs that a walk goes in and comes back by value: a call that only hands out a fresh one,
+/// and one that takes a walk too.
+fn contest_by_value(images: &[Image]) {
+    let settled = settled(&images[0], newest(21143));
+    contest(
+        "fresh",
+        images,
+        |_| library::fresh(),
+        |_| walk::fast::fresh(),
+    );
+    contest(
+        "clear",
+        images,
+        |_| library::clear(black_box(settled)),
+        |_| walk::fast::clear(black_box(settled)),
+    );
+}
+
 /// A walk that has settled on the first entry of the table.
 fn settled(image: &[u8], arguments: Arguments) -> Walk {
     let loaded = walk::fast::load(walk::fast::fresh(), image, arguments).walk;
@@ -168,6 +190,17 @@ fn reading(
     move |image| read(image, arguments, &mut kinds, &mut offsets)
 }
 
+/// The one call, its side and the passes that the arguments name, if they do.
+fn only() -> Option<(String, String, usize)> {
+    let arguments: Vec<_> = env::args().skip(1).collect();
+    match arguments.as_slice() {
+        [word, call, side, passes] if word == "only" => {
+            Some((call.clone(), side.clone(), passes.parse().ok()?))
+        }
+        _ => None,
+    }
+}
+
 /// Prints a line of the table: the best of the rounds for each side, which take turns.
 fn contest<A, B>(
     call: &str,
@@ -175,6 +208,15 @@ fn contest<A, B>(
     mut library: impl FnMut(&[u8]) -> A,
     mut second: impl FnMut(&[u8]) -> B,
 ) {
+    if let Some((named, side, passes)) = only() {
+        for _ in 0..if named == call { passes } else { 0 } {
+            match side.as_str() {
+                "library" => nanoseconds(inputs, &mut library),
+                _ => nanoseconds(inputs, &mut second),
+            };
+        }
+        return;
+    }
     let (mut library_best, mut second_best) = (f64::INFINITY, f64::INFINITY);
     for _ in 0..ROUNDS {
         library_best = library_best.min(nanoseconds(inputs, &mut library));

@@ -93,11 +93,12 @@ fn layout_source() -> String {
     for (name, fields) in structs {
         body += &format!("    printf(\"{name} size %zu\\n\", sizeof({name}));\n");
         for field in fields {
-            body +=
-                &format!("    printf(\"{name} {field} %zu\\n\", offsetof({name}, {field}));\n");
+            body += &format!("    printf(\"{name} {field} %zu\\n\", offsetof({name}, {field}));\n");
         }
     }
-    format!("#include <srom.h>\n#include <stdio.h>\n\nint main(void)\n{{\n{body}    return 0;\n}}\n")
+    format!(
+        "#include <srom.h>\n#include <stdio.h>\n\nint main(void)\n{{\n{body}    return 0;\n}}\n"
+    )
 }
 
 /// The same of the types through which the other tests hold the archive to the second implementation.
@@ -203,7 +204,15 @@ fn probe_walks_the_replacement_card() {
         controller: 0,
         level: 6,
     };
-    let output = probe(&["samples/new-type.rom", "21143", "0", "0000", "1001", "1001", "1000"]);
+    let output = probe(&[
+        "samples/new-type.rom",
+        "21143",
+        "0",
+        "0000",
+        "1001",
+        "1001",
+        "1000",
+    ]);
     let mut expected = vec!["address 0000f8001700, connection type 0x0800".to_owned()];
     for (entry, (kind, offset)) in [(3, 57), (4, 48), (2, 33)].into_iter().enumerate() {
         expected.push(entry_line(&image, arguments, entry, kind, offset));

@@ -1,0 +1,180 @@
+/*
+ * A fuzz target over every exported call. The first bytes choose the arguments, the rest is an image, a report and a sheet;
+ * one flag mends both CRCs, so that the search gets behind them. Every lent buffer stands between guard bytes. The archive
+ * is compiled without instrumentation, so what the calls answer guides the search: each refusal number and each count.
+ */
+#include <srom.h>
+
+#include <stdlib.h>
+#include <string.h>
+
+enum { GUARD = 32, GUARD_BYTE = 0xA5, MOST_ELEMENTS = 512, CALLS = 8 };
+
+/* A lent buffer of `length` bytes between guards. */
+typedef struct lent {
+    uint8_t *whole;
+    uint8_t *bytes;
+    size_t length;
+} lent;
+
+static lent lend(const uint8_t *bytes, size_t length)
+{
+    lent buffer = {malloc(length + 2 * GUARD), NULL, length};
+    if (buffer.whole == NULL)
+        abort();
+    memset(buffer.whole, GUARD_BYTE, length + 2 * GUARD);
+    buffer.bytes = buffer.whole + GUARD;
+    if (bytes != NULL)
+        memcpy(buffer.bytes, bytes, length);
+    return buffer;
+}
+
+static void take_back(lent buffer)
+{
+    for (size_t i = 0; i < GUARD; i++)
+        if (buffer.whole[i] != GUARD_BYTE || buffer.bytes[buffer.length + i] != GUARD_BYTE)
+            abort();
+    free(buffer.whole);
+}
+
+static void check(bool holds)
+{
+    if (!holds)
+        abort();
+}
+
+/* A counter for each number that a call answers: to the search, reaching a new one is coverage. */
+enum { READ, LISTED, SKIPPED, RESETS, LOAD, LOOK, SELECTED, SWITCHES, WRITE, MAKE, KINDS_OF_NUMBERS };
+
+__attribute__((section("__libfuzzer_extra_counters"))) static uint8_t counters[KINDS_OF_NUMBERS][256];
+
+static void reach(int kind, size_t number)
+{
+    counters[kind][number < 256 ? number : 255] = 1;
+}
+
+static void mend(uint8_t *image, size_t length)
+{
+    if (length != SROM_IMAGE_LENGTH)
+        return;
+    image[16] = (uint8_t)srom_id_crc(image, length).value;
+    uint16_t crc = srom_crc(image, length).value;
+    image[126] = (uint8_t)crc;
+    image[127] = (uint8_t)(crc >> 8);
+}
+
+static void read_and_view(const uint8_t *image, size_t length, srom_arguments arguments, size_t room)
+{
+    lent kinds = lend(NULL, room * 2), offsets = lend(NULL, room * 2), before = lend(NULL, room * 2);
+    srom_answer answer =
+        srom_read(image, length, arguments, (uint16_t *)kinds.bytes, room, (uint16_t *)offsets.bytes, room);
+    reach(READ, answer.number);
+    reach(LISTED, answer.listed);
+    reach(SKIPPED, answer.skipped);
+    reach(RESETS, answer.resets);
+    if (answer.number != SROM_ACCEPTED) {
+        check(memcmp(kinds.bytes, before.bytes, room * 2) == 0 && memcmp(offsets.bytes, before.bytes, room * 2) == 0);
+        check(answer.blocks == 0 && answer.listed == 0 && answer.address == 0 && answer.default_number == 0);
+    } else {
+        check(answer.listed + answer.resets + answer.skipped == answer.blocks && answer.blocks <= room);
+        check(memcmp(kinds.bytes + answer.listed * 2, before.bytes, (room - answer.listed) * 2) == 0);
+    }
+    for (size_t entry = 0; entry <= answer.listed; entry++) {
+        srom_part part = srom_view(image, length, arguments, entry);
+        check(part.start <= length && part.length <= length - part.start);
+        if (answer.number == SROM_ACCEPTED)
+            check((part.length > 0) == (entry < answer.listed));
+    }
+    take_back(kinds);
+    take_back(offsets);
+    take_back(before);
+}
+
+static void walk_over(const uint8_t *image, size_t length, srom_arguments arguments, const uint8_t *calls, size_t left)
+{
+    srom_walk walk = srom_fresh();
+    for (int i = 0; i < CALLS && left > 0; i++) {
+        uint8_t call = *calls++;
+        left--;
+        srom_walked walked;
+        if (call % 8 == 0) {
+            walked = srom_clear(walk);
+            check(walked.number == SROM_ACCEPTED && !walked.walk.loaded);
+        } else if (call % 8 == 1 || i == 0) {
+            walked = srom_load(walk, image, length, arguments);
+            reach(LOAD, walked.number);
+        } else {
+            size_t count = call < left ? call : left;
+            lent report = lend(calls, count);
+            walked = srom_look(walk, report.bytes, count);
+            take_back(report);
+            reach(LOOK, walked.number);
+            reach(SELECTED, walked.walk.selected);
+            reach(SWITCHES, walked.walk.switches);
+        }
+        if (walked.number != SROM_ACCEPTED)
+            check(memcmp(&walked.walk, &walk, sizeof walk) == 0 || walked.walk.looks == walk.looks);
+        check(walked.walk.switches <= walked.walk.looks);
+        walk = walked.walk;
+    }
+}
+
+static void return_sheet(const uint8_t *sheet, size_t length)
+{
+    lent image = lend(NULL, SROM_IMAGE_LENGTH), before = lend(NULL, SROM_IMAGE_LENGTH), lent_sheet = lend(sheet, length);
+    uint8_t number = srom_write(lent_sheet.bytes, length, image.bytes, SROM_IMAGE_LENGTH);
+    reach(WRITE, number);
+    if (number != SROM_ACCEPTED)
+        check(memcmp(image.bytes, before.bytes, SROM_IMAGE_LENGTH) == 0);
+    else {
+        lent again = lend(NULL, MOST_ELEMENTS);
+        uint16_t chip = (uint16_t)(lent_sheet.bytes[27] | lent_sheet.bytes[28] << 8);
+        srom_made made = srom_make_sheet(image.bytes, SROM_IMAGE_LENGTH, chip, again.bytes, MOST_ELEMENTS);
+        check(made.number == SROM_ACCEPTED && made.length == length);
+        check(memcmp(again.bytes, lent_sheet.bytes, length) == 0);
+        take_back(again);
+    }
+    take_back(image);
+    take_back(before);
+    take_back(lent_sheet);
+}
+
+static void return_image(const uint8_t *image, size_t length, uint16_t chip, size_t room)
+{
+    lent buffer = lend(NULL, room);
+    srom_made made = srom_make_sheet(image, length, chip, buffer.bytes, room);
+    reach(MAKE, made.number);
+    if (made.number == SROM_ACCEPTED) {
+        uint8_t back[SROM_IMAGE_LENGTH];
+        check(srom_write(buffer.bytes, made.length, back, sizeof back) == SROM_ACCEPTED);
+        check(memcmp(back, image, sizeof back) == 0);
+    } else
+        check(made.length == 0);
+    take_back(buffer);
+}
+
+int LLVMFuzzerTestOneInput(const uint8_t *data, size_t size)
+{
+    static const uint16_t chips[8] = {21041, 21140, 21142, 21143, 21145, 21143, 21140, 0};
+    if (size < 6)
+        return 0;
+    uint8_t flags = data[0];
+    srom_arguments arguments = {chips[data[1] % 8], data[2] % 40, data[3] % 9};
+    size_t room = data[4], length = flags & 2 ? data[5] : SROM_IMAGE_LENGTH;
+    data += 6;
+    size -= 6;
+    if (size < length)
+        return 0;
+    lent image = lend(data, length);
+    if (flags & 1)
+        mend(image.bytes, length);
+    lent as_lent = lend(image.bytes, length);
+    read_and_view(image.bytes, length, arguments, room);
+    walk_over(image.bytes, length, arguments, data + length, size - length);
+    return_image(image.bytes, length, arguments.chip, room * 2);
+    return_sheet(data, size);
+    check(memcmp(image.bytes, as_lent.bytes, length) == 0);
+    take_back(image);
+    take_back(as_lent);
+    return 0;
+}
