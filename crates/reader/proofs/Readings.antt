@@ -59,6 +59,29 @@ module _ (image : List ℕ) (a : Arguments) where
       second false q e = e
       second true q e = let z : _≡_ {A = ℕ} 0 1 = cc in absurd (omega arith)
 
+-- The header that the code has read.
+module _ (image : List ℕ) (a : Arguments) (h : Header) (eh : h ≡ headerFor image a) where
+  pub read-number : h .number ≡ firstMet (headerCauses image a)
+  read-number = rw eh (header-number image a)
+
+  module _ (z : h .number ≡ 0) where
+    pub no-refusal : firstMet (headerCauses image a) ≡ 0
+    no-refusal = sym read-number ∙ z
+
+    pub read-found : h ≡ foundHeader image a
+    read-found = eh ∙ header-accepted image a no-refusal
+
+    pub read-count : h .blocks ≡ countFor image a
+    unfolding foundHeader
+    read-count = rw read-found
+
+    pub read-start : h .start ≤ leavesEnd
+    unfolding foundHeader
+    read-start = rw read-found (start-fits image a no-refusal)
+
+    pub read-end : leavesEnd ≤ length image
+    read-end = omega (arith, whole-image image a no-refusal)
+
 -- ## The number of a reading
 
 module _ (image : List ℕ) (a : Arguments) (k o : ℕ) where
@@ -92,39 +115,26 @@ module _ (image : List ℕ) (a : Arguments) (k o : ℕ) where
 module _ (image : List ℕ) (a : Arguments) (k o : ℕ) (h : Header) (eh : h ≡ headerFor image a) where
   pub assess-header : (h .number ≡ 0 → ⊥) → refusedReading (h .number) ≡ readingFor image a k o
   unfolding readCauses
-  assess-header n = refused-reading image a k o (h .number) n (after-refused (headerCauses image a) _ (h .number) n (sym number))
-    where
-      number : h .number ≡ firstMet (headerCauses image a)
-      number = rw eh (header-number image a)
+  assess-header n =
+      refused-reading image a k o (h .number) n (after-refused (headerCauses image a) _ (h .number) n (sym (read-number image a h eh)))
 
   module _ (z : h .number ≡ 0) where
-    pub no-refusal : firstMet (headerCauses image a) ≡ 0
-    no-refusal = sym (header-number image a) ∙ rw (← eh) z
+    accepted : firstMet (headerCauses image a) ≡ 0
+    accepted = no-refusal image a h eh z
 
     found : h ≡ foundHeader image a
-    found = eh ∙ header-accepted image a no-refusal
-
-    start : h .start ≡ startFor image a
-    unfolding foundHeader
-    start = rw found
+    found = read-found image a h eh z
 
     count : h .blocks ≡ countFor image a
-    unfolding foundHeader
-    count = rw found
-
-    pub assess-start : h .start ≤ leavesEnd
-    assess-start = rw start (start-fits image a no-refusal)
-
-    pub assess-end : leavesEnd ≤ length image
-    assess-end = omega (arith, whole-image image a no-refusal)
+    count = read-count image a h eh z
 
     pub assess-kinds : k < h .blocks → refusedReading 12 ≡ readingFor image a k o
-    assess-kinds l = refused-reading image a k o 12 (λ e. omega arith) (no-room image a k o no-refusal (simp (lt-ltb k (countFor image a) (rw count at l))))
+    assess-kinds l = refused-reading image a k o 12 (λ e. omega arith) (no-room image a k o accepted (simp (lt-ltb k (countFor image a) (rw count at l))))
 
     pub assess-offsets : h .blocks ≤ k → o < h .blocks → refusedReading 12 ≡ readingFor image a k o
     assess-offsets g l =
         refused-reading image a k o 12 (λ e. omega arith)
-        (no-room image a k o no-refusal (simp (le-ltb k (countFor image a) (rw count at g), lt-ltb o (countFor image a) (rw count at l))))
+        (no-room image a k o accepted (simp (le-ltb k (countFor image a) (rw count at g), lt-ltb o (countFor image a) (rw count at l))))
 
     module _ (hk : h .blocks ≤ k) (ho : h .blocks ≤ o) (t : Tally) (et : t ≡ tallyOf (h .row) (a .level) (cut (h .row) (h .blocks) (take (leavesEnd - h .start) (drop (h .start) image)))) where
       tally : t ≡ tallyOf (rowFor a) (a .level) (blocksFor image a)
@@ -136,7 +146,7 @@ module _ (image : List ℕ) (a : Arguments) (k o : ℕ) (h : Header) (eh : h ≡
       leaf-number = rw tally (tally-number (rowFor a) (a .level) (blocksFor image a))
 
       all-causes : firstMet (readCauses image a k o) ≡ t .number
-      all-causes = past-room image a k o no-refusal (rw count at hk) (rw count at ho) ∙ sym leaf-number
+      all-causes = past-room image a k o accepted (rw count at hk) (rw count at ho) ∙ sym leaf-number
 
       pub assess-leaf : (t .number ≡ 0 → ⊥) → refusedReading (t .number) ≡ readingFor image a k o
       assess-leaf n = refused-reading image a k o (t .number) n all-causes

@@ -2,7 +2,8 @@
 mod header;
 mod leaf;
 
-use header::Header;
+pub use header::Header;
+pub use header::read_header;
 use leaf::Tally;
 use rom::refusal;
 ghost use mathlib.Core.Path.{_≡_};

@@ -1,6 +1,6 @@
 -- The first refusal of the header, of the room or of the leaf, or the answer. Assumes nothing.
 use mathlib.Core.Path.{_∙_}
-use Rattle.reader.proofs.Readings.{assess-header, assess-start, assess-end, assess-kinds, assess-offsets, assess-leaf, assess-done}
+use Rattle.reader.proofs.Readings.{read-start, read-end, assess-header, assess-kinds, assess-offsets, assess-leaf, assess-done}
 use borrow.Author.Needs.{needs}
 use Rattle.reader.proofs.assess_for.Statement.{statement}
 use Rattle.reader.proofs.assess_for.Tie as tie
@@ -41,17 +41,17 @@ returns-3 c = let a = c .before .before .before .before .before .before .args in
 sub-judge : tie.Need-sub-judge
 sub-judge c = let a = c .before .before .before .before .before .args in
     let h = c .before .before .before .read-header in
-    assess-start (a .image .now) (a .arguments) (a .kinds) (a .offsets) (h .result) (h .ensures) (c .before .before .if1 .left)
+    read-start (a .image .now) (a .arguments) (h .result) (h .ensures) (c .before .before .if1 .left)
 
 part-judge-start : tie.Need-part-judge-start
 part-judge-start c = let a = c .before .before .before .before .before .args in
     let h = c .before .before .before .read-header in
-    assess-start (a .image .now) (a .arguments) (a .kinds) (a .offsets) (h .result) (h .ensures) (c .before .before .if1 .left)
+    read-start (a .image .now) (a .arguments) (h .result) (h .ensures) (c .before .before .if1 .left)
 
 part-judge-end : tie.Need-part-judge-end
 part-judge-end c = let a = c .before .before .before .before .before .args in
     let h = c .before .before .before .read-header in
-    assess-end (a .image .now) (a .arguments) (a .kinds) (a .offsets) (h .result) (h .ensures) (c .before .before .if1 .left)
+    read-end (a .image .now) (a .arguments) (h .result) (h .ensures) (c .before .before .if1 .left)
 
 judge-requires : tie.Need-judge-requires
 judge-requires c κs = search needs

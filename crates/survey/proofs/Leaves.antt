@@ -1,0 +1,62 @@
+-- What is answered of a refused header and of the leaf that an accepted one names, in the code's terms. Assumes nothing.
+use Prim.Native.Nat.{ℕ, _-_, _≤_, _<_}
+use mathlib.Core.List.{List}
+use mathlib.Core.Path.{_≡_, _∙_}
+use mathlib.Core.Bool.{false}
+use lib.ListN.{take, drop}
+use borrow.Author.Tests.{ne-eqb, lt-ltb, le-ltb}
+use Rattle.rom.specs.Geometry.{leavesEnd}
+use Rattle.rom.specs.Bytes.{pick}
+use Rattle.rom.specs.Refusal.{firstMet}
+use Rattle.reader.specs.declared.Arguments.{Arguments}
+use Rattle.reader.specs.declared.header.Header.{Header}
+use Rattle.reader.specs.Image.{restFrom}
+use Rattle.reader.specs.Leaf.{cut, firstFrom}
+use Rattle.reader.specs.Reading.{startFor, countFor, headerCauses, foundHeader, headerFor}
+use Rattle.reader.proofs.Readings.{read-number, no-refusal, read-found, read-count}
+use Rattle.survey.specs.Survey.{hasLeaf, noPlace, placeFrom, placeFor, isRefused, refusedFor}
+use Rattle.survey.proofs.Stepping.{stands-behind}
+
+module _ (image : List ℕ) (a : Arguments) (h : Header) (eh : h ≡ headerFor image a) where
+  -- ## A refused header
+
+  module _ (n : h .number ≡ 0 → ⊥) where
+    no-leaf : hasLeaf image a ≡ false
+    no-leaf = ne-eqb (firstMet (headerCauses image a)) 0 (λ e. n (read-number image a h eh ∙ e))
+
+    pub no-leaf-place : (k : ℕ) → noPlace ≡ placeFor image a k
+    unfolding placeFor pick
+    no-leaf-place k = simp no-leaf
+
+    pub no-leaf-refused : 255 ≡ refusedFor image a
+    unfolding refusedFor pick
+    no-leaf-refused = simp no-leaf
+
+  -- ## An accepted one
+
+  module _ (z : h .number ≡ 0) where
+    accepted : firstMet (headerCauses image a) ≡ 0
+    accepted = no-refusal image a h eh z
+
+    found : h ≡ foundHeader image a
+    found = read-found image a h eh z
+
+    count : h .blocks ≡ countFor image a
+    count = read-count image a h eh z
+
+    pub no-block-place : (k : ℕ) → h .blocks ≤ k → noPlace ≡ placeFor image a k
+    unfolding placeFor pick
+    no-block-place k l = simp (accepted, le-ltb k (countFor image a) (rw count at l))
+
+    pub block-stands : (k : ℕ) → k < h .blocks
+        → placeFrom (h .row) (h .start) k (take (leavesEnd - h .start) (drop (h .start) image)) ≡ placeFor image a k
+    unfolding placeFor foundHeader restFrom pick
+    block-stands k l =
+        simp (accepted, lt-ltb k (countFor image a) (rw count at l))
+        (rw found (stands-behind _ _ _ k (restFrom image (startFor image a)) _ (rw count at l)))
+
+    pub leaf-refused :
+        firstFrom (isRefused (h .row) (a .level)) 0 (cut (h .row) (h .blocks) (take (leavesEnd - h .start) (drop (h .start) image)))
+        ≡ refusedFor image a
+    unfolding refusedFor foundHeader restFrom pick
+    leaf-refused = rw (found, accepted)

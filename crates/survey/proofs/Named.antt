@@ -1,0 +1,65 @@
+-- The first cause that is met is one of the first refused block's, by induction over the blocks. Assumes nothing.
+use Prim.Native.Nat.{ℕ, zero, suc, _+_, _-_, _≤_}
+use native.Mathlib.Omega.{arith}
+use native.Mathlib.Nat.{le-refl, sub-zero}
+use mathlib.Core.List.{List, [], _∷_}
+use mathlib.Core.Path.{_≡_, refl, _∙_}
+use lib.ListN.{getD}
+use Rattle.rom.specs.Bytes.{pick}
+use Rattle.rom.specs.Refusal.{firstMet}
+use Rattle.rom.proofs.First.{after-accepted, after-refused}
+use Rattle.block.specs.Block.{sizeOf, causes, refusalOf}
+use Rattle.block.proofs.Exact.{causes-numbered}
+use Rattle.reader.specs.Leaf.{firstFrom, blockCauses, leafCauses, placed, Place as Standing}
+use Rattle.reader.specs.Reading.{rowFor, startFor, blocksFor, headerCauses, leafCausesFor, judgeCauses, judgeAnswer}
+use Rattle.reader.proofs.Headers.{header-numbered}
+use Rattle.reader.proofs.Readings.{answer-number}
+use Rattle.survey.specs.Survey.{isRefused, refusedFor}
+use Rattle.survey.specs.Promises.{NamesTheBlock}
+use Rattle.survey.proofs.Stepping.{first-here, first-later}
+
+module _ (row level : ℕ) (s : List ℕ) (bs : List (List ℕ)) where
+  by-first : (refusalOf row level s ≡ 0 → ⊥) → firstMet (blockCauses row level (s ∷ bs)) ≡ refusalOf row level s
+  unfolding blockCauses refusalOf
+  by-first n = after-refused (causes row level s) _ _ n refl
+
+  by-others : refusalOf row level s ≡ 0 → firstMet (blockCauses row level (s ∷ bs)) ≡ firstMet (blockCauses row level bs)
+  unfolding blockCauses refusalOf
+  by-others = after-accepted (causes row level s) _ (causes-numbered row level s)
+
+-- n is the number of a block whose refusal is that of them all, where the first has number k
+Names : ℕ → ℕ → Standing → ℕ → ℕ → List (List ℕ) → ℕ → Type 0
+Names row level d at k bs n =
+    (k ≤ n) × (firstMet (blockCauses row level bs) ≡ refusalOf row level (getD (placed row at bs) (n - k) d .rest))
+
+names : (row level : ℕ) (d : Standing) (at k : ℕ) (bs : List (List ℕ)) → (firstMet (blockCauses row level bs) ≡ 0 → ⊥)
+    → Names row level d at k bs (firstFrom (isRefused row level) k bs)
+unfolding Names blockCauses firstMet placed
+names row level d at k [] r = absurd (r refl)
+names row level d at k (s ∷ bs) r = go (refusalOf row level s) refl (names row level d (at + sizeOf row s) (k + 1) bs)
+  where
+    go : (n : ℕ) → refusalOf row level s ≡ n
+        → ((firstMet (blockCauses row level bs) ≡ 0 → ⊥)
+        → Names row level d (at + sizeOf row s) (k + 1) bs (firstFrom (isRefused row level) (k + 1) bs))
+        → Names row level d at k (s ∷ bs) (firstFrom (isRefused row level) k (s ∷ bs))
+    go zero e ih =
+        let same = by-others row level s bs e in
+        let m = ih (λ f. r (same ∙ f)) in
+        let n = firstFrom (isRefused row level) (k + 1) bs in
+        let j : n - k ≡ suc (n - (k + 1)) = omega (arith, m .0) in
+        rw (first-later row level s bs k e) (omega (arith, m .0), rw j (same ∙ m .1))
+    go (suc n) e ih =
+        let ne : refusalOf row level s ≡ 0 → ⊥ = λ z. omega (arith, e) in
+        let j : k - k ≡ 0 = omega arith in
+        rw (first-here row level s bs k ne) (le-refl k, rw j (by-first row level s bs ne))
+
+pub names-the-block : NamesTheBlock
+unfolding judgeAnswer judgeCauses leafCausesFor leafCauses refusedFor Names pick
+names-the-block image a z r =
+    let bs = blocksFor image a in
+    let named = names (rowFor a) (a .level) (record { start = 0; rest = [] }) (startFor image a) 0 bs r .1 in
+    rw z
+    (answer-number (firstMet (judgeCauses image a)) image a
+    ∙ after-accepted (headerCauses image a) _ (header-numbered image a) z
+    ∙ after-refused (blockCauses (rowFor a) (a .level) bs) _ _ r refl
+    ∙ (rw sub-zero at named))

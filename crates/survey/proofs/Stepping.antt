@@ -1,0 +1,92 @@
+-- The blocks of a leaf one by one, whatever they say: where the next stands, and whether it is the first that is refused.
+-- Assumes nothing.
+use Prim.Native.Nat.{ℕ, zero, suc, _+_, _-_, _%_, _≤_, _<_}
+use native.Mathlib.Omega.{arith}
+use mathlib.Core.List.{List, _∷_}
+use mathlib.Core.Path.{_≡_, refl, sym, _∙_}
+use mathlib.Core.Bool.{Bool, true, false}
+use lib.ListN.{length, take, drop, getD, drop-of-length-le}
+use lib.Seq.{drop-length}
+use borrow.Author.Tests.{eq-eqb, ne-eqb}
+use Rattle.rom.specs.Bytes.{pick, byteAt, bit}
+use Rattle.block.specs.declared.Block.{Block}
+use Rattle.block.specs.Block.{is21041, isExtended, lengthOf, siaSize, sizeOf, kindOf, refusalOf}
+use Rattle.block.specs.Answer.{blockOf, numberOf, sizeIn}
+use Rattle.block.proofs.Seen.{Seen, seen, seen-number, seen-size}
+use Rattle.reader.specs.Leaf.{cut, firstFrom, placed, Place as Standing}
+use Rattle.reader.proofs.Cuts.{cut-more, cut-none, rest-part}
+use Rattle.survey.specs.declared.Place.{Place}
+use Rattle.survey.specs.Survey.{placeOf, placeFrom, isRefused}
+
+-- ## Where the next block stands
+
+-- an extended block's length has seven bits
+pub size-small : (row : ℕ) (s : List ℕ) → sizeOf row s ≤ 128
+unfolding sizeOf siaSize lengthOf pick
+size-small row s = go (is21041 row) (bit 6 (byteAt s 0)) (isExtended row s)
+  where
+    go : (t u v : Bool) → pick t (pick u 7 1) (pick v (1 + byteAt s 0 % 128) 4) ≤ 128
+    go true true v = omega arith
+    go true false v = omega arith
+    go false u true = omega arith
+    go false u false = omega arith
+
+-- nothing lies behind the end
+pub behind-end : (n : ℕ) (s : List ℕ) → length s < n → take (length s - length s) (drop (length s) s) ≡ drop n s
+behind-end n s h =
+    let l : length s ≤ n = omega arith in
+    rest-part (length s) s ∙ drop-length s ∙ sym (drop-of-length-le s l)
+
+-- The steps of `find` in its own terms: z is the next block's size, t the rest behind it or its kind.
+module _ (row number at : ℕ) (s : List ℕ) {k : ℕ} {whole : Place} (inv : placeFrom row at (number - k) s ≡ whole) where
+  pub find-more : {z : ℕ} {t : List ℕ} → k < number → z ≡ sizeOf row s → t ≡ drop z s
+      → placeFrom row (at + z) (number - (k + 1)) t ≡ whole
+  unfolding placeFrom
+  find-more h ez et =
+      let e : number - k ≡ suc (number - (k + 1)) = omega arith in
+      rw (et, ez) (rw e at inv)
+
+  pub find-done : {z t : ℕ} → number ≤ k → z ≡ sizeOf row s → t ≡ kindOf row s
+      → record { start = at; size = z; kind = t } ≡ whole
+  unfolding placeFrom
+  find-done h ez et =
+      let e : number - k ≡ 0 = omega arith in
+      rw (ez, et) (rw e at inv)
+
+-- block k stands k blocks behind the first
+pub stands-behind : (row at count k : ℕ) (s : List ℕ) (d : Standing) → k < count
+    → placeFrom row at k s ≡ placeOf row (getD (placed row at (cut row count s)) k d)
+unfolding placeFrom placed cut
+stands-behind row at zero k s d h = absurd (omega arith)
+stands-behind row at (suc count) zero s d h = refl
+stands-behind row at (suc count) (suc k) s d h = stands-behind row (at + sizeOf row s) count k (drop (sizeOf row s) s) d (omega arith)
+
+-- ## The first block that is refused
+
+module _ (row level : ℕ) (s : List ℕ) (bs : List (List ℕ)) (k : ℕ) where
+  pub first-here : (refusalOf row level s ≡ 0 → ⊥) → firstFrom (isRefused row level) k (s ∷ bs) ≡ k
+  unfolding firstFrom isRefused pick
+  first-here n = simp (ne-eqb (refusalOf row level s) 0 n)
+
+  pub first-later : refusalOf row level s ≡ 0
+      → firstFrom (isRefused row level) k (s ∷ bs) ≡ firstFrom (isRefused row level) (k + 1) bs
+  unfolding firstFrom isRefused pick
+  first-later e = simp (eq-eqb (refusalOf row level s) 0 e)
+
+-- The steps of `first_refused` in its own terms: b is what the next block is found to be, n its number, z its size.
+module _ (row level count : ℕ) (s : List ℕ) {k whole : ℕ} (inv : firstFrom (isRefused row level) k (cut row (count - k) s) ≡ whole) where
+  pub refused-here : {b : Block} {n : ℕ} → k < count → b ≡ blockOf row level s → n ≡ numberOf b → (n ≡ 0 → ⊥) → k ≡ whole
+  refused-here {b} {n} h eb en ne =
+      let v : Seen row level s b = rw eb (seen row level s) in
+      sym (first-here row level s _ k (λ e. ne (en ∙ seen-number v ∙ e))) ∙ (rw cut-more at inv)
+
+  pub refused-later : {b : Block} {n z : ℕ} → k < count → b ≡ blockOf row level s → n ≡ numberOf b → n ≡ 0 → z ≡ sizeIn b
+      → firstFrom (isRefused row level) (k + 1) (cut row (count - (k + 1)) (take (length s - z) (drop z s))) ≡ whole
+  refused-later {b} {n} {z} h eb en e ez =
+      let v : Seen row level s b = rw eb (seen row level s) in
+      let f = first-later row level s _ k (sym (seen-number v) ∙ sym en ∙ e) in
+      rw (rest-part, ez, seen-size v (sym en ∙ e)) (sym f ∙ (rw cut-more at inv))
+
+  pub refused-nowhere : count ≤ k → 255 ≡ whole
+  unfolding firstFrom
+  refused-nowhere h = rw cut-none at inv

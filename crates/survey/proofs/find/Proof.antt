@@ -1,0 +1,84 @@
+-- Each turn steps over one block, and the place so many blocks behind the next is that of the whole. Assumes nothing.
+use borrow.Author.Needs.{needs}
+use Prim.Native.Nat.{_+_, _-_, _*_, _≤_}
+use native.Mathlib.Omega.{arith}
+use native.Mathlib.Nat.{sub-zero}
+use mathlib.Core.Path.{_≡_, refl}
+use denote.Ref.{now}
+use Rattle.survey.specs.Survey.{placeFrom}
+use Rattle.survey.proofs.Stepping.{size-small, find-more, find-done}
+use Rattle.survey.proofs.find.Statement.{statement}
+use Rattle.survey.proofs.find.Tie as tie
+
+abbrev Inv-loop : tie.InvT-loop
+Inv-loop blocks start row number rest₀ at₀ k₀ rest at k =
+    (placeFrom row at (number - k) rest ≡ placeFrom row start number blocks) × (k ≤ number) × (at ≤ 124 + 128 * k)
+
+abbrev μ-loop : tie.MeasureT-loop
+μ-loop blocks start row number rest₀ at₀ k₀ rest at k = number - k
+
+loop-holds : tie.Need-loop-holds Inv-loop μ-loop
+loop-holds c = (rw sub-zero refl, search needs, search needs)
+
+size-at-requires : tie.Need-size-at-requires Inv-loop μ-loop
+size-at-requires c κs = search needs
+
+behind-requires : tie.Need-behind-requires Inv-loop μ-loop
+behind-requires c κs = search needs
+
+add-at : tie.Need-add-at Inv-loop μ-loop
+add-at c =
+    let l = c .before .before .before in
+    omega (arith, c .before .size-at .ensures, size-small (l .before .before .args .row) (now (l .loop .rest)))
+
+add-k : tie.Need-add-k Inv-loop μ-loop
+add-k c = search needs
+
+loop-less : tie.Need-loop-less Inv-loop μ-loop
+loop-less c = search needs
+
+loop-again : tie.Need-loop-again Inv-loop μ-loop
+loop-again c =
+    let l = c .before .before .before in (
+      find-more _ _ _ _ (l .loop .inv .0) (c .before .before .loop-test .taken) (c .before .size-at .ensures) (c .behind .ensures),
+      search needs,
+      omega (arith, c .before .size-at .ensures, size-small (l .before .before .args .row) (now (l .loop .rest))),
+    )
+
+cast-t11 : tie.Need-cast-t11 Inv-loop μ-loop
+cast-t11 c = omega arith
+
+size-at-requires-2 : tie.Need-size-at-requires-2 Inv-loop μ-loop
+size-at-requires-2 c κs = search needs
+
+cast-t13 : tie.Need-cast-t13 Inv-loop μ-loop
+cast-t13 c =
+    let l = c .before .before in
+    omega (arith, c .size-at2 .ensures, size-small (l .before .before .args .row) (now (l .loop .rest)))
+
+kind-at-requires : tie.Need-kind-at-requires Inv-loop μ-loop
+kind-at-requires c κs = search needs
+
+returns : tie.Need-returns Inv-loop μ-loop
+returns c =
+    let t = c .before .before in
+    find-done _ _ _ _ (t .before .loop .inv .0) (t .loop-test .left) (c .before .size-at2 .ensures) (c .kind-at .ensures)
+
+pub find-spec : {M : Type 1} → statement M
+find-spec =
+    tie.close
+    (tie.spec
+    Inv-loop
+    μ-loop
+    loop-holds
+    size-at-requires
+    behind-requires
+    add-at
+    add-k
+    loop-less
+    loop-again
+    cast-t11
+    size-at-requires-2
+    cast-t13
+    kind-at-requires
+    returns)

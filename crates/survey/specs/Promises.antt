@@ -1,0 +1,16 @@
+-- What is promised of the block that a refusal names.
+use Prim.Native.Nat.{ℕ}
+use mathlib.Core.Path.{_≡_}
+use mathlib.Core.List.{List}
+use Rattle.rom.specs.Refusal.{firstMet}
+use Rattle.block.specs.Block.{refusalOf}
+use Rattle.reader.specs.declared.Arguments.{Arguments}
+use Rattle.reader.specs.Leaf.{blockCauses}
+use Rattle.reader.specs.Reading.{rowFor, blocksFor, headerCauses, judgeAnswer}
+use Rattle.survey.specs.Survey.{refusedFor, standingFor}
+
+-- where nothing before the blocks is refused and a block is, the reading's number is why the named block is refused
+abbrev pub NamesTheBlock : Type 0
+NamesTheBlock = (image : List ℕ) (a : Arguments) → firstMet (headerCauses image a) ≡ 0
+    → (firstMet (blockCauses (rowFor a) (a .level) (blocksFor image a)) ≡ 0 → ⊥)
+    → judgeAnswer image a .number ≡ refusalOf (rowFor a) (a .level) (standingFor image a (refusedFor image a) .rest)

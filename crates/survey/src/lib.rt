@@ -1,0 +1,114 @@
+// The blocks of a controller's leaf one by one, by their numbers, whether the reading is accepted or not: where each
+// stands, and which one a refusal names.
+use block::shape;
+use reader::Arguments;
+use rom::refusal;
+ghost use mathlib.Core.Path.{_≡_};
+ghost use Prim.Native.Nat.{_≤_};
+ghost use lib.ListN.{drop};
+ghost use Rattle.reader.specs.Leaf.{cut, firstFrom};
+ghost use Rattle.survey.specs.Survey.{noPlace, placeFrom, placeFor, isRefused, refusedFor};
+
+// No block: the number of the refused one where none is.
+pub const NONE: u8 = 255;
+
+// A block's byte offset in the image, how many bytes its size says that it has, and its kind; zeros where there is none.
+pub struct Place {
+    pub start: u16,
+    pub size: u16,
+    pub kind: u16,
+}
+
+fn nowhere() -> Place
+    ensures { λ r. ⌜ r ≡ noPlace ⌝ }
+{
+    Place {
+        start: 0,
+        size: 0,
+        kind: 0,
+    }
+}
+
+// The rest of a leaf behind so many bytes, empty where it has no more.
+fn behind(rest: &[u8], size: usize) -> &[u8]
+    ensures { λ r. ⌜ now r ≡ drop size (now (rest .entry)) ⌝ }
+{
+    let length = rest.len();
+    if length < size {
+        return &rest[length..];
+    }
+    &rest[size..]
+}
+
+// The place of a block of a leaf, of which the first stands at an offset.
+fn find(blocks: &[u8], start: usize, row: usize, number: u8) -> Place
+    requires { ⌜ start ≤ 124 ⌝ }
+    ensures { λ r. ⌜ r ≡ placeFrom row start number (now (blocks .entry)) ⌝ }
+{
+    let mut rest = blocks;
+    let mut at = start;
+    let mut k = 0u8;
+    while k < number {
+        let size = shape::size_at(rest, row);
+        let next = behind(rest, size);
+        rest = next;
+        at += size;
+        k += 1;
+    }
+    Place {
+        start: at as u16,
+        size: shape::size_at(rest, row) as u16,
+        kind: shape::kind_at(rest, row),
+    }
+}
+
+// Where a block stands, by its number; zeros where the header is refused or there is no such block.
+pub fn block_place(image: &[u8], arguments: Arguments, number: u8) -> Place
+    ensures { λ r. ⌜ r ≡ placeFor (now (image .entry)) arguments number ⌝ }
+{
+    let h = reader::read_header(image, arguments);
+    if h.number != refusal::ACCEPTED {
+        return nowhere();
+    }
+    if h.blocks <= number {
+        return nowhere();
+    }
+    let start = h.start;
+    find(&image[start..rom::LEAVES_END], start, h.row, number)
+}
+
+// The number of the first block of a leaf that a reader of a level refuses.
+fn first_refused(blocks: &[u8], count: u8, row: usize, level: u8) -> u8
+    ensures { λ r. ⌜ r ≡ firstFrom (isRefused row level) 0 (cut row count (now (blocks .entry))) ⌝ }
+{
+    let mut rest = blocks;
+    let mut k = 0u8;
+    while k < count {
+        let b = block::judge_block(rest, row, level);
+        let number = block::number_of(b);
+        if number != refusal::ACCEPTED {
+            return k;
+        }
+        let size = block::size_of(b);
+        rest = &rest[size..];
+        k += 1;
+    }
+    NONE
+}
+
+// The number of the first block that is refused, where the header is not.
+pub fn refused_block(image: &[u8], arguments: Arguments) -> u8
+    ensures { λ r. ⌜ r ≡ refusedFor (now (image .entry)) arguments ⌝ }
+{
+    let h = reader::read_header(image, arguments);
+    if h.number != refusal::ACCEPTED {
+        return NONE;
+    }
+    let start = h.start;
+    first_refused(
+        &image[start..rom::LEAVES_END],
+        h.blocks,
+        h.row,
+        arguments.level,
+    )
+}
