@@ -2,11 +2,3 @@ pub mod Below
 pub mod Flags
 pub mod Loads
 pub mod Looks
-pub mod Numbered
-pub mod Simulation
-pub mod OlderReadings
-pub mod OlderReader
-pub mod Refusals
-pub mod Order
-pub mod Counting
-pub mod Standing

@@ -6,14 +6,10 @@ use mathlib.Core.List.{List}
 use lib.Dec.{eqb, lit<}
 use borrow.Author.Tests.{eqb-true, eqb-false, eq-eqb, ne-eqb}
 use Rattle.rom.specs.Bytes.{pick, isIn}
-use Rattle.rom.specs.Refusal.{firstMet, Numbered}
+use Rattle.rom.specs.Refusal.{firstMet}
 use Rattle.rom.proofs.First.{none-here}
 use Rattle.autosense.specs.declared.Walk.{Walk}
 use Rattle.autosense.specs.Walk.{served, isServed, lookCauses, walkedTo, stepped, lookFor}
-
-pub look-numbered : (w : Walk) (report : List ℕ) → Numbered (lookCauses w report)
-unfolding lookCauses
-look-numbered w report = (lit< tt, (lit< tt, (lit< tt, (lit< tt, tt))))
 
 -- a look that is accepted finds looks below their most
 pub accepted-looks : (w : Walk) (report : List ℕ) → firstMet (lookCauses w report) ≡ 0 → w .looks ≡ 65535 → ⊥

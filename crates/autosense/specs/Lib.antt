@@ -1,5 +1,1 @@
 pub mod Walk
-pub mod Calls
-pub mod Claims
-pub mod Written
-pub mod OlderReader

@@ -4,8 +4,6 @@ pub mod Tables
 pub mod Counts
 pub mod Filling
 pub mod Finding
-pub mod Older
-pub mod OlderAnswer
 pub mod Worked
 pub mod Readings
 pub mod Promised

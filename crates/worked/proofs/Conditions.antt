@@ -15,11 +15,11 @@ use Rattle.reader.specs.Image.{versions, controllerCount, reservedAt, baseAddre
 use Rattle.reader.specs.Leaf.{cut, isListed, isReset, isSkipped, isDefault, resetsPhy, countOf, firstFrom, clash, blockCauses, clashCause, leafCauses}
 use Rattle.reader.specs.Reading.{headerCauses, leafCausesFor, judgeCauses, acceptedAnswer, answerFor, judgeAnswer}
 use Rattle.autosense.specs.Walk.{none, served, isServed, noFlags, flags, blockIs, flagAt, isInvalid, rowsOf, freshWalk, loadedWalk, lastBelow, anyBelow, stays, isCandidate, firstUp, upIn, chosen, switched, stepped, badReport, lookCauses, loadCauses, walkedTo, loadFor, lookFor}
-use Rattle.autosense.specs.Calls.{Call, load, look, Seen, fresh, loaded, After, call, seen, after, run}
-use Rattle.autosense.specs.OlderReader.{removedBlock, atLevel}
+use Rattle.older.specs.Calls.{Call, load, look, Seen, fresh, loaded, After, call, seen, after, run}
+use Rattle.older.specs.OlderReader.{removedBlock, atLevel}
 use Rattle.worked.specs.Conditions.{RemovedDefault, RemovedUp}
 use Rattle.worked.specs.Cases.{unsealed, sealed, imageWith}
-use Rattle.autosense.proofs.Numbered.{flag-none}
+use Rattle.older.proofs.Numbered.{flag-none}
 
 abbrev for21143 : Arguments
 for21143 = record { chip = 21143; controller = 0; level = newestLevel }

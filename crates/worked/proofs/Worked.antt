@@ -11,8 +11,8 @@ use Rattle.reader.specs.Table.{tableOf, written}
 use Rattle.reader.specs.Reading.{headerCauses, leafCausesFor, judgeCauses, refusedAnswer, acceptedAnswer, answerFor, readCauses, readAnswer, readInto, readKinds, readOffsets}
 use Rattle.reader.specs.Cases as reader
 use Rattle.autosense.specs.Walk.{served, isServed, noFlags, flags, flagAt, isInvalid, rowsOf, freshWalk, loadedWalk, lastBelow, anyBelow, stays, isCandidate, firstUp, upIn, chosen, switched, stepped, badReport, lookCauses, loadCauses, walkedTo, loadFor, lookFor}
-use Rattle.autosense.specs.Calls.{call, seen, after, run}
-use Rattle.autosense.specs.Written.{answerOf, entries, tableIn}
+use Rattle.older.specs.Calls.{call, seen, after, run}
+use Rattle.older.specs.Written.{answerOf, entries, tableIn}
 use Rattle.worked.specs.Cases.{unsealed, sealed, imageWith, argumentsOf, readWhole, worked, cases, Worked}
 
 pub cases-worked : Worked

@@ -8,8 +8,8 @@ use Rattle.crc.specs.Crc.{sromCrc, idCrc}
 use Rattle.reader.specs.declared.Arguments.{Arguments}
 use Rattle.reader.specs.Cases as reader
 use Rattle.autosense.specs.Walk.{none, freshWalk}
-use Rattle.autosense.specs.Calls.{Call, load, look, loaded, After, run}
-use Rattle.autosense.specs.Written.{Arrays, answerOf, tableIn}
+use Rattle.older.specs.Calls.{Call, load, look, loaded, After, run}
+use Rattle.older.specs.Written.{Arrays, answerOf, tableIn}
 
 -- ## A whole image
 

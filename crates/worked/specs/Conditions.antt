@@ -8,8 +8,8 @@ use Rattle.block.specs.Format.{newestLevel}
 use Rattle.reader.specs.declared.Arguments.{Arguments}
 use Rattle.reader.specs.Reading.{judgeCauses, judgeAnswer}
 use Rattle.autosense.specs.Walk.{freshWalk}
-use Rattle.autosense.specs.Calls.{Call, Down, run}
-use Rattle.autosense.specs.OlderReader.{atLevel, removedBlock}
+use Rattle.older.specs.Calls.{Call, Down, run}
+use Rattle.older.specs.OlderReader.{atLevel, removedBlock}
 
 -- an image that the newest reader accepts, an older level, and calls after which the two walks are not alike
 pub record Differ : Type 0 where

@@ -12,10 +12,10 @@ use Rattle.rom.specs.Refusal.{firstMet}
 use Rattle.reader.specs.declared.Arguments.{Arguments}
 use Rattle.reader.specs.Leaf.{isListed, isDefault, firstFrom}
 use Rattle.reader.specs.Reading.{rowFor, blocksFor, acceptedAnswer}
 use Rattle.autosense.specs.declared.Walk.{Walk}
 use Rattle.autosense.specs.Walk.{none, flags, flagAt, isUp, rowsOf, freshWalk, loadedWalk, lastBelow, stays, isCandidate, firstUp, upIn, choice, chosen, stepped, lookCauses, loadCauses, walkedTo, loadFor, lookFor, clearFor}
-use Rattle.autosense.specs.Claims.{Reached, fresh, load, look, clear, StandsOnEntry}
-use Rattle.autosense.proofs.Numbered.{Found, found, absent, at, block-at, default-listed, flag-block}
+use Rattle.older.specs.Claims.{Reached, fresh, load, look, clear, StandsOnEntry}
+use Rattle.older.proofs.Numbered.{Found, found, absent, at, block-at, default-listed, flag-block}
 
 -- no block, or one that is listed
 abbrev OnEntry : List ℕ → ℕ → Type 0

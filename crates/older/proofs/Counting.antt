@@ -11,10 +11,10 @@ use Rattle.rom.specs.Bytes.{pick}
 use Rattle.rom.specs.Refusal.{firstMet}
 use Rattle.reader.specs.declared.Arguments.{Arguments}
 use Rattle.reader.specs.Leaf.{one}
 use Rattle.autosense.specs.declared.Walk.{Walk}
 use Rattle.autosense.specs.Walk.{freshWalk, loadedWalk, chosen, switched, stepped, lookCauses, loadCauses, walkedTo, loadFor, lookFor, clearFor}
-use Rattle.autosense.specs.Claims.{Reached, fresh, load, look, clear, CountsExactly}
+use Rattle.older.specs.Claims.{Reached, fresh, load, look, clear, CountsExactly}
 use Rattle.autosense.proofs.Looks.{accepted-looks}
 
 record Counts (w : Walk) : Type 0 where
   fewer : w .switches ≤ w .looks

@@ -13,12 +13,12 @@ use Rattle.reader.specs.Leaf.{Place, placed, keep, table, isListed, one}
 use Rattle.reader.specs.Table.{tableOf}
 use Rattle.reader.specs.Reading.{rowFor, startFor, countFor, blocksFor, acceptedAnswer}
 use Rattle.reader.proofs.Cuts.{cut-length}
 use Rattle.autosense.specs.Walk.{none, rowLength, flags, blockIs, isInvalid, isUp, rowsOf, loadedWalk, lastBelow, isCandidate, firstUp}
-use Rattle.autosense.specs.Claims.{FlagForEach, RowsSay, numbersFrom, entryNumbers, firstOf, TableNumbers, FirstInOrder}
+use Rattle.older.specs.Claims.{FlagForEach, RowsSay, numbersFrom, entryNumbers, firstOf, TableNumbers, FirstInOrder}
 use Rattle.autosense.proofs.Loads.{few-blocks}
-use Rattle.autosense.proofs.Numbered.{flag-block}
-use Rattle.autosense.proofs.OlderReadings.{parts}
-use Rattle.autosense.proofs.Simulation.{last-same}
+use Rattle.older.proofs.Numbered.{flag-block}
+use Rattle.older.proofs.OlderReadings.{parts}
+use Rattle.older.proofs.Simulation.{last-same}
 
 -- ## Rows
 

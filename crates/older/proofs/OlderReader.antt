@@ -13,12 +13,12 @@ use Rattle.reader.specs.declared.Answer.{Answer}
 use Rattle.reader.specs.Image.{restFrom}
 use Rattle.reader.specs.Reading.{rowFor, startFor, countFor, blocksFor, judgeCauses, acceptedAnswer, answerFor, judgeAnswer}
 use Rattle.reader.proofs.Cuts.{cut-length}
 use Rattle.autosense.specs.Walk.{freshWalk, loadedWalk, rowsOf, loadCauses, walkedTo, loadFor}
-use Rattle.autosense.specs.OlderReader.{removedBlock, atLevel, WalksAgree, OlderReader}
+use Rattle.older.specs.OlderReader.{removedBlock, atLevel, WalksAgree, OlderReader}
 use Rattle.autosense.proofs.Loads.{few-blocks}
-use Rattle.autosense.proofs.Numbered.{block-past, listed-same, invalid-same}
-use Rattle.autosense.proofs.OlderReadings.{parts, judge-down, default-number, reads-agree}
-use Rattle.autosense.proofs.Simulation.{walkAt, Alike, runs-agree}
+use Rattle.older.proofs.Numbered.{block-past, listed-same, invalid-same}
+use Rattle.older.proofs.OlderReadings.{parts, judge-down, default-number, reads-agree}
+use Rattle.older.proofs.Simulation.{walkAt, Alike, runs-agree}
 
 -- an accepted image is loaded by a fresh walk
 loads : (image : List ℕ) (a : Arguments) → firstMet (judgeCauses image a) ≡ 0 → loadFor freshWalk image a ≡ record { number = 0; walk = walkAt (loadedWalk image a) false 255 0 0 }

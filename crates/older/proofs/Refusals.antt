@@ -11,15 +11,18 @@ use Rattle.reader.specs.declared.Arguments.{Arguments}
 use Rattle.reader.specs.Reading.{rowFor, blocksFor, headerCauses, leafCausesFor, judgeCauses}
 use Rattle.reader.proofs.Headers.{header-numbered}
 use Rattle.reader.proofs.Cuts.{leaf-numbered}
 use Rattle.autosense.specs.declared.Walk.{Walk}
 use Rattle.autosense.specs.Walk.{lookCauses, loadCauses, walkedTo, loadFor, lookFor}
-use Rattle.autosense.specs.Claims.{ExactLoad, ExactLook, RefusedLoad, RefusedLook}
-use Rattle.autosense.proofs.Looks.{look-numbered}
+use Rattle.older.specs.Claims.{ExactLoad, ExactLook, RefusedLoad, RefusedLook}
 
 load-numbered : (w : Walk) (image : List ℕ) (a : Arguments) → Numbered (loadCauses w image a)
 unfolding loadCauses judgeCauses leafCausesFor
 load-numbered w image a =
     (lit< tt, numbered-append (headerCauses image a) (leafCausesFor image a) (header-numbered image a) (leaf-numbered (rowFor a) (a .level) (blocksFor image a)))
+
+look-numbered : (w : Walk) (report : List ℕ) → Numbered (lookCauses w report)
+unfolding lookCauses
+look-numbered w report = (lit< tt, (lit< tt, (lit< tt, (lit< tt, tt))))
 
 pub exact-load : ExactLoad
 unfolding loadFor walkedTo

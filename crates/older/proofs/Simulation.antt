@@ -9,10 +9,9 @@ use borrow.Author.Tests.{eqb-true}
 use Rattle.rom.specs.Bytes.{pick}
 use Rattle.rom.specs.Refusal.{firstMet}
 use Rattle.reader.specs.declared.Arguments.{Arguments}
 use Rattle.autosense.specs.declared.Walk.{Walk}
-use Rattle.autosense.specs.declared.Choice.{Choice}
 use Rattle.autosense.specs.Walk.{flagAt, isUp, freshWalk, lastBelow, stays, isCandidate, firstUp, upIn, choice, chosen, switched, stepped, lookCauses, loadCauses, walkedTo, loadFor, lookFor, clearFor}
-use Rattle.autosense.specs.Calls.{Call, load, look, clear, call, seen, after, run, DownAt, Down}
+use Rattle.older.specs.Calls.{Call, load, look, clear, call, seen, after, run, DownAt, Down}
 
 -- ## Searches
 
@@ -153,12 +152,10 @@ module _ (removed : ℕ → Bool) (new old : Walk) (a : Alike removed new old) w
         number : ℕ
         number = firstMet (lookCauses (walkAt new s x l n) report)
 
-        now : Choice
-        now = chosen (walkAt new s x l n) report
-
         go : (b : Bool) → eqb number 0 ≡ b → Step (on s x l n) (look report)
         go true e =
             let q = h (eqb-true number 0 e) in
+            let now = chosen (walkAt new s x l n) report in
             record {
               number = number;
               next = on (now .settled) (now .selected) (l + 1) (switched n x (now .selected));

@@ -12,11 +12,11 @@ use Rattle.block.specs.Block.{isKnown}
 use Rattle.reader.specs.declared.Arguments.{Arguments}
 use Rattle.reader.specs.declared.Answer.{Answer}
 use Rattle.reader.specs.Leaf.{countOf}
-use Rattle.reader.specs.Claims.{onlyNewest, isRemoved}
+use Rattle.older.specs.Levels.{onlyNewest, isRemoved}
 use Rattle.reader.specs.Reading.{rowFor, blocksFor, judgeCauses, judgeAnswer}
 use Rattle.autosense.specs.Walk.{none, blockIs, freshWalk}
-use Rattle.autosense.specs.Calls.{Call, Down, run}
-use Rattle.autosense.specs.Written.{Arrays, Room, answerOf, Entry, tableIn, those}
+use Rattle.older.specs.Calls.{Call, Down, run}
+use Rattle.older.specs.Written.{Arrays, Room, answerOf, Entry, tableIn, those}
 
 -- the same arguments for a reader of a level
 abbrev pub atLevel : Arguments → ℕ → Arguments

@@ -17,16 +17,16 @@ use Rattle.reader.specs.declared.Arguments.{Arguments}
 use Rattle.reader.specs.Image.{restFrom, imageCauses, argumentCauses, leafHeaderCauses}
 use Rattle.reader.specs.Leaf.{Place, keep, countOf, isListed}
 use Rattle.reader.specs.Table.{tableOf, written, kindAt, startAt}
-use Rattle.reader.specs.Claims.{stays}
+use Rattle.older.specs.Levels.{stays}
 use Rattle.reader.specs.Reading.{rowFor, leafFor, startFor, countFor, blocksFor, tableFor, headerCauses, leafCausesFor, judgeCauses, readCauses, acceptedAnswer, answerFor, readAnswer, readInto, readKinds, readOffsets}
 use Rattle.reader.proofs.Headers.{header-numbered}
 use Rattle.reader.proofs.Tables.{listed-length}
-use Rattle.reader.proofs.Older.{older-accepts, older-table}
-use Rattle.reader.proofs.OlderAnswer.{older-counts, older-default}
+use Rattle.older.proofs.Older.{older-accepts, older-table}
+use Rattle.older.proofs.OlderAnswer.{older-counts, older-default}
 use Rattle.reader.proofs.Counts.{accepted-defaults}
-use Rattle.autosense.specs.Written.{Arrays, Room, Entry, entries, answerOf, tableIn, those}
-use Rattle.autosense.specs.OlderReader.{removed, kept, removedBlock, atLevel, ReadsAgree}
-use Rattle.autosense.proofs.Numbered.{default-kept}
+use Rattle.older.specs.Written.{Arrays, Room, Entry, entries, answerOf, tableIn, those}
+use Rattle.older.specs.OlderReader.{removed, kept, removedBlock, atLevel, ReadsAgree}
+use Rattle.older.proofs.Numbered.{default-kept}
 
 -- ## Acceptance goes down the levels
 

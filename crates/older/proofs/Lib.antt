@@ -1,0 +1,10 @@
+pub mod Older
+pub mod OlderAnswer
+pub mod Numbered
+pub mod Simulation
+pub mod OlderReadings
+pub mod OlderReader
+pub mod Refusals
+pub mod Order
+pub mod Counting
+pub mod Standing
