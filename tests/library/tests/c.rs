@@ -198,14 +198,14 @@ fn entry_line(image: &[u8], arguments: Arguments, entry: usize, kind: u16, offse
 /// once settled another when its own link is down.
 #[test]
 fn probe_walks_the_replacement_card() {
-    let image = fs::read(root().join("samples/new-type.rom")).unwrap();
+    let image = fs::read(root().join("samples/replacement-card.rom")).unwrap();
     let arguments = Arguments {
         chip: 21143,
         controller: 0,
         level: 6,
     };
     let output = probe(&[
-        "samples/new-type.rom",
+        "samples/replacement-card.rom",
         "21143",
         "0",
         "0000",

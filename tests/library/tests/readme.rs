@@ -9,7 +9,7 @@ fn commands(readme: &str, from: &str, to: &str) -> Vec<String> {
         .lines()
         .skip_while(|line| !line.starts_with(from))
         .take_while(|line| !line.starts_with(to))
-        .filter_map(|line| line.strip_prefix("    "))
+        .filter_map(|line| line.strip_prefix("    $ "))
         .map(str::to_owned)
         .collect()
 }
