@@ -400,7 +400,8 @@ fn draw_unknowns(file: i32, image: &[u8], arguments: Arguments, blocks: u8) {
     }
 }
 
-fn draw(file: i32, image: &[u8], arguments: Arguments, number: u8) {
+// Whether the last of it could be written: what is full stays full.
+fn draw(file: i32, image: &[u8], arguments: Arguments, number: u8) -> bool {
     io::write_all(
         file,
         b"<svg xmlns=\"http://www.w3.org/2000/svg\" viewBox=\"0 0 1120 792\">\n",
@@ -420,7 +421,7 @@ fn draw(file: i32, image: &[u8], arguments: Arguments, number: u8) {
         arguments,
         library::block_count(image, arguments),
     );
-    io::write_all(file, b"</svg>\n");
+    io::write_all(file, b"</svg>\n")
 }
 
 // Draws the picture of an image to the file that a word names. An image of another length has none.
@@ -438,8 +439,8 @@ pub fn show(image: &[u8], chip: u16, place: usize, force: bool) -> u8 {
     if file < 0 {
         return status::USAGE;
     }
-    draw(file, image, arguments, number);
-    let done = output::finish(picture, place, true, force);
+    let whole = draw(file, image, arguments, number);
+    let done = output::finish(picture, place, whole, force);
     if !done {
         return status::USAGE;
     }

@@ -96,9 +96,11 @@ pub fn finish(output: Output, place: usize, whole: bool, force: bool) -> bool {
     let end = os::arg(place, &mut name);
     let path = output.path;
     let path = part(&path, 0, output.length);
-    libc::fsync(output.file);
+    let kept = 0 <= libc::fsync(output.file);
     libc::close(output.file);
-    if whole {
+    if !kept {
+        complain(b"not all could be kept", place);
+    } else if whole {
         if rename(path, &name[..end], force) {
             return true;
         }
