@@ -1,30 +1,21 @@
 // The bench tool: what is on a card, and what an older driver would see of it. Everything that it shows is answered by the
 // proved crates below it; this one reads files, and prints.
-mod arguments;
-mod hexadecimal;
-mod input;
-mod library;
-mod line;
-mod map;
-mod older;
-mod output;
-mod read;
-mod report;
 mod sheets;
-mod slice;
-mod status;
-mod text;
-mod walk;
-mod words;
 
-use arguments::complain;
-use arguments::is_word;
-use arguments::suggest;
 use block::NEWEST_LEVEL;
+use console::arguments;
+use console::arguments::complain;
+use console::arguments::is_word;
+use console::arguments::suggest;
+use console::input;
+use console::status;
+use drivers::older;
+use drivers::walk;
 use libc::STDOUT_FILENO;
-use line::Line;
 use reader::Arguments;
-use slice::part;
+use report::words;
+use text::line::Line;
+use text::slice::part;
 
 fn usage() -> u8 {
     io::write_all(
@@ -174,7 +165,7 @@ fn read_card(image: &[u8], chip: u16, words: usize, is_older: bool) -> u8 {
     if is_older {
         return status::of(older::show(image, arguments));
     }
-    status::of(read::show(image, arguments))
+    status::of(listing::show(image, arguments))
 }
 
 fn refusals() -> u8 {
@@ -194,7 +185,7 @@ fn run_on(bytes: &[u8], command: u32, chip: u16, words: usize) -> u8 {
         OLDER => read_card(bytes, chip, words, true),
         WALK => walk::show(bytes, chip, words),
         SHEET => sheets::make(bytes, chip, 4, 5 < words),
-        MAP => map::show(bytes, chip, 4, 5 < words),
+        MAP => picture::show(bytes, chip, 4, 5 < words),
         _ => sheets::write(bytes, 3, 4 < words),
     }
 }

@@ -1,14 +1,13 @@
 // `card sheet` and `card write`: an image to its sheet, and a sheet to its image.
-use crate::line;
-use crate::line::say;
-use crate::output;
-use crate::report;
-use crate::slice::byte_at;
-use crate::slice::part;
-use crate::status;
 use block::NEWEST_LEVEL;
+use console::output;
+use console::status;
 use reader::Arguments;
 use rom::refusal;
+use text::line;
+use text::line::say;
+use text::slice::byte_at;
+use text::slice::part;
 
 // More than the sheet of any image has.
 const ROOM: usize = 1024;

@@ -1,0 +1,6 @@
+// The program and what is around it: the words that it was started with, files, and what it ends with.
+pub mod arguments;
+mod hexadecimal;
+pub mod input;
+pub mod output;
+pub mod status;

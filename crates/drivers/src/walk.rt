@@ -1,0 +1,168 @@
+// `card walk`: looks with given link reports, and where the walk stands after each.
+use autosense::Walk;
+use autosense::Walked;
+use block::NEWEST_LEVEL;
+use console::arguments;
+use console::status;
+use reader::Arguments;
+use report::library;
+use report::words;
+use rom::refusal;
+use text::line::Line;
+use text::slice::part;
+
+// The word that is the first report.
+const FIRST: usize = 4;
+
+// The longest report that is looked at, and how much of it is shown again.
+const LONGEST: usize = 255;
+
+const SHOWN: usize = 16;
+
+// A report's links, one a digit; found is false where the word is none.
+struct Report {
+    found: bool,
+    links: [u8; LONGEST],
+    length: usize,
+}
+
+fn report_of(digits: &[u8]) -> Report {
+    let mut report = Report {
+        found: false,
+        links: [0; LONGEST],
+        length: 0,
+    };
+    let mut i = 0;
+    while i < digits.len() {
+        if LONGEST <= i {
+            return report;
+        }
+        let digit = digits[i];
+        if digit < b'0' {
+            return report;
+        }
+        if b'9' < digit {
+            return report;
+        }
+        report.links[i] = digit - b'0';
+        i += 1;
+    }
+    report.length = i;
+    report.found = 0 < i;
+    report
+}
+
+fn report_at(place: usize) -> Report {
+    let mut room = [0u8; LONGEST];
+    let length = os::arg(place, &mut room);
+    report_of(&room[..length])
+}
+
+// The first word that should be a report and is none, or how many words there are.
+fn first_wrong(words: usize) -> usize {
+    let mut place = FIRST;
+    while place < words {
+        let found = report_at(place).found;
+        if !found {
+            return place;
+        }
+        place += 1;
+    }
+    words
+}
+
+fn look(walk: Walk, place: usize) -> Walked {
+    let report = report_at(place);
+    let links = report.links;
+    library::look(walk, part(&links, 0, report.length))
+}
+
+// The start of a look's line: its report.
+fn report_words(place: usize) -> Line {
+    let mut room = [0u8; LONGEST];
+    let length = os::arg(place, &mut room);
+    let line = Line::new().to(2).text(part(&room[..length], 0, SHOWN));
+    if SHOWN < length {
+        return line.text(b"..  ");
+    }
+    line.text(b"  ")
+}
+
+fn selected_words(line: Line, image: &[u8], arguments: Arguments, selected: u8) -> Line {
+    if selected == survey::NONE {
+        return line.text(b"none selected");
+    }
+    let place = library::block_place(image, arguments, selected);
+    let line = line.with(
+        b"block # at byte #, ",
+        [selected as u64, place.start as u64, 0, 0],
+    );
+    words::medium_words(line, library::block_bytes(image, place), place.kind)
+}
+
+fn show_state(line: Line, image: &[u8], arguments: Arguments, walk: Walk) {
+    let mut line = selected_words(line, image, arguments, walk.selected);
+    if !walk.settled {
+        line = line.text(b", not");
+    } else {
+        line = line.text(b",");
+    }
+    line.with(
+            b" settled; looks #, switches #",
+            [walk.looks as u64, walk.switches as u64, 0, 0],
+        )
+        .print();
+}
+
+fn show_look(image: &[u8], arguments: Arguments, place: usize, walked: Walked) {
+    let line = report_words(place);
+    if walked.number != refusal::ACCEPTED {
+        let line = line.with(b"REFUSED #: ", [walked.number as u64, 0, 0, 0]);
+        words::refusal_words(line, walked.number).print();
+        return;
+    }
+    let walk = walked.walk;
+    show_state(line, image, arguments, walk);
+}
+
+// A look with each report; whether all are accepted.
+fn show_looks(image: &[u8], arguments: Arguments, loaded: Walk, words: usize) -> bool {
+    let mut walk = loaded;
+    let mut accepted = true;
+    let mut place = FIRST;
+    while place < words {
+        let walked = look(walk, place);
+        show_look(image, arguments, place, walked);
+        if walked.number != refusal::ACCEPTED {
+            accepted = false;
+        }
+        walk = walked.walk;
+        place += 1;
+    }
+    accepted
+}
+
+// Loads the image and takes the looks; the status.
+pub fn show(image: &[u8], chip: u16, words: usize) -> u8 {
+    let arguments = Arguments {
+        chip,
+        controller: 0,
+        level: NEWEST_LEVEL,
+    };
+    let wrong = first_wrong(words);
+    if wrong < words {
+        arguments::complain(b"no row of 0 and 1", wrong);
+        arguments::suggest(b"a REPORT has a digit for each block: 1 where its link is up");
+        return status::USAGE;
+    }
+    let loaded = library::load(image, arguments);
+    if loaded.number != refusal::ACCEPTED {
+        report::show_refused(image, arguments, loaded.number);
+        return status::REFUSED;
+    }
+    let walk = loaded.walk;
+    report::arguments_words(Line::new().text(b"LOADED  "), arguments)
+        .with(b", # blocks", [walk.blocks as u64, 0, 0, 0])
+        .print();
+    status::of(show_looks(image, arguments, walk, words))
+}

@@ -1,0 +1,451 @@
+// `card map`: a picture of the ROM, one cell a byte, coloured and labelled by field and block.
+use block::Block;
+use block::NEWEST_LEVEL;
+use console::output;
+use console::status;
+use reader::Arguments;
+use report::library;
+use report::words;
+use rom::refusal;
+use survey::Place;
+use text::decimal_words;
+use text::line;
+use text::line::Line;
+use text::line::say;
+use text::slice::byte_at;
+
+// ## What a byte belongs to
+
+const PRIVATE: u8 = 0;
+
+const ID: u8 = 1;
+
+const ID_CRC: u8 = 2;
+
+const VERSION: u8 = 3;
+
+const COUNT: u8 = 4;
+
+const ADDRESS: u8 = 5;
+
+const CONTROLLER: u8 = 6;
+
+const RESERVED: u8 = 7;
+
+const LEAF: u8 = 8;
+
+const MEDIUM: u8 = 9;
+
+const PHY: u8 = 10;
+
+const RESET: u8 = 11;
+
+const UNKNOWN: u8 = 12;
+
+const REFUSED: u8 = 13;
+
+const MAKER: u8 = 14;
+
+const SROM_CRC: u8 = 15;
+
+// How many there are.
+const FIELDS: u8 = 16;
+
+fn field_words(line: Line, field: u8) -> Line {
+    line.text(decimal_words(
+        b"0 private or unused
+1 ID block
+2 ID CRC
+3 format version
+4 controller count
+5 base address
+6 controller
+7 reserved
+8 leaf header
+9 block: medium
+10 block: MII PHY
+11 block: reset
+12 block: UNKNOWN type
+13 block: REFUSED
+14 the maker's bytes
+15 SROM CRC
+",
+        field as u64,
+    ))
+}
+
+// A cell's label; '#' stands for the number of its block or controller.
+fn label(line: Line, field: u8, number: u8) -> Line {
+    let pattern = decimal_words(
+        b"1 ID
+2 CRC
+3 version
+4 count
+5 address
+6 ctrl #
+7 reserved
+8 leaf #
+9 block #
+10 block #
+11 block #
+12 block #
+13 block #
+14 maker
+15 CRC
+",
+        field as u64,
+    );
+    line.with(pattern, [number as u64, 0, 0, 0])
+}
+
+fn colour(line: Line, field: u8) -> Line {
+    line.text(decimal_words(
+        b"0 #f4f4f4
+1 #d9d9d9
+2 #b8b8b8
+3 #cfe2f3
+4 #a9cce8
+5 #bcd4f5
+6 #d8c9ee
+7 #ece4f6
+8 #fff2b3
+9 #cdebc5
+10 #9fd5b5
+11 #fbd9a8
+12 #e0218a
+13 #d7301f
+14 #e6ded0
+15 #b8b8b8
+",
+        field as u64,
+    ))
+}
+
+// The bytes' fields, and with each the number of the controller or of the block that it is of.
+struct Cells {
+    fields: [u8; rom::IMAGE_LENGTH],
+    numbers: [u8; rom::IMAGE_LENGTH],
+}
+
+impl Cells {
+    fn none() -> Cells {
+        Cells {
+            fields: [PRIVATE; rom::IMAGE_LENGTH],
+            numbers: [0; rom::IMAGE_LENGTH],
+        }
+    }
+
+    fn painted(self, field: u8, number: u8, start: usize, count: usize) -> Cells {
+        let mut cells = self;
+        let mut k = 0;
+        let mut at = start;
+        while k < count {
+            if rom::IMAGE_LENGTH <= at {
+                return cells;
+            }
+            cells.fields[at] = field;
+            cells.numbers[at] = number;
+            at += 1;
+            k += 1;
+        }
+        cells
+    }
+
+    // The fields whose places are fixed.
+    fn framed(self) -> Cells {
+        self.painted(ID, 0, 0, 18)
+            .painted(ID_CRC, 0, rom::ID_CRC_AT, 1)
+            .painted(VERSION, 0, rom::VERSION_AT, 1)
+            .painted(COUNT, 0, rom::CONTROLLER_COUNT_AT, 1)
+            .painted(ADDRESS, 0, rom::ADDRESS_AT, 6)
+            .painted(MAKER, 0, rom::LEAVES_END, 2)
+            .painted(SROM_CRC, 0, rom::CHECKED_LENGTH, 2)
+    }
+}
+
+fn field_of(b: Block) -> u8 {
+    match b {
+        Block::Listed {
+            kind,
+            size: _,
+            active_invalid: _,
+            is_default: _,
+            resets_phy: _,
+        } => {
+            if kind == 1 {
+                return PHY;
+            }
+            if kind == 3 {
+                return PHY;
+            }
+            MEDIUM
+        }
+        Block::Reset { size: _ } => RESET,
+        Block::Unknown { size: _ } => UNKNOWN,
+        Block::Refused(_) => REFUSED,
+    }
+}
+
+// The blocks of a controller's leaf, up to one that is refused.
+fn with_blocks(cells: Cells, image: &[u8], arguments: Arguments, blocks: u8) -> Cells {
+    let mut cells = cells;
+    let mut k = 0u8;
+    while k < blocks {
+        let place = library::block_place(image, arguments, k);
+        let field = field_of(library::block_at(image, arguments, place.start));
+        let length = library::block_bytes(image, place).len();
+        cells = cells.painted(field, k, place.start as usize, length);
+        if field == REFUSED {
+            return cells;
+        }
+        k += 1;
+    }
+    cells
+}
+
+// A controller's three bytes, its leaf's header and its blocks.
+fn with_controller(cells: Cells, image: &[u8], arguments: Arguments) -> Cells {
+    let controller = arguments.controller;
+    let entry = rom::CONTROLLERS_AT + 3 * (controller as usize);
+    let cells = cells.painted(CONTROLLER, controller, entry, 3);
+    let header = reader::read_header(image, arguments);
+    if header.number != refusal::ACCEPTED {
+        return cells;
+    }
+    let leaf = report::leaf_of(image, controller) as usize;
+    if header.start < leaf {
+        return cells;
+    }
+    let cells = cells.painted(LEAF, controller, leaf, header.start - leaf);
+    with_blocks(cells, image, arguments, header.blocks)
+}
+
+fn newest(chip: u16, controller: u8) -> Arguments {
+    Arguments {
+        chip,
+        controller,
+        level: NEWEST_LEVEL,
+    }
+}
+
+fn cells_of(image: &[u8], chip: u16) -> Cells {
+    let count = byte_at(image, rom::CONTROLLER_COUNT_AT);
+    let mut cells = Cells::none().framed();
+    if rom::MOST_CONTROLLERS < count {
+        return cells;
+    }
+    let mut left = count;
+    while 0 < left {
+        left -= 1;
+        cells = with_controller(cells, image, newest(chip, left));
+    }
+    cells.painted(RESERVED, 0, rom::CONTROLLERS_AT + 3 * (count as usize), 1)
+}
+
+// ## The picture
+
+fn styles(file: i32) {
+    io::write_all(
+        file,
+        b"<style>
+text{font-family:monospace;text-anchor:middle;fill:#1a1a1a}
+rect{stroke:#808080}
+.value{font-size:22px}
+.label{font-size:11px}
+.words{font-size:14px;text-anchor:start}
+.title{font-size:20px;text-anchor:start}
+.field12,.field13{stroke:#000000;stroke-width:3}
+.loud{fill:#ffffff;font-weight:bold}
+",
+    );
+    let mut field = 0u8;
+    while field < FIELDS {
+        let line = line::of(b".field#{fill:", [field as u64, 0, 0, 0]);
+        colour(line, field).byte(b'}').end(file);
+        field += 1;
+    }
+    io::write_all(file, b"</style>\n");
+}
+
+fn is_loud(field: u8) -> bool {
+    if field == UNKNOWN {
+        return true;
+    }
+    field == REFUSED
+}
+
+// The opening of a text of a cell.
+fn text_in(class: &[u8], field: u8, x: u64, y: u64) -> Line {
+    let mut line = Line::new().text(b"<text class=\"").text(class);
+    let loud = is_loud(field);
+    if loud {
+        line = line.text(b" loud");
+    }
+    line.with(b"\" x=\"#\" y=\"#\">", [x, y, 0, 0])
+}
+
+// The opening of a text of the page.
+fn text_at(class: &[u8], x: u64, y: u64) -> Line {
+    text_in(class, PRIVATE, x, y)
+}
+
+fn end_text(line: Line, file: i32) {
+    line.text(b"</text>").end(file);
+}
+
+fn draw_cell(file: i32, at: u8, byte: u8, field: u8, number: u8) {
+    let x = 60 + 64 * ((at % 16) as u64);
+    let y = 84 + 62 * ((at / 16) as u64);
+    let line = line::of(
+        b"<rect class=\"field#\" x=\"#\" y=\"#\"",
+        [field as u64, x, y, 0],
+    );
+    line.text(b" width=\"62\" height=\"60\"/>").end(file);
+    let value = text_in(b"value", field, x + 31, y + 30);
+    end_text(value.with(b"%", [byte as u64, 0, 0, 0]), file);
+    end_text(
+        label(text_in(b"label", field, x + 31, y + 50), field, number),
+        file,
+    );
+}
+
+fn draw_cells(file: i32, image: &[u8], cells: Cells) {
+    let fields = cells.fields;
+    let numbers = cells.numbers;
+    let mut at = 0u8;
+    while at < 128 {
+        let i = at as usize;
+        draw_cell(file, at, byte_at(image, i), fields[i], numbers[i]);
+        at += 1;
+    }
+}
+
+// The number of each row's first byte.
+fn draw_offsets(file: i32) {
+    let mut row = 0u64;
+    while row < 8 {
+        let line = text_at(b"value", 30, 122 + 62 * row);
+        end_text(line.with(b"#", [16 * row, 0, 0, 0]), file);
+        row += 1;
+    }
+}
+
+fn draw_key(file: i32, field: u8) {
+    let x = 60 + 256 * ((field % 4) as u64);
+    let y = 600 + 26 * ((field / 4 % 4) as u64);
+    let line = line::of(
+        b"<rect class=\"field#\" x=\"#\" y=\"#\"",
+        [field as u64, x, y, 0],
+    );
+    line.text(b" width=\"26\" height=\"18\"/>").end(file);
+    end_text(field_words(text_at(b"words", x + 36, y + 14), field), file);
+}
+
+fn draw_keys(file: i32) {
+    let mut field = 0u8;
+    while field < FIELDS {
+        draw_key(file, field);
+        field += 1;
+    }
+}
+
+fn draw_title(file: i32, arguments: Arguments, number: u8) {
+    let line = text_at(b"title", 60, 36);
+    end_text(
+        line.with(b"Serial ROM of a # card", [arguments.chip as u64, 0, 0, 0]),
+        file,
+    );
+    let line = text_at(b"words", 60, 64);
+    if number == refusal::ACCEPTED {
+        end_text(
+            line.text(b"accepted by the newest reader for controller 0"),
+            file,
+        );
+    } else {
+        let line = line.with(b"refused #: ", [number as u64, 0, 0, 0]);
+        end_text(words::refusal_words(line, number), file);
+    }
+}
+
+fn draw_unknown(file: i32, number: u8, place: Place, y: u64) {
+    let line = report::place_words(text_at(b"words", 60, y), number, place);
+    end_text(
+        line.text(b", of a type that the newest reader steps over"),
+        file,
+    );
+}
+
+fn is_unknown(kind: u16) -> bool {
+    if kind < (NEWEST_LEVEL as u16) {
+        return false;
+    }
+    kind < block::KIND_COMPACT
+}
+
+// The first blocks of controller 0 that the newest reader steps over, as many as there is room for.
+fn draw_unknowns(file: i32, image: &[u8], arguments: Arguments, blocks: u8) {
+    let mut drawn = 0u64;
+    let mut k = 0u8;
+    while k < blocks {
+        let place = library::block_place(image, arguments, k);
+        let unknown = is_unknown(place.kind);
+        if unknown {
+            if drawn < 3 {
+                draw_unknown(file, k, place, 730 + 22 * drawn);
+                drawn += 1;
+            }
+        }
+        k += 1;
+    }
+}
+
+// Whether the last of it could be written: what is full stays full.
+fn draw(file: i32, image: &[u8], arguments: Arguments, number: u8) -> bool {
+    io::write_all(
+        file,
+        b"<svg xmlns=\"http://www.w3.org/2000/svg\" viewBox=\"0 0 1120 792\">\n",
+    );
+    styles(file);
+    io::write_all(
+        file,
+        b"<rect width=\"1120\" height=\"792\" fill=\"#ffffff\"/>\n",
+    );
+    draw_title(file, arguments, number);
+    draw_offsets(file);
+    draw_cells(file, image, cells_of(image, arguments.chip));
+    draw_keys(file);
+    draw_unknowns(
+        file,
+        image,
+        arguments,
+        library::block_count(image, arguments),
+    );
+    io::write_all(file, b"</svg>\n")
+}
+
+// Draws the picture of an image to the file that a word names. An image of another length has none.
+pub fn show(image: &[u8], chip: u16, place: usize, force: bool) -> u8 {
+    let arguments = newest(chip, 0);
+    let number = library::judge(image, arguments).number;
+    if number != refusal::ACCEPTED {
+        report::show_refused(image, arguments, number);
+    }
+    if number == refusal::IMAGE_LENGTH {
+        return status::REFUSED;
+    }
+    let picture = output::begin(place);
+    let file = picture.file;
+    if file < 0 {
+        return status::USAGE;
+    }
+    let whole = draw(file, image, arguments, number);
+    let done = output::finish(picture, place, whole, force);
+    if !done {
+        return status::USAGE;
+    }
+    if number != refusal::ACCEPTED {
+        return status::REFUSED;
+    }
+    say(b"ACCEPTED  the picture is written");
+    status::ACCEPTED
+}

@@ -1,0 +1,108 @@
+// Words for numbers: the one table of each. Media and connection types are named as 000 names them.
+use text::decimal_words;
+use text::hex_words;
+use text::line::Line;
+use text::slice::byte_at;
+
+// Document 01, 'Why a call is refused'.
+pub fn refusal_words(line: Line, number: u8) -> Line {
+    line.text(decimal_words(
+        b"0 accepted
+1 the image does not have 128 bytes
+2 the format version is neither 3 nor 4
+3 the SROM CRC is wrong
+4 the ID CRC is wrong
+5 the controller count is not 1 to 32, or the reserved byte is not 0
+6 the card has no such controller
+7 no such chip
+8 the level is over 6
+9 the controller's address is over 48 bits
+10 the leaf's header is outside its bounds
+11 the connection type is none of the chip's
+12 the room that is lent is too short
+13 the block runs past byte 123
+14 the block's length is 0, or its type is not permitted for the chip
+15 the block's length is wrong for its type
+16 the block's media code or one of its reserved bits is wrong
+17 the PHY advertises what it is not capable of
+18 two resets, a reset and a PHY's own, or two default media
+19 the report is too short, or has a byte above 1
+20 the walk is fresh: nothing is loaded
+21 the walk is loaded already
+22 the connection type is fixed: looks do not serve it
+23 65,535 looks have been taken
+24 the sheet's length is wrong, or the sum of its sizes is
+25 a kind, a body or the control byte is wrong in the sheet
+26 the leaf would run past byte 123
+27 the image is not tidy, so a sheet would lose some of it
+",
+        number as u64,
+    ))
+}
+
+pub fn media_words(line: Line, code: u8) -> Line {
+    line.text(decimal_words(
+        b"0 10BaseT
+1 10Base2 (BNC)
+2 10Base5 (AUI)
+3 100BaseTx
+4 10BaseT full duplex
+5 100BaseTx full duplex
+6 100BaseT4
+7 100BaseFx
+8 100BaseFx full duplex
+",
+        code as u64,
+    ))
+}
+
+pub fn connection_words(line: Line, connection: u16) -> Line {
+    line.text(hex_words(
+        b"0000 10BaseT
+0100 10BaseT with Nway
+0204 10BaseT full duplex
+0400 10BaseT without link pass test
+0001 10Base2 (BNC)
+0002 10Base5 (AUI)
+0003 100BaseTx
+0205 100BaseTx full duplex
+0006 100BaseT4
+0007 100BaseFx
+0208 100BaseFx full duplex
+0009 MII 10BaseT
+020a MII 10BaseT full duplex
+000d MII 100BaseTx
+020e MII 100BaseTx full duplex
+000f MII 100BaseT4
+0010 MII 100BaseFx
+0211 MII 100BaseFx full duplex
+0800 autosense, at power-up and later
+8800 autosense at power-up only
+0900 autosense with Nway
+ffff none selected
+",
+        connection,
+    ))
+}
+
+// A block's kind: an extended type, or one of the two forms without.
+pub fn kind_words(line: Line, kind: u16) -> Line {
+    if kind == block::KIND_COMPACT {
+        return line.text(b"compact");
+    }
+    if kind == block::KIND_21041 {
+        return line.text(b"21041");
+    }
+    line.text(b"type ").decimal(kind as u64)
+}
+
+// What a listed block stands for: a medium by its code, or a PHY by its number.
+pub fn medium_words(line: Line, bytes: &[u8], kind: u16) -> Line {
+    if block::KIND_COMPACT <= kind {
+        return media_words(line, byte_at(bytes, 0) % 64);
+    }
+    if kind % 2 == 1 {
+        return line.with(b"MII PHY #", [byte_at(bytes, 2) as u64, 0, 0, 0]);
+    }
+    media_words(line, byte_at(bytes, 2) % 64)
+}
