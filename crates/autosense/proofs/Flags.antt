@@ -11,9 +11,9 @@ use Rattle.rom.specs.Refusal.{firstMet}
 use Rattle.block.specs.declared.Block.{Block}
 use Rattle.block.specs.Answer.{blockOf, numberOf, sizeIn, listedIn}
 use Rattle.block.proofs.Seen.{Seen, refused, unknown, a-reset, a-medium, seen-size}
-use Rattle.reader.specs.Leaf.{cut, isListed, one, blockCauses}
-use Rattle.reader.proofs.Cuts.{cut-more, cut-none, cut-length, rest-part, next-seen, next-fine, next-left}
-use Rattle.reader.proofs.Tables.{seen-listed}
+use Rattle.leaf.specs.Leaf.{cut, isListed, one, blockCauses}
+use Rattle.leaf.proofs.Cuts.{cut-more, cut-none, cut-length, rest-part, next-seen, next-fine, next-left}
+use Rattle.leaf.proofs.Tables.{seen-listed}
 use Rattle.autosense.specs.Walk.{noFlags, flags, isInvalid, invalidIn, rowsOf}
 
 -- a row with the flags of the blocks bs from number k on

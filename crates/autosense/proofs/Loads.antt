@@ -14,14 +14,15 @@ use Rattle.rom.proofs.First.{none-here, both-accepted}
 use Rattle.block.specs.Block.{sizeOf}
 use Rattle.block.proofs.Seen.{fits}
 use Rattle.block.proofs.Whole.{size-positive}
-use Rattle.reader.specs.declared.Arguments.{Arguments}
+use Rattle.header.specs.declared.Arguments.{Arguments}
 use Rattle.reader.specs.declared.Reading.{Reading}
-use Rattle.reader.specs.Image.{controllerCount, reservedAt, headerLength, blocksAt, badCount, restFrom, imageCauses, argumentCauses, leafHeaderCauses}
-use Rattle.reader.specs.Leaf.{cut, blockCauses}
-use Rattle.reader.specs.Reading.{rowFor, leafFor, startFor, countFor, blocksFor, headerCauses, leafCausesFor, judgeCauses, acceptedReading, judgedReading, acceptedAnswer}
-use Rattle.reader.proofs.Cuts.{first-accepted, accepted-blocks}
-use Rattle.reader.proofs.Headers.{image-numbered, argument-numbered}
-use Rattle.reader.proofs.Readings.{Accepted, accepted-judged, restOf, start-fits, reading-number}
+use Rattle.header.specs.Image.{controllerCount, reservedAt, headerLength, blocksAt, badCount, restFrom, imageCauses, argumentCauses, leafHeaderCauses}
+use Rattle.leaf.specs.Leaf.{cut, blockCauses}
+use Rattle.header.specs.Header.{rowFor, leafFor, startFor, countFor, headerCauses}
+use Rattle.reader.specs.Reading.{blocksFor, leafCausesFor, judgeCauses, acceptedReading, judgedReading, acceptedAnswer}
+use Rattle.leaf.proofs.Cuts.{first-accepted, accepted-blocks}
+use Rattle.header.proofs.Headers.{image-numbered, argument-numbered, start-fits}
+use Rattle.reader.proofs.Readings.{Accepted, accepted-judged, restOf, reading-number}
 use Rattle.autosense.specs.declared.Walk.{Walk}
 use Rattle.autosense.specs.declared.Rows.{Rows}
 use Rattle.autosense.specs.Walk.{rowsOf, loadedWalk, loadCauses, walkedTo, loadFor}

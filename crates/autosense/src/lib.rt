@@ -7,7 +7,7 @@ ghost use mathlib.Core.Bool.{Bool};
 ghost use Prim.Native.Nat.{_≤_};
 ghost use Rattle.rom.specs.Refusal.{firstMet};
 ghost use Rattle.block.specs.Answer.{listedIn};
-ghost use Rattle.reader.specs.Leaf.{cut, one, blockCauses};
+ghost use Rattle.leaf.specs.Leaf.{cut, one, blockCauses};
 ghost use Rattle.autosense.specs.Walk.{noFlags, invalidIn, rowsOf, freshWalk, isServed, flagAt, badReport, isCandidate, firstUp, stays, chosen, switched, stepped, lookCauses, loadFor, lookFor, clearFor};
 
 // ## Connection types (document 01, 'The walk'): those that looks serve, and the one under which a settled walk stays

@@ -14,7 +14,7 @@ use Rattle.rom.proofs.First.{none-here}
 use Rattle.block.specs.Format.{newestLevel}
 use Rattle.block.specs.Block.{is21041, isExtended, lengthOf, siaSize, sizeOf, causes, refusalOf}
 use Rattle.block.proofs.Seen.{fits}
-use Rattle.reader.proofs.Cuts.{cut-more, cut-none, first-accepted}
+use Rattle.leaf.proofs.Cuts.{cut-more, cut-none, first-accepted}
 use Rattle.sheet.specs.Image.{openingLength, bodyOf, entryOf}
 use Rattle.maker.specs.Code.{AcceptedBlocks, entriesOf}
 

@@ -7,7 +7,7 @@ use mathlib.Core.Path.{_≡_, refl, sym, ap, _∙_}
 use mathlib.Core.List.{List, [], _∷_, _++_}
 use lib.ListN.{length, take, drop, length-append}
 use Rattle.block.specs.Block.{sizeOf}
-use Rattle.reader.proofs.Cuts.{rest-part}
+use Rattle.leaf.proofs.Cuts.{rest-part}
 use Rattle.sheet.specs.Lists.{wordBytes, put}
 use Rattle.sheet.specs.Record.{Entry}
 use Rattle.sheet.specs.Sheet.{kindBytes, sizeBytes, bodyBytes}

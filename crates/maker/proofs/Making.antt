@@ -14,7 +14,7 @@ use Rattle.rom.specs.Refusal.{_⇒_, firstMet}
 use Rattle.rom.proofs.First.{after-accepted, after-refused}
 use Rattle.rom.proofs.Reached.{reached, end, stop, skip}
 use Rattle.reader.specs.declared.Reading.{Reading}
-use Rattle.reader.specs.Image.{controllerCount, leafAt, restFrom}
+use Rattle.header.specs.Image.{controllerCount, leafAt, restFrom}
 use Rattle.reader.specs.Reading.{judgeCauses, acceptedAnswer, acceptedReading, judgedReading}
 use Rattle.reader.proofs.Readings.{Accepted, restOf, accepted-judged, reading-number, reading-start, reading-blocks}
 use Rattle.reader.proofs.Promised.{judge-numbered}

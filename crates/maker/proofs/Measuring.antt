@@ -6,8 +6,8 @@ use mathlib.Core.Path.{_≡_, ap, _∙_}
 use mathlib.Core.List.{List}
 use lib.ListN.{length, take, drop, length-append, length-drop}
 use Rattle.block.specs.Block.{sizeOf}
-use Rattle.reader.specs.Leaf.{cut}
-use Rattle.reader.proofs.Cuts.{cut-more, cut-none, rest-part}
+use Rattle.leaf.specs.Leaf.{cut}
+use Rattle.leaf.proofs.Cuts.{cut-more, cut-none, rest-part}
 use Rattle.sheet.specs.Record.{Entry}
 use Rattle.sheet.specs.Sheet.{bodyBytes}
 use Rattle.sheet.specs.Image.{openingLength, bodyOf, sizes}

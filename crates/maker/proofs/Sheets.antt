@@ -9,9 +9,10 @@ use Rattle.rom.specs.Geometry.{imageLength, leavesEnd, addressAt}
 use Rattle.rom.specs.Bytes.{byteAt}
 use Rattle.reader.specs.declared.Answer.{Answer}
 use Rattle.reader.specs.declared.Reading.{Reading}
-use Rattle.reader.specs.Image.{restFrom}
+use Rattle.header.specs.Image.{restFrom}
 use Rattle.reader.specs.Reading.{acceptedAnswer, acceptedReading}
-use Rattle.reader.proofs.Readings.{Accepted, restOf, whole-image}
+use Rattle.reader.proofs.Readings.{Accepted, restOf}
+use Rattle.header.proofs.Headers.{whole-image}
 use Rattle.sheet.specs.Lists.{wordBytes, put}
 use Rattle.sheet.specs.Layout.{chipAt, headLength}
 use Rattle.sheet.specs.Record.{Entry}

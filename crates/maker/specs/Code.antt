@@ -10,8 +10,8 @@ use Rattle.rom.specs.Refusal.{firstMet}
 use Rattle.block.specs.Format.{newestLevel}
 use Rattle.reader.specs.declared.Answer.{Answer}
 use Rattle.reader.specs.declared.Reading.{Reading}
-use Rattle.reader.specs.Image.{controllerCount, leafAt}
-use Rattle.reader.specs.Leaf.{cut, blockCauses}
+use Rattle.header.specs.Image.{controllerCount, leafAt}
+use Rattle.leaf.specs.Leaf.{cut, blockCauses}
 use Rattle.reader.specs.Reading.{judgedReading}
 use Rattle.sheet.specs.Lists.{wordBytes, allZero, put}
 use Rattle.sheet.specs.Record.{Entry}

@@ -9,8 +9,8 @@ use lib.Dec.{eqb}
 use borrow.Author.Tests.{eqb-true, ne-eqb}
 use Rattle.rom.specs.Bytes.{pick}
 use Rattle.rom.specs.Refusal.{firstMet}
-use Rattle.reader.specs.declared.Arguments.{Arguments}
-use Rattle.reader.specs.Leaf.{one}
+use Rattle.header.specs.declared.Arguments.{Arguments}
+use Rattle.leaf.specs.Leaf.{one}
 use Rattle.autosense.specs.declared.Walk.{Walk}
 use Rattle.autosense.specs.Walk.{freshWalk, loadedWalk, chosen, switched, stepped, lookCauses, loadCauses, walkedTo, loadFor, lookFor, clearFor}
 use Rattle.older.specs.Claims.{Reached, fresh, load, look, clear, CountsExactly}

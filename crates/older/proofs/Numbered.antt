@@ -11,7 +11,7 @@ use borrow.Author.Tests.{eqb-true}
 use Rattle.rom.specs.Bytes.{pick}
 use Rattle.block.specs.Block.{kindOf, isKnown, factsOf, reset}
 use Rattle.block.proofs.Levels.{known-up}
-use Rattle.reader.specs.Leaf.{isListed, isDefault, one, firstFrom}
+use Rattle.leaf.specs.Leaf.{isListed, isDefault, one, firstFrom}
 use Rattle.older.specs.Levels.{isRemoved}
 use Rattle.autosense.specs.Walk.{blockIs, flags, flagAt, isInvalid}
 

@@ -11,7 +11,7 @@ use borrow.Author.Tests.{eqb-true}
 use Rattle.rom.specs.Bytes.{pick}
 use Rattle.block.specs.Block.{kindOf, isKnown, factsOf}
 use Rattle.block.proofs.Levels.{known-up}
-use Rattle.reader.specs.Leaf.{isListed, isReset, isSkipped, isDefault, one, countOf, firstFrom}
+use Rattle.leaf.specs.Leaf.{isListed, isReset, isSkipped, isDefault, one, countOf, firstFrom}
 use Rattle.older.specs.Levels.{OlderCounts, OlderDefault}
 
 count-sum : (p q r : List ℕ → Bool) → ((s : List ℕ) → one (p s) + one (q s) ≡ one (r s)) → (bs : List (List ℕ)) → countOf p bs + countOf q bs ≡ countOf r bs

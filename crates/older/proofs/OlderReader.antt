@@ -8,11 +8,12 @@ use lib.ListN.{length}
 use Rattle.rom.specs.Bytes.{pick}
 use Rattle.rom.specs.Refusal.{firstMet}
 use Rattle.block.specs.Format.{newestLevel}
-use Rattle.reader.specs.declared.Arguments.{Arguments}
+use Rattle.header.specs.declared.Arguments.{Arguments}
 use Rattle.reader.specs.declared.Answer.{Answer}
-use Rattle.reader.specs.Image.{restFrom}
-use Rattle.reader.specs.Reading.{rowFor, startFor, countFor, blocksFor, judgeCauses, acceptedAnswer, answerFor, judgeAnswer}
-use Rattle.reader.proofs.Cuts.{cut-length}
+use Rattle.header.specs.Image.{restFrom}
+use Rattle.header.specs.Header.{rowFor, startFor, countFor}
+use Rattle.reader.specs.Reading.{blocksFor, judgeCauses, acceptedAnswer, answerFor, judgeAnswer}
+use Rattle.leaf.proofs.Cuts.{cut-length}
 use Rattle.autosense.specs.Walk.{freshWalk, loadedWalk, rowsOf, loadCauses, walkedTo, loadFor}
 use Rattle.older.specs.OlderReader.{removedBlock, atLevel, WalksAgree, OlderReader}
 use Rattle.autosense.proofs.Loads.{few-blocks}

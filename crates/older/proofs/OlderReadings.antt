@@ -13,17 +13,18 @@ use Rattle.rom.proofs.First.{after-accepted, both-accepted}
 use Rattle.rom.proofs.Fewer.{Fewer, end, and, fewer, fewer-append}
 use Rattle.block.specs.Format.{newestLevel}
 use Rattle.block.specs.Block.{isKnown}
-use Rattle.reader.specs.declared.Arguments.{Arguments}
-use Rattle.reader.specs.Image.{restFrom, imageCauses, argumentCauses, leafHeaderCauses}
-use Rattle.reader.specs.Leaf.{Place, keep, countOf, isListed}
-use Rattle.reader.specs.Table.{tableOf, written, kindAt, startAt}
+use Rattle.header.specs.declared.Arguments.{Arguments}
+use Rattle.header.specs.Image.{restFrom, imageCauses, argumentCauses, leafHeaderCauses}
+use Rattle.leaf.specs.Leaf.{Place, keep, countOf, isListed, tableOf, kindAt, startAt}
+use Rattle.reader.specs.Table.{written}
 use Rattle.older.specs.Levels.{stays}
-use Rattle.reader.specs.Reading.{rowFor, leafFor, startFor, countFor, blocksFor, tableFor, headerCauses, leafCausesFor, judgeCauses, readCauses, acceptedAnswer, answerFor, readAnswer, readInto, readKinds, readOffsets}
-use Rattle.reader.proofs.Headers.{header-numbered}
-use Rattle.reader.proofs.Tables.{listed-length}
+use Rattle.header.specs.Header.{rowFor, leafFor, startFor, countFor, headerCauses}
+use Rattle.reader.specs.Reading.{blocksFor, tableFor, leafCausesFor, judgeCauses, readCauses, acceptedAnswer, answerFor, readAnswer, readInto, readKinds, readOffsets}
+use Rattle.header.proofs.Headers.{header-numbered}
+use Rattle.leaf.proofs.Tables.{listed-length}
 use Rattle.older.proofs.Older.{older-accepts, older-table}
 use Rattle.older.proofs.OlderAnswer.{older-counts, older-default}
-use Rattle.reader.proofs.Counts.{accepted-defaults}
+use Rattle.leaf.proofs.Counts.{accepted-defaults}
 use Rattle.older.specs.Written.{Arrays, Room, Entry, entries, answerOf, tableIn, those}
 use Rattle.older.specs.OlderReader.{removed, kept, removedBlock, atLevel, ReadsAgree}
 use Rattle.older.proofs.Numbered.{default-kept}

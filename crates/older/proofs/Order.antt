@@ -8,11 +8,11 @@ use mathlib.Core.Bool.{Bool, true, false, _&&_, not}
 use lib.ListN.{length, getD, replicate, length-append, length-map, length-replicate}
 use Rattle.rom.specs.Bytes.{pick}
 use Rattle.block.specs.Block.{sizeOf}
-use Rattle.reader.specs.Image.{restFrom}
-use Rattle.reader.specs.Leaf.{Place, placed, keep, table, isListed, one}
-use Rattle.reader.specs.Table.{tableOf}
-use Rattle.reader.specs.Reading.{rowFor, startFor, countFor, blocksFor, acceptedAnswer}
-use Rattle.reader.proofs.Cuts.{cut-length}
+use Rattle.header.specs.Image.{restFrom}
+use Rattle.leaf.specs.Leaf.{Place, placed, keep, table, isListed, one, tableOf}
+use Rattle.header.specs.Header.{rowFor, startFor, countFor}
+use Rattle.reader.specs.Reading.{blocksFor, acceptedAnswer}
+use Rattle.leaf.proofs.Cuts.{cut-length}
 use Rattle.autosense.specs.Walk.{none, rowLength, flags, blockIs, isInvalid, isUp, rowsOf, loadedWalk, lastBelow, isCandidate, firstUp}
 use Rattle.older.specs.Claims.{FlagForEach, RowsSay, numbersFrom, entryNumbers, firstOf, TableNumbers, FirstInOrder}
 use Rattle.autosense.proofs.Loads.{few-blocks}

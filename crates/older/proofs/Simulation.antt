@@ -8,7 +8,7 @@ use lib.Dec.{eqb}
 use borrow.Author.Tests.{eqb-true}
 use Rattle.rom.specs.Bytes.{pick}
 use Rattle.rom.specs.Refusal.{firstMet}
-use Rattle.reader.specs.declared.Arguments.{Arguments}
+use Rattle.header.specs.declared.Arguments.{Arguments}
 use Rattle.autosense.specs.declared.Walk.{Walk}
 use Rattle.autosense.specs.Walk.{flagAt, isUp, freshWalk, lastBelow, stays, isCandidate, firstUp, upIn, choice, chosen, switched, stepped, lookCauses, loadCauses, walkedTo, loadFor, lookFor, clearFor}
 use Rattle.older.specs.Calls.{Call, load, look, clear, call, seen, after, run, DownAt, Down}

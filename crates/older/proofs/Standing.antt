@@ -9,9 +9,10 @@ use lib.Dec.{eqb}
 use lib.ListN.{getD}
 use Rattle.rom.specs.Bytes.{pick}
 use Rattle.rom.specs.Refusal.{firstMet}
-use Rattle.reader.specs.declared.Arguments.{Arguments}
-use Rattle.reader.specs.Leaf.{isListed, isDefault, firstFrom}
-use Rattle.reader.specs.Reading.{rowFor, blocksFor, acceptedAnswer}
+use Rattle.header.specs.declared.Arguments.{Arguments}
+use Rattle.leaf.specs.Leaf.{isListed, isDefault, firstFrom}
+use Rattle.header.specs.Header.{rowFor}
+use Rattle.reader.specs.Reading.{blocksFor, acceptedAnswer}
 use Rattle.autosense.specs.declared.Walk.{Walk}
 use Rattle.autosense.specs.Walk.{none, flags, flagAt, isUp, rowsOf, freshWalk, loadedWalk, lastBelow, stays, isCandidate, firstUp, upIn, choice, chosen, stepped, lookCauses, loadCauses, walkedTo, loadFor, lookFor, clearFor}
 use Rattle.older.specs.Claims.{Reached, fresh, load, look, clear, StandsOnEntry}

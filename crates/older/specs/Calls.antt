@@ -5,7 +5,7 @@ use mathlib.Core.List.{List, [], _∷_}
 use mathlib.Core.Bool.{Bool, true, false}
 use Rattle.rom.specs.Bytes.{pick}
 use Rattle.rom.specs.Refusal.{firstMet}
-use Rattle.reader.specs.declared.Arguments.{Arguments}
+use Rattle.header.specs.declared.Arguments.{Arguments}
 use Rattle.autosense.specs.declared.Walk.{Walk}
 use Rattle.autosense.specs.declared.Walked.{Walked}
 use Rattle.autosense.specs.Walk.{isUp, lookCauses, loadFor, lookFor, clearFor}

@@ -8,9 +8,10 @@ use lib.Dec.{eqb}
 use lib.ListN.{length, getD}
 use Rattle.rom.specs.Bytes.{pick}
 use Rattle.rom.specs.Refusal.{firstMet, Exact}
-use Rattle.reader.specs.declared.Arguments.{Arguments}
-use Rattle.reader.specs.Leaf.{Place, placed, isListed, one}
-use Rattle.reader.specs.Reading.{rowFor, startFor, blocksFor, tableFor, judgeCauses}
+use Rattle.header.specs.declared.Arguments.{Arguments}
+use Rattle.leaf.specs.Leaf.{Place, placed, isListed, one}
+use Rattle.header.specs.Header.{rowFor, startFor}
+use Rattle.reader.specs.Reading.{blocksFor, tableFor, judgeCauses}
 use Rattle.autosense.specs.declared.Walk.{Walk}
 use Rattle.autosense.specs.Walk.{none, rowLength, blockIs, flagAt, isInvalid, isUp, freshWalk, loadedWalk, firstUp, lookCauses, loadCauses, loadFor, lookFor, clearFor}
 

@@ -8,7 +8,7 @@ use lib.ListN.{getD}
 use Rattle.rom.specs.Bytes.{pick}
 use Rattle.rom.specs.Refusal.{firstMet}
 use Rattle.block.specs.Block.{kindOf, isKnown}
-use Rattle.reader.specs.Leaf.{Place, keep, table, isListed, isReset, isSkipped, isDefault, countOf, firstFrom, leafCauses}
+use Rattle.leaf.specs.Leaf.{Place, keep, table, isListed, isReset, isSkipped, isDefault, countOf, firstFrom, leafCauses}
 
 -- what the newest reader accepts an older one accepts
 abbrev pub OlderAccepts : Type 0

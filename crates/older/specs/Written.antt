@@ -4,9 +4,10 @@ use mathlib.Core.List.{List, [], _∷_}
 use mathlib.Core.Bool.{Bool}
 use lib.ListN.{length, take}
 use Rattle.rom.specs.Bytes.{pick}
-use Rattle.reader.specs.declared.Arguments.{Arguments}
+use Rattle.header.specs.declared.Arguments.{Arguments}
 use Rattle.reader.specs.declared.Answer.{Answer}
-use Rattle.reader.specs.Reading.{countFor, readAnswer, readKinds, readOffsets}
+use Rattle.header.specs.Header.{countFor}
+use Rattle.reader.specs.Reading.{readAnswer, readKinds, readOffsets}
 
 pub record Arrays : Type 0 where
   pub kinds : List ℕ

@@ -1,9 +1,5 @@
-pub mod Headers
-pub mod Cuts
-pub mod Tables
-pub mod Counts
+pub mod Entries
 pub mod Filling
 pub mod Finding
-pub mod Worked
 pub mod Readings
 pub mod Promised

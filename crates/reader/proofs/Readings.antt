@@ -4,83 +4,30 @@ use native.Mathlib.Omega.{arith}
 use mathlib.Core.List.{List, _∷_}
 use mathlib.Core.Path.{_≡_, refl, ap, sym, _∙_}
 use mathlib.Core.Bool.{Bool, true, false, _||_}
-use lib.Dec.{eqb, leb, ltb, lit<, eqb·suc-zero}
+use lib.Dec.{eqb, ltb, lit<, eqb·suc-zero}
 use lib.ListN.{length, take, drop, length-take}
-use borrow.Author.Tests.{ne-eqb, lt-ltb, le-ltb, ltb-false, eqb-true, not-false}
-use Rattle.rom.specs.Geometry.{imageLength, leavesEnd}
+use borrow.Author.Tests.{ne-eqb, lt-ltb, le-ltb, ltb-false}
+use Rattle.rom.specs.Geometry.{leavesEnd}
 use Rattle.rom.specs.Bytes.{pick}
 use Rattle.rom.specs.Refusal.{Cause, _⇒_, firstMet}
 use Rattle.rom.proofs.First.{none-here, after-accepted, after-refused, both-accepted}
-use Rattle.reader.specs.declared.Arguments.{Arguments}
+use Rattle.header.specs.declared.Arguments.{Arguments}
 use Rattle.reader.specs.declared.Answer.{Answer}
 use Rattle.reader.specs.declared.Part.{Part}
 use Rattle.reader.specs.declared.Reading.{Reading}
-use Rattle.reader.specs.declared.header.Header.{Header}
-use Rattle.reader.specs.declared.leaf.Tally.{Tally}
-use Rattle.reader.specs.Image.{restFrom, imageCauses, argumentCauses, leafHeaderCauses}
-use Rattle.reader.specs.Leaf.{Place, cut, blockCauses}
-use Rattle.reader.specs.Table.{tableOf, written, noPart, entryPart}
-use Rattle.reader.specs.Tally.{tallyOf, counts}
-use Rattle.reader.specs.Reading.{rowFor, leafFor, startFor, countFor, blocksFor, tableFor, headerCauses, leafCausesFor, judgeCauses, readCauses, refusedAnswer, acceptedAnswer, answerFor, judgeAnswer, readAnswer, readInto, partFor, viewFor, noHeader, foundHeader, headerFor, answerFrom, refusedReading, acceptedReading, readingWith, readingFor, judgedReading}
-use Rattle.reader.proofs.Headers.{image-numbered, argument-numbered, header-numbered}
-use Rattle.reader.proofs.Cuts.{accepted-blocks}
-use Rattle.reader.proofs.Counts.{tally-number, tally-accepted, sorts-add-up}
-use Rattle.reader.proofs.Tables.{listed-length, entry-inside}
-
--- ## An accepted header
-
-module _ (image : List ℕ) (a : Arguments) where
-  header-number : headerFor image a .number ≡ firstMet (headerCauses image a)
-  unfolding headerFor foundHeader noHeader pick
-  header-number = go (firstMet (headerCauses image a))
-    where
-      go : (n : ℕ) → pick (eqb n 0) (foundHeader image a) (noHeader n) .number ≡ n
-      go zero = refl
-      go (suc n) = rw (eqb·suc-zero n)
-
-  header-accepted : firstMet (headerCauses image a) ≡ 0 → headerFor image a ≡ foundHeader image a
-  unfolding headerFor pick
-  header-accepted e = rw e
-
-  pub whole-image : firstMet (headerCauses image a) ≡ 0 → length image ≡ imageLength
-  unfolding headerCauses imageCauses
-  whole-image e =
-      let i = both-accepted (imageCauses image) _ (image-numbered image) e .0 in
-      eqb-true (length image) imageLength (not-false _ (none-here _ _ (lit< tt) i .0))
-
-  pub start-fits : firstMet (headerCauses image a) ≡ 0 → startFor image a ≤ leavesEnd
-  unfolding headerCauses leafHeaderCauses
-  start-fits e =
-      let g = both-accepted (imageCauses image) _ (image-numbered image) e .1 in
-      let l = both-accepted (argumentCauses image a) _ (argument-numbered image a) g .1 in
-      ltb-false leavesEnd (startFor image a) (second (leb (leafFor image a) _) _ (none-here _ _ (lit< tt) l .0))
-    where
-      second : (p q : Bool) → (p || q) ≡ false → q ≡ false
-      second false q e = e
-      second true q e = let z : _≡_ {A = ℕ} 0 1 = cc in absurd (omega arith)
-
--- The header that the code has read.
-module _ (image : List ℕ) (a : Arguments) (h : Header) (eh : h ≡ headerFor image a) where
-  pub read-number : h .number ≡ firstMet (headerCauses image a)
-  read-number = rw eh (header-number image a)
-
-  module _ (z : h .number ≡ 0) where
-    pub no-refusal : firstMet (headerCauses image a) ≡ 0
-    no-refusal = sym read-number ∙ z
-
-    pub read-found : h ≡ foundHeader image a
-    read-found = eh ∙ header-accepted image a no-refusal
-
-    pub read-count : h .blocks ≡ countFor image a
-    unfolding foundHeader
-    read-count = rw read-found
-
-    pub read-start : h .start ≤ leavesEnd
-    unfolding foundHeader
-    read-start = rw read-found (start-fits image a no-refusal)
-
-    pub read-end : leavesEnd ≤ length image
-    read-end = omega (arith, whole-image image a no-refusal)
+use Rattle.header.specs.declared.Header.{Header}
+use Rattle.leaf.specs.declared.Tally.{Tally}
+use Rattle.header.specs.Image.{restFrom}
+use Rattle.leaf.specs.Leaf.{Place, cut, blockCauses, tableOf}
+use Rattle.reader.specs.Table.{written, noPart, entryPart}
+use Rattle.leaf.specs.Tally.{tallyOf, counts}
+use Rattle.header.specs.Header.{rowFor, startFor, countFor, headerCauses, foundHeader, headerFor}
+use Rattle.reader.specs.Reading.{blocksFor, tableFor, leafCausesFor, judgeCauses, readCauses, refusedAnswer, acceptedAnswer, answerFor, judgeAnswer, readAnswer, readInto, partFor, viewFor, answerFrom, refusedReading, acceptedReading, readingWith, readingFor, judgedReading}
+use Rattle.header.proofs.Headers.{header-numbered, whole-image, start-fits, read-number, no-refusal, read-found, read-count}
+use Rattle.leaf.proofs.Cuts.{accepted-blocks}
+use Rattle.leaf.proofs.Counts.{tally-number, tally-accepted, sorts-add-up}
+use Rattle.leaf.proofs.Tables.{listed-length}
+use Rattle.reader.proofs.Entries.{entry-inside}
 
 -- ## The number of a reading
 

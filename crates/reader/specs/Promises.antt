@@ -5,9 +5,10 @@ use mathlib.Core.List.{List, []}
 use lib.ListN.{length, take, getD}
 use Rattle.rom.specs.Refusal.{Exact, firstMet}
 use Rattle.block.specs.Block.{sizeOf}
-use Rattle.reader.specs.declared.Arguments.{Arguments}
-use Rattle.reader.specs.Leaf.{Place}
-use Rattle.reader.specs.Reading.{rowFor, tableFor, judgeCauses, readCauses, acceptedAnswer, judgeAnswer, readAnswer, viewFor}
+use Rattle.header.specs.declared.Arguments.{Arguments}
+use Rattle.leaf.specs.Leaf.{Place}
+use Rattle.header.specs.Header.{rowFor}
+use Rattle.reader.specs.Reading.{tableFor, judgeCauses, readCauses, acceptedAnswer, judgeAnswer, readAnswer, viewFor}
 
 -- a number other than 0 means that its cause is met and none before it; 0 that none is met
 abbrev pub ExactReading : Type 0

@@ -1,36 +1,24 @@
 -- What is read of a controller's leaf with a chip, a controller and a level (document 01, 'Levels and the table', 'Why a call
 -- is refused').
 use Prim.Native.Nat.{ℕ, _+_}
-use mathlib.Core.List.{List, [], _∷_, _++_}
-use mathlib.Core.Bool.{Bool, _||_}
+use mathlib.Core.List.{List, _∷_, _++_}
+use mathlib.Core.Bool.{_||_}
 use lib.Dec.{eqb, ltb}
 use lib.ListN.{length, take, drop}
 use Rattle.rom.specs.Bytes.{pick, wordAt}
 use Rattle.rom.specs.Refusal.{Cause, _⇒_, firstMet}
-use Rattle.block.specs.Format.{rowOf}
-use Rattle.reader.specs.declared.Arguments.{Arguments}
+use Rattle.header.specs.declared.Arguments.{Arguments}
 use Rattle.reader.specs.declared.Answer.{Answer}
-use Rattle.reader.specs.declared.header.Header.{Header}
+use Rattle.header.specs.declared.Header.{Header}
 use Rattle.reader.specs.declared.Reading.{Reading}
-use Rattle.reader.specs.declared.leaf.Tally.{Tally}
+use Rattle.leaf.specs.declared.Tally.{Tally}
 use Rattle.reader.specs.declared.Part.{Part}
-use Rattle.reader.specs.Image.{addressOf, leafAt, controlByte, blocksAt, blockCount, restFrom, imageCauses, argumentCauses, leafHeaderCauses}
-use Rattle.reader.specs.Leaf.{Place, cut, isListed, isReset, isSkipped, isDefault, countOf, firstFrom, leafCauses}
-use Rattle.reader.specs.Table.{kindAt, startAt, tableOf, written, noPart, entryPart}
+use Rattle.header.specs.Image.{addressOf, controlByte, restFrom}
+use Rattle.header.specs.Header.{rowFor, leafFor, startFor, countFor, headerCauses}
+use Rattle.leaf.specs.Leaf.{Place, cut, isListed, isReset, isSkipped, isDefault, countOf, firstFrom, leafCauses, kindAt, startAt, tableOf}
+use Rattle.reader.specs.Table.{written, noPart, entryPart}
 
 -- ## The leaf that the arguments name
-
-abbrev pub rowFor : Arguments → ℕ
-rowFor a = rowOf (a .chip)
-
-abbrev pub leafFor : List ℕ → Arguments → ℕ
-leafFor image a = leafAt image (a .controller)
-
-abbrev pub startFor : List ℕ → Arguments → ℕ
-startFor image a = blocksAt (rowFor a) (leafFor image a)
-
-abbrev pub countFor : List ℕ → Arguments → ℕ
-countFor image a = blockCount image (rowFor a) (leafFor image a)
 
 -- its blocks
 abbrev pub blocksFor : List ℕ → Arguments → List (List ℕ)
@@ -41,10 +29,6 @@ abbrev pub tableFor : List ℕ → Arguments → List Place
 tableFor image a = tableOf (rowFor a) (a .level) (countFor image a) (startFor image a) (restFrom image (startFor image a))
 
 -- ## Why a reading is refused
-
--- 1 to 11
-unfoldable pub headerCauses : List ℕ → Arguments → List Cause
-headerCauses image a = imageCauses image ++ (argumentCauses image a ++ leafHeaderCauses image (rowFor a) (leafFor image a))
 
 -- 13 to 18, the blocks one after another
 unfoldable pub leafCausesFor : List ℕ → Arguments → List Cause
@@ -110,25 +94,6 @@ bytesOf image p = take (p .length) (drop (p .start) image)
 
 unfoldable pub viewFor : List ℕ → Arguments → ℕ → List ℕ
 viewFor image a entry = bytesOf image (partFor image a entry)
-
--- ## What the code keeps of a header
-
-unfoldable pub noHeader : ℕ → Header
-noHeader n = record { number = n; row = 0; start = 0; connection = 0; control = 0; address = 0; blocks = 0 }
-
-unfoldable pub foundHeader : List ℕ → Arguments → Header
-foundHeader image a = record {
-  number = 0;
-  row = rowFor a;
-  start = startFor image a;
-  connection = wordAt image (leafFor image a);
-  control = controlByte image (rowFor a) (leafFor image a);
-  address = addressOf image (a .controller);
-  blocks = countFor image a;
-}
-
-unfoldable pub headerFor : List ℕ → Arguments → Header
-headerFor image a = pick (eqb (firstMet (headerCauses image a)) 0) (foundHeader image a) (noHeader (firstMet (headerCauses image a)))
 
 -- ## What the code keeps of a reading: the chip's row and where the blocks start, beside the answer
 

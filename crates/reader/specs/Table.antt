@@ -4,19 +4,9 @@ use mathlib.Core.List.{List, _++_, map}
 use lib.ListN.{length, drop, set, getD}
 use Rattle.block.specs.declared.Block.{Block}
 use Rattle.block.specs.declared.Block.the-variants.{Listed, Reset, Unknown, Refused}
-use Rattle.block.specs.Block.{sizeOf, kindOf}
+use Rattle.block.specs.Block.{sizeOf}
 use Rattle.reader.specs.declared.Part.{Part}
-use Rattle.reader.specs.Leaf.{Place, cut, placed, table}
-
--- the table of so many blocks, of which the first stands at byte `at` of the image
-unfoldable pub tableOf : ℕ → ℕ → ℕ → ℕ → List ℕ → List Place
-tableOf row level count at s = table row level (placed row at (cut row count s))
-
-abbrev pub kindAt : ℕ → Place → ℕ
-kindAt row b = kindOf row (b .rest)
-
-abbrev pub startAt : Place → ℕ
-startAt b = b .start
+use Rattle.leaf.specs.Leaf.{Place, table}
 
 -- an array with the table's numbers at its front, and its other elements unchanged
 unfoldable pub written : (Place → ℕ) → List Place → List ℕ → List ℕ

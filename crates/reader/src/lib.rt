@@ -1,22 +1,13 @@
 // Reading an image: its media table, and the block of an entry (document 01, 'Levels and the table').
-mod header;
-mod leaf;
+mod table;
 
-pub use header::Header;
-pub use header::read_header;
+pub use header::Arguments;
+use header::Header;
 use leaf::Tally;
 use rom::refusal;
 ghost use mathlib.Core.Path.{_≡_};
 ghost use lib.ListN.{length};
 ghost use Rattle.reader.specs.Reading.{refusedAnswer, judgeAnswer, readAnswer, readKinds, readOffsets, partFor, viewFor, answerFrom, refusedReading, readingFor, judgedReading};
-
-// What a reading is told beside the image: the chip by its decimal number, the controller from 0, and the reader's level.
-#[repr(C)]
-pub struct Arguments {
-    pub chip: u16,
-    pub controller: u8,
-    pub level: u8,
-}
 
 // What is read, or a refusal's number and zeros. The default's number is 255 where there is none.
 #[repr(C)]
@@ -150,7 +141,7 @@ pub fn read(image: &[u8], arguments: Arguments, kinds: &mut [u16], offsets: &mut
     }
     let row = reading.row;
     let start = reading.start;
-    leaf::fill(
+    table::fill(
         &image[start..rom::LEAVES_END],
         start,
         answer.blocks,
@@ -178,7 +169,7 @@ pub fn view_part(image: &[u8], arguments: Arguments, entry: usize) -> Part
     }
     let row = reading.row;
     let start = reading.start;
-    leaf::find(
+    table::find(
         &image[start..rom::LEAVES_END],
         start,
         answer.blocks,

@@ -14,8 +14,8 @@ use Rattle.rom.proofs.First.{none-here}
 use Rattle.block.specs.Format.{row21041, kindCompact, kind21041}
 use Rattle.block.specs.Block.{isExtended, lengthOf, siaSize, sizeOf, kindOf, causes, refusalOf}
 use Rattle.block.proofs.Whole.{Form, extended-form, compact-form, form-21041, size-positive}
-use Rattle.reader.specs.Leaf.{cut, blockCauses}
-use Rattle.reader.proofs.Cuts.{first-accepted}
+use Rattle.leaf.specs.Leaf.{cut, blockCauses}
+use Rattle.leaf.proofs.Cuts.{first-accepted}
 use Rattle.sheet.specs.Lists.{Bytes}
 use Rattle.sheet.specs.Record.{Entry}
 use Rattle.sheet.specs.Sheet.{bodyBytes}

@@ -14,9 +14,10 @@ use Rattle.rom.specs.Refusal.{firstMet, Numbered}
 use Rattle.rom.proofs.First.{exact, numbered-append, none-here, after-accepted, both-accepted}
 use Rattle.rom.proofs.Reached.{end, skip, reached}
 use Rattle.block.specs.Format.{chips}
-use Rattle.reader.specs.Reading.{headerCauses, leafCausesFor, judgeCauses}
-use Rattle.reader.proofs.Headers.{header-numbered}
-use Rattle.reader.proofs.Cuts.{leaf-numbered}
+use Rattle.header.specs.Header.{headerCauses}
+use Rattle.reader.specs.Reading.{leafCausesFor, judgeCauses}
+use Rattle.header.proofs.Headers.{header-numbered}
+use Rattle.leaf.proofs.Cuts.{leaf-numbered}
 use Rattle.sheet.specs.Lists.{Bytes, over}
 use Rattle.sheet.specs.Record.{Plain}
 use Rattle.sheet.specs.Sheet.{sheetOf, chipIn, sheetFrom, isSheet}

@@ -9,9 +9,10 @@ use Rattle.rom.specs.Bytes.{pick, byteAt, wordAt}
 use Rattle.crc.specs.Crc.{sromCrc, idCrc}
 use Rattle.block.specs.Format.{rowOf, row21140, kindCompact, kind21041, newestLevel}
 use Rattle.block.specs.Block.{isExtended, sizeOf, kindOf}
-use Rattle.reader.specs.declared.Arguments.{Arguments}
-use Rattle.reader.specs.Image.{controllerCount, leafAt, controlByte}
-use Rattle.reader.specs.Reading.{leafFor, startFor, blocksFor}
+use Rattle.header.specs.declared.Arguments.{Arguments}
+use Rattle.header.specs.Image.{controllerCount, leafAt, controlByte}
+use Rattle.header.specs.Header.{leafFor, startFor}
+use Rattle.reader.specs.Reading.{blocksFor}
 use Rattle.sheet.specs.Lists.{wordBytes, allZero, padded}
 use Rattle.sheet.specs.Record.{Entry, Plain}
 

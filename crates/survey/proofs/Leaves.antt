@@ -8,12 +8,12 @@ use borrow.Author.Tests.{ne-eqb, lt-ltb, le-ltb}
 use Rattle.rom.specs.Geometry.{leavesEnd}
 use Rattle.rom.specs.Bytes.{pick}
 use Rattle.rom.specs.Refusal.{firstMet}
-use Rattle.reader.specs.declared.Arguments.{Arguments}
-use Rattle.reader.specs.declared.header.Header.{Header}
-use Rattle.reader.specs.Image.{restFrom}
-use Rattle.reader.specs.Leaf.{cut, firstFrom}
-use Rattle.reader.specs.Reading.{startFor, countFor, headerCauses, foundHeader, headerFor}
-use Rattle.reader.proofs.Readings.{read-number, no-refusal, read-found, read-count}
+use Rattle.header.specs.declared.Arguments.{Arguments}
+use Rattle.header.specs.declared.Header.{Header}
+use Rattle.header.specs.Image.{restFrom}
+use Rattle.leaf.specs.Leaf.{cut, firstFrom}
+use Rattle.header.specs.Header.{startFor, countFor, headerCauses, foundHeader, headerFor}
+use Rattle.header.proofs.Headers.{read-number, no-refusal, read-found, read-count}
 use Rattle.survey.specs.Survey.{hasLeaf, noPlace, placeFrom, placeFor, isRefused, refusedFor}
 use Rattle.survey.proofs.Stepping.{stands-behind}
 

@@ -13,8 +13,8 @@ use Rattle.block.specs.declared.Block.{Block}
 use Rattle.block.specs.Block.{is21041, isExtended, lengthOf, siaSize, sizeOf, kindOf, refusalOf}
 use Rattle.block.specs.Answer.{blockOf, numberOf, sizeIn}
 use Rattle.block.proofs.Seen.{Seen, seen, seen-number, seen-size}
-use Rattle.reader.specs.Leaf.{cut, firstFrom, placed, Place as Standing}
-use Rattle.reader.proofs.Cuts.{cut-more, cut-none, rest-part}
+use Rattle.leaf.specs.Leaf.{cut, firstFrom, placed, Place as Standing}
+use Rattle.leaf.proofs.Cuts.{cut-more, cut-none, rest-part}
 use Rattle.survey.specs.declared.Place.{Place}
 use Rattle.survey.specs.Survey.{placeOf, placeFrom, isRefused}
 

@@ -4,9 +4,10 @@ use mathlib.Core.Path.{_≡_}
 use mathlib.Core.List.{List}
 use Rattle.rom.specs.Refusal.{firstMet}
 use Rattle.block.specs.Block.{refusalOf}
-use Rattle.reader.specs.declared.Arguments.{Arguments}
-use Rattle.reader.specs.Leaf.{blockCauses}
-use Rattle.reader.specs.Reading.{rowFor, blocksFor, headerCauses, judgeAnswer}
+use Rattle.header.specs.declared.Arguments.{Arguments}
+use Rattle.leaf.specs.Leaf.{blockCauses}
+use Rattle.header.specs.Header.{rowFor, headerCauses}
+use Rattle.reader.specs.Reading.{blocksFor, judgeAnswer}
 use Rattle.survey.specs.Survey.{refusedFor, standingFor}
 
 -- where nothing before the blocks is refused and a block is, the reading's number is why the named block is refused

@@ -8,9 +8,10 @@ use lib.ListN.{drop, getD}
 use Rattle.rom.specs.Bytes.{pick}
 use Rattle.rom.specs.Refusal.{firstMet}
 use Rattle.block.specs.Block.{sizeOf, kindOf, refusalOf}
-use Rattle.reader.specs.declared.Arguments.{Arguments}
-use Rattle.reader.specs.Leaf.{firstFrom, placed, Place as Standing}
-use Rattle.reader.specs.Reading.{rowFor, startFor, countFor, blocksFor, headerCauses}
+use Rattle.header.specs.declared.Arguments.{Arguments}
+use Rattle.leaf.specs.Leaf.{firstFrom, placed, Place as Standing}
+use Rattle.header.specs.Header.{rowFor, startFor, countFor, headerCauses}
+use Rattle.reader.specs.Reading.{blocksFor}
 use Rattle.survey.specs.declared.Place.{Place}
 
 -- whether nothing before the blocks refuses the reading (1 to 11)

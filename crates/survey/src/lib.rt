@@ -6,7 +6,7 @@ use rom::refusal;
 ghost use mathlib.Core.Path.{_≡_};
 ghost use Prim.Native.Nat.{_≤_};
 ghost use lib.ListN.{drop};
-ghost use Rattle.reader.specs.Leaf.{cut, firstFrom};
+ghost use Rattle.leaf.specs.Leaf.{cut, firstFrom};
 ghost use Rattle.survey.specs.Survey.{noPlace, placeFrom, placeFor, isRefused, refusedFor};
 
 // No block: the number of the refused one where none is.
@@ -66,7 +66,7 @@ fn find(blocks: &[u8], start: usize, row: usize, number: u8) -> Place
 pub fn block_place(image: &[u8], arguments: Arguments, number: u8) -> Place
     ensures { λ r. ⌜ r ≡ placeFor (now (image .entry)) arguments number ⌝ }
 {
-    let h = reader::read_header(image, arguments);
+    let h = header::read_header(image, arguments);
     if h.number != refusal::ACCEPTED {
         return nowhere();
     }
@@ -100,7 +100,7 @@ fn first_refused(blocks: &[u8], count: u8, row: usize, level: u8) -> u8
 pub fn refused_block(image: &[u8], arguments: Arguments) -> u8
     ensures { λ r. ⌜ r ≡ refusedFor (now (image .entry)) arguments ⌝ }
 {
-    let h = reader::read_header(image, arguments);
+    let h = header::read_header(image, arguments);
     if h.number != refusal::ACCEPTED {
         return NONE;
     }

@@ -10,10 +10,11 @@ use Rattle.rom.specs.Refusal.{firstMet}
 use Rattle.crc.specs.Crc.{sromCrc, idCrc}
 use Rattle.block.specs.Format.{newestLevel, chips, placeOf, rowOf, connections21140, connections21142, connectionRows, isConnection, permittedRows, isPermitted, siaCodes, portCodes, symCodes, neverDefault}
 use Rattle.block.specs.Block.{isExtended, lengthOf, sizeOf, kindOf, isKnown, lengthFor, isWrong, badSiaCode, badPlainCode, countsAsDefault, sia, symbol, factsOf, causes}
-use Rattle.reader.specs.declared.Arguments.{Arguments}
-use Rattle.reader.specs.Image.{versions, controllerCount, reservedAt, baseAddress, addressOf, leafAt, headerLength, controlByte, blocksAt, blockCount, restFrom, badCount, imageCauses, argumentCauses, leafHeaderCauses}
-use Rattle.reader.specs.Leaf.{cut, isListed, isReset, isSkipped, isDefault, resetsPhy, countOf, firstFrom, clash, blockCauses, clashCause, leafCauses}
-use Rattle.reader.specs.Reading.{headerCauses, leafCausesFor, judgeCauses, acceptedAnswer, answerFor, judgeAnswer}
+use Rattle.header.specs.declared.Arguments.{Arguments}
+use Rattle.header.specs.Image.{versions, controllerCount, reservedAt, baseAddress, addressOf, leafAt, headerLength, controlByte, blocksAt, blockCount, restFrom, badCount, imageCauses, argumentCauses, leafHeaderCauses}
+use Rattle.leaf.specs.Leaf.{cut, isListed, isReset, isSkipped, isDefault, resetsPhy, countOf, firstFrom, clash, blockCauses, clashCause, leafCauses}
+use Rattle.header.specs.Header.{headerCauses}
+use Rattle.reader.specs.Reading.{leafCausesFor, judgeCauses, acceptedAnswer, answerFor, judgeAnswer}
 use Rattle.autosense.specs.Walk.{none, served, isServed, noFlags, flags, blockIs, flagAt, isInvalid, rowsOf, freshWalk, loadedWalk, lastBelow, anyBelow, stays, isCandidate, firstUp, upIn, chosen, switched, stepped, badReport, lookCauses, loadCauses, walkedTo, loadFor, lookFor}
 use Rattle.older.specs.Calls.{Call, load, look, Seen, fresh, loaded, After, call, seen, after, run}
 use Rattle.older.specs.OlderReader.{removedBlock, atLevel}

@@ -1,12 +1,12 @@
--- Cases a to k of document 01, 'Blocks to prove', as whole images, read and walked. Cases a to j are the reader's.
+-- Cases a to k of document 01, 'Blocks to prove', as whole images, read and walked. Cases a to j are those of crate `leaf`.
 use Prim.Native.Nat.{ℕ, _/_, _%_}
 use mathlib.Core.Path.{_≡_}
 use mathlib.Core.List.{List, [], _∷_, _++_, map}
 use mathlib.Core.Bool.{Bool, true, false}
 use lib.ListN.{take, replicate}
 use Rattle.crc.specs.Crc.{sromCrc, idCrc}
-use Rattle.reader.specs.declared.Arguments.{Arguments}
-use Rattle.reader.specs.Cases as reader
+use Rattle.header.specs.declared.Arguments.{Arguments}
+use Rattle.leaf.specs.Cases as leaves
 use Rattle.autosense.specs.Walk.{none, freshWalk}
 use Rattle.older.specs.Calls.{Call, load, look, loaded, After, run}
 use Rattle.older.specs.Written.{Arrays, answerOf, tableIn}
@@ -29,18 +29,18 @@ imageWith leaf = sealed (unsealed (idCrc (unsealed 0 leaf)) leaf)
 -- ## A case: a chip, a level, a leaf, and what is read of it; and calls, with what is seen after each
 
 pub record Case : Type 0 where
-  pub reading : reader.Case
+  pub reading : leaves.Case
   pub calls : List Call
   pub seen : List After
 
-unfoldable pub argumentsOf : reader.Case → Arguments
+unfoldable pub argumentsOf : leaves.Case → Arguments
 argumentsOf c = record { chip = c .chip; controller = 0; level = c .level }
 
 -- lent arrays, longer than any case needs
 abbrev room : Arrays
 room = record { kinds = replicate 8 0; offsets = replicate 8 0 }
 
-unfoldable pub readWhole : List ℕ → reader.Case → reader.Case
+unfoldable pub readWhole : List ℕ → leaves.Case → leaves.Case
 readWhole image c =
     let a = argumentsOf c in
     let answer = answerOf image a room in
@@ -64,7 +64,7 @@ worked c =
 
 -- ## The cases
 
-abbrev read : reader.Case → Case
+abbrev read : leaves.Case → Case
 read c = record { reading = c; calls = []; seen = [] }
 
 -- b under a connection type with this high byte, walked with reports 000, 101, 100
@@ -92,7 +92,7 @@ then settled selected looks switches = record { number = 0; walk = loaded settle
 unfoldable pub cases : List Case
 cases =
     -- a to j, h and j twice
-    map read (take 12 reader.cases)
+    map read (take 12 leaves.cases)
     -- k, and under 0x8800
     ++ walked 0x08 (then false none 0 0 ∷ then false none 1 0 ∷ then true 2 2 1 ∷ then true 0 3 2 ∷ [])
     ∷ walked 0x88 (then false none 0 0 ∷ then false none 1 0 ∷ then true 2 2 1 ∷ then true 2 3 1 ∷ [])

@@ -5,7 +5,7 @@ use mathlib.Core.List.{List}
 use mathlib.Core.Bool.{false}
 use Rattle.rom.specs.Refusal.{firstMet}
 use Rattle.block.specs.Format.{newestLevel}
-use Rattle.reader.specs.declared.Arguments.{Arguments}
+use Rattle.header.specs.declared.Arguments.{Arguments}
 use Rattle.reader.specs.Reading.{judgeCauses, judgeAnswer}
 use Rattle.autosense.specs.Walk.{freshWalk}
 use Rattle.older.specs.Calls.{Call, Down, run}

@@ -15,7 +15,7 @@ use Rattle.rom.proofs.Reached.{reached, stop, skip}
 use Rattle.block.specs.Format.{chips, rowOf}
 use Rattle.block.proofs.Lists.{in-place}
 use Rattle.reader.specs.declared.Answer.{Answer}
-use Rattle.reader.specs.Image.{headerLength}
+use Rattle.header.specs.Image.{headerLength}
 use Rattle.reader.specs.Reading.{judgeCauses, judgeAnswer}
 use Rattle.reader.proofs.Readings.{answer-number}
 use Rattle.sheet.specs.Record.{Plain}

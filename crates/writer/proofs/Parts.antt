@@ -7,7 +7,7 @@ use native.Mathlib.Numerals.{sub-one, add-one}
 use lib.ListN.{length, take, drop, length-drop, drop-of-length-le}
 use lib.Seq.{length-take-le, drop-cons}
 use Rattle.rom.specs.Bytes.{byteAt, wordAt}
-use Rattle.reader.proofs.Cuts.{rest-part}
+use Rattle.leaf.proofs.Cuts.{rest-part}
 use Rattle.sheet.specs.Lists.{sum}
 use Rattle.sheet.specs.Sheet.{entriesFrom}
 use Rattle.writer.specs.Inside.{entry, Parts}

@@ -11,8 +11,8 @@ use Rattle.rom.specs.Geometry.{leavesEnd}
 use Rattle.rom.specs.Bytes.{pick, byteAt, wordAt}
 use Rattle.rom.proofs.First.{none-here}
 use Rattle.block.specs.Format.{rowOf, row21140}
-use Rattle.reader.specs.Image.{headerLength}
-use Rattle.reader.proofs.Cuts.{rest-part}
+use Rattle.header.specs.Image.{headerLength}
+use Rattle.leaf.proofs.Cuts.{rest-part}
 use Rattle.sheet.specs.Lists.{wordBytes, sum, put}
 use Rattle.sheet.specs.Layout.{headLength}
 use Rattle.sheet.specs.Record.{Entry, Plain}

@@ -1,6 +1,6 @@
 // The writer: a sheet becomes an image (document 01, 'The sheet').
 mod entries;
-mod leaf;
+mod leaf_writer;
 mod store;
 
 use block::chip;
@@ -70,7 +70,7 @@ fn record_refusal(sheet: &[u8]) -> u8
     let count = entries::count_at(sheet, sheet::COUNT_AT);
     let sizes = sheet::HEAD_LENGTH + 2 * count;
     let bodies = sheet::HEAD_LENGTH + 3 * count;
-    let start = sheet::LEAF_START + leaf::header_length(row);
+    let start = sheet::LEAF_START + leaf_writer::header_length(row);
     entries::refusal_of(
         row,
         start,
@@ -140,7 +140,7 @@ fn build(sheet: &[u8]) -> [u8; rom::IMAGE_LENGTH]
     ensures { λ r. ⌜ r ≡ imageOf (sheetFrom (now (sheet .entry))) ⌝ }
 {
     let mut image = identify(frame(sheet));
-    leaf::put_leaf(&mut image[sheet::LEAF_START..rom::LEAVES_END], sheet);
+    leaf_writer::put_leaf(&mut image[sheet::LEAF_START..rom::LEAVES_END], sheet);
     seal(image)
 }
 

@@ -4,8 +4,8 @@ use Prim.Native.Nat.{_-_, _≤_}
 use native.Mathlib.Omega.{arith}
 use native.Mathlib.Nat.{le-refl}
 use mathlib.Core.Path.{refl}
-use Rattle.reader.specs.Leaf.{cut}
-use Rattle.reader.proofs.Cuts.{next-fits}
+use Rattle.leaf.specs.Leaf.{cut}
+use Rattle.leaf.proofs.Cuts.{next-fits}
 use Rattle.autosense.proofs.Flags.{Filled, rows-start, rows-more, rows-done}
 use Rattle.autosense.proofs.rows_of.Statement.{statement}
 use Rattle.autosense.proofs.rows_of.Tie as tie

@@ -1,6 +1,7 @@
 -- The first refusal of the header, of the room or of the leaf, or the answer. Assumes nothing.
 use mathlib.Core.Path.{_∙_}
-use Rattle.reader.proofs.Readings.{read-start, read-end, assess-header, assess-kinds, assess-offsets, assess-leaf, assess-done}
+use Rattle.header.proofs.Headers.{read-start, read-end}
+use Rattle.reader.proofs.Readings.{assess-header, assess-kinds, assess-offsets, assess-leaf, assess-done}
 use borrow.Author.Needs.{needs}
 use Rattle.reader.proofs.assess_for.Statement.{statement}
 use Rattle.reader.proofs.assess_for.Tie as tie

@@ -1,6 +1,6 @@
 -- A rest of fewer bytes has none behind them. Assumes nothing.
 use borrow.Author.Needs.{needs}
-use Rattle.reader.proofs.Cuts.{rest-part}
+use Rattle.leaf.proofs.Cuts.{rest-part}
 use Rattle.survey.proofs.Stepping.{behind-end}
 use Rattle.survey.proofs.behind.Statement.{statement}
 use Rattle.survey.proofs.behind.Tie as tie

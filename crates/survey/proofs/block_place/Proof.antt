@@ -1,7 +1,7 @@
 -- The header is refused, or the leaf that it names has no such block, or the block is found there. Assumes nothing.
 use mathlib.Core.Path.{_∙_}
 use borrow.Author.Needs.{needs}
-use Rattle.reader.proofs.Readings.{read-start, read-end}
+use Rattle.header.proofs.Headers.{read-start, read-end}
 use Rattle.survey.proofs.Leaves.{no-leaf-place, no-block-place, block-stands}
 use Rattle.survey.proofs.block_place.Statement.{statement}
 use Rattle.survey.proofs.block_place.Tie as tie

@@ -3,8 +3,8 @@ use borrow.Author.Needs.{needs}
 use Prim.Native.Nat.{_-_, _≤_}
 use native.Mathlib.Nat.{le-refl, sub-zero}
 use mathlib.Core.Path.{_≡_, refl}
-use Rattle.reader.specs.Leaf.{cut, firstFrom}
-use Rattle.reader.proofs.Cuts.{size-fits}
+use Rattle.leaf.specs.Leaf.{cut, firstFrom}
+use Rattle.leaf.proofs.Cuts.{size-fits}
 use Rattle.survey.specs.Survey.{isRefused}
 use Rattle.survey.proofs.Stepping.{refused-here, refused-later, refused-nowhere}
 use Rattle.survey.proofs.first_refused.Statement.{statement}

@@ -1,7 +1,7 @@
 -- The header is refused, or the leaf that it names has the first refused block. Assumes nothing.
 use mathlib.Core.Path.{_∙_}
 use borrow.Author.Needs.{needs}
-use Rattle.reader.proofs.Readings.{read-start, read-end}
+use Rattle.header.proofs.Headers.{read-start, read-end}
 use Rattle.survey.proofs.Leaves.{no-leaf-refused, leaf-refused}
 use Rattle.survey.proofs.refused_block.Statement.{statement}
 use Rattle.survey.proofs.refused_block.Tie as tie

@@ -1,0 +1,94 @@
+-- The first refusal of the image, of the arguments or of the leaf, or the header. Assumes nothing.
+use Prim.Native.Nat.{ℕ}
+use mathlib.Core.Path.{sym, ap₂, _∙_}
+use Rattle.rom.specs.Refusal.{firstMet}
+use Rattle.header.specs.Image.{leafAt, leafHeaderCauses}
+use Rattle.header.proofs.Headers.{by-image, by-arguments, by-leaf, header-found}
+use native.Mathlib.Omega.{arith}
+use borrow.Author.Needs.{needs}
+use Rattle.header.proofs.read_header.Statement.{statement}
+use Rattle.header.proofs.read_header.Tie as tie
+
+image-refusal-requires : tie.Need-image-refusal-requires
+image-refusal-requires c κs = search needs
+
+refused-requires : tie.Need-refused-requires
+refused-requires c κs = search needs
+
+returns : tie.Need-returns
+returns c = let a = c .before .before .before .before .args in
+    c .refused .ensures ∙ by-image (a .image .now) (a .arguments) _ (c .before .if1 .taken) (c .before .before .image-refusal .ensures)
+
+argument-refusal-requires : tie.Need-argument-refusal-requires
+argument-refusal-requires c κs = search needs
+
+refused-requires-2 : tie.Need-refused-requires-2
+refused-requires-2 c κs = search needs
+
+returns-2 : tie.Need-returns-2
+returns-2 c = let a = c .before .before .before .before .before .before .args in
+    c .refused2 .ensures ∙ by-arguments (a .image .now) (a .arguments) (sym (c .before .before .before .if1 .left) ∙ c .before .before .before .before .image-refusal .ensures) _ (c .before .if2 .taken) (c .before .before .argument-refusal .ensures)
+
+row-of-requires : tie.Need-row-of-requires
+row-of-requires c κs = search needs
+
+cast-controller : tie.Need-cast-controller
+cast-controller c = search needs
+
+mul-t11 : tie.Need-mul-t11
+mul-t11 c = search needs
+
+add-t12 : tie.Need-add-t12
+add-t12 c = search needs
+
+add-t13 : tie.Need-add-t13
+add-t13 c = search needs
+
+word-at-requires : tie.Need-word-at-requires
+word-at-requires c κs = search needs
+
+cast-leaf : tie.Need-cast-leaf
+cast-leaf c = search needs
+
+leaf-refusal-requires : tie.Need-leaf-refusal-requires
+leaf-refusal-requires c κs = search needs
+
+refused-requires-3 : tie.Need-refused-requires-3
+refused-requires-3 c κs = search needs
+
+returns-3 : tie.Need-returns-3
+unfolding leafAt
+returns-3 c = let a = c .before .before .before .before .before .before .before .before .before .before .before .args in
+    c .refused3 .ensures ∙ by-leaf (a .image .now) (a .arguments) (sym (c .before .before .before .before .before .before .before .before .if1 .left) ∙ c .before .before .before .before .before .before .before .before .before .image-refusal .ensures) (sym (c .before .before .before .before .before .before .if2 .left) ∙ c .before .before .before .before .before .before .before .argument-refusal .ensures) _ (c .before .if3 .taken) (c .before .before .leaf-refusal .ensures ∙ ap₂ (λ (r l : ℕ). firstMet (leafHeaderCauses (a .image .now) r l)) (c .before .before .before .before .before .row-of .ensures) (c .before .before .before .word-at .ensures))
+
+header-at-requires : tie.Need-header-at-requires
+unfolding leafAt
+header-at-requires c κs = (c .before .before .before .before .row-of .ensures, c .before .before .word-at .ensures, omega arith)
+
+returns-4 : tie.Need-returns-4
+unfolding leafAt
+returns-4 c = let a = c .before .before .before .before .before .before .before .before .before .before .before .args in
+    c .header-at .ensures ∙ header-found (a .image .now) (a .arguments) (sym (c .before .before .before .before .before .before .before .before .if1 .left) ∙ c .before .before .before .before .before .before .before .before .before .image-refusal .ensures) (sym (c .before .before .before .before .before .before .if2 .left) ∙ c .before .before .before .before .before .before .before .argument-refusal .ensures) (sym (c .before .if3 .left) ∙ (c .before .before .leaf-refusal .ensures ∙ ap₂ (λ (r l : ℕ). firstMet (leafHeaderCauses (a .image .now) r l)) (c .before .before .before .before .before .row-of .ensures) (c .before .before .before .word-at .ensures)))
+
+pub read-header-spec : {M : Type 1} → statement M
+read-header-spec =
+    tie.close
+    (tie.spec
+    image-refusal-requires
+    refused-requires
+    returns
+    argument-refusal-requires
+    refused-requires-2
+    returns-2
+    row-of-requires
+    cast-controller
+    mul-t11
+    add-t12
+    add-t13
+    word-at-requires
+    cast-leaf
+    leaf-refusal-requires
+    refused-requires-3
+    returns-3
+    header-at-requires
+    returns-4)

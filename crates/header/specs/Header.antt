@@ -1,0 +1,49 @@
+-- The header of the leaf that the arguments name, or why there is none (document 01, 'The image', 'Why a call is refused').
+use Prim.Native.Nat.{ℕ}
+use mathlib.Core.List.{List, _++_}
+use lib.Dec.{eqb}
+use Rattle.rom.specs.Bytes.{pick, wordAt}
+use Rattle.rom.specs.Refusal.{Cause, firstMet}
+use Rattle.block.specs.Format.{rowOf}
+use Rattle.header.specs.declared.Arguments.{Arguments}
+use Rattle.header.specs.declared.Header.{Header}
+use Rattle.header.specs.Image.{addressOf, leafAt, controlByte, blocksAt, blockCount, imageCauses, argumentCauses, leafHeaderCauses}
+
+-- ## The leaf that the arguments name
+
+abbrev pub rowFor : Arguments → ℕ
+rowFor a = rowOf (a .chip)
+
+abbrev pub leafFor : List ℕ → Arguments → ℕ
+leafFor image a = leafAt image (a .controller)
+
+abbrev pub startFor : List ℕ → Arguments → ℕ
+startFor image a = blocksAt (rowFor a) (leafFor image a)
+
+abbrev pub countFor : List ℕ → Arguments → ℕ
+countFor image a = blockCount image (rowFor a) (leafFor image a)
+
+-- ## Why a header is refused
+
+-- 1 to 11
+unfoldable pub headerCauses : List ℕ → Arguments → List Cause
+headerCauses image a = imageCauses image ++ (argumentCauses image a ++ leafHeaderCauses image (rowFor a) (leafFor image a))
+
+-- ## What the code keeps of a header
+
+unfoldable pub noHeader : ℕ → Header
+noHeader n = record { number = n; row = 0; start = 0; connection = 0; control = 0; address = 0; blocks = 0 }
+
+unfoldable pub foundHeader : List ℕ → Arguments → Header
+foundHeader image a = record {
+  number = 0;
+  row = rowFor a;
+  start = startFor image a;
+  connection = wordAt image (leafFor image a);
+  control = controlByte image (rowFor a) (leafFor image a);
+  address = addressOf image (a .controller);
+  blocks = countFor image a;
+}
+
+unfoldable pub headerFor : List ℕ → Arguments → Header
+headerFor image a = pick (eqb (firstMet (headerCauses image a)) 0) (foundHeader image a) (noHeader (firstMet (headerCauses image a)))

@@ -1,0 +1,90 @@
+-- The image: its header and a controller's leaf (document 01, 'The image', 'Leaf and blocks').
+use Prim.Native.Nat.{ℕ, _+_, _-_, _*_, _^_}
+use mathlib.Core.List.{List, [], _∷_}
+use mathlib.Core.Bool.{Bool, _||_, not}
+use lib.Dec.{eqb, leb, ltb}
+use lib.ListN.{length, take, drop}
+use Rattle.rom.specs.Geometry.{imageLength, checkedLength, leavesEnd, idCrcAt, versionAt, controllerCountAt, addressAt, controllersAt, mostControllers}
+use Rattle.rom.specs.Bytes.{pick, byteAt, wordAt, isIn}
+use Rattle.rom.specs.Refusal.{Cause, _⇒_}
+use Rattle.crc.specs.Crc.{sromCrc, idCrc}
+use Rattle.block.specs.Format.{chips, row21140, isConnection, newestLevel}
+use Rattle.header.specs.declared.Arguments.{Arguments}
+
+-- ## The header
+
+unfoldable pub versions : List ℕ
+versions = 3 ∷ 4 ∷ []
+
+unfoldable pub controllerCount : List ℕ → ℕ
+controllerCount image = byteAt image controllerCountAt
+
+-- behind the last controller's three bytes
+unfoldable pub reservedAt : List ℕ → ℕ
+reservedAt image = controllersAt + 3 * controllerCount image
+
+-- byte 20 most significant
+unfoldable pub baseAddress : List ℕ → ℕ
+baseAddress image =
+    2 ^ 40 * byteAt image addressAt + 2 ^ 32 * byteAt image (addressAt + 1) + 2 ^ 24 * byteAt image (addressAt + 2)
+    + 2 ^ 16 * byteAt image (addressAt + 3) + 2 ^ 8 * byteAt image (addressAt + 4) + byteAt image (addressAt + 5)
+
+-- controller i has address base + i
+unfoldable pub addressOf : List ℕ → ℕ → ℕ
+addressOf image controller = baseAddress image + controller
+
+-- ## A controller's leaf
+
+-- its offset is the word behind the device number
+unfoldable pub leafAt : List ℕ → ℕ → ℕ
+leafAt image controller = wordAt image (controllersAt + 3 * controller + 1)
+
+-- connection type (word), for the 21140 only a control byte, block count
+unfoldable pub headerLength : ℕ → ℕ
+headerLength row = pick (eqb row row21140) 4 3
+
+unfoldable pub controlByte : List ℕ → ℕ → ℕ → ℕ
+controlByte image row leaf = pick (eqb row row21140) (byteAt image (leaf + 2)) 0
+
+unfoldable pub blocksAt : ℕ → ℕ → ℕ
+blocksAt row leaf = leaf + headerLength row
+
+-- the last byte before the blocks
+unfoldable pub blockCount : List ℕ → ℕ → ℕ → ℕ
+blockCount image row leaf = byteAt image (blocksAt row leaf - 1)
+
+-- the leaf's rest from its first block on
+unfoldable pub restFrom : List ℕ → ℕ → List ℕ
+restFrom image start = take (leavesEnd - start) (drop start image)
+
+-- ## Why an image is refused before its blocks are judged (document 01, 1 to 11)
+
+-- from the image alone
+unfoldable pub badCount : List ℕ → Bool
+badCount image =
+    eqb (controllerCount image) 0 || ltb mostControllers (controllerCount image) || not (eqb (byteAt image (reservedAt image)) 0)
+
+unfoldable pub imageCauses : List ℕ → List Cause
+imageCauses image =
+    (1 ⇒ not (eqb (length image) imageLength))
+    ∷ (2 ⇒ not (isIn (byteAt image versionAt) versions))
+    ∷ (3 ⇒ not (eqb (wordAt image checkedLength) (sromCrc image)))
+    ∷ (4 ⇒ not (eqb (byteAt image idCrcAt) (idCrc image)))
+    ∷ (5 ⇒ badCount image)
+    ∷ []
+
+-- from the arguments
+unfoldable pub argumentCauses : List ℕ → Arguments → List Cause
+argumentCauses image a =
+    (6 ⇒ leb (controllerCount image) (a .controller))
+    ∷ (7 ⇒ not (isIn (a .chip) chips))
+    ∷ (8 ⇒ ltb newestLevel (a .level))
+    ∷ (9 ⇒ leb (2 ^ 48) (addressOf image (a .controller)))
+    ∷ []
+
+-- from the leaf's header: it starts behind the reserved byte and ends before byte 124
+unfoldable pub leafHeaderCauses : List ℕ → ℕ → ℕ → List Cause
+leafHeaderCauses image row leaf =
+    (10 ⇒ leb leaf (reservedAt image) || ltb leavesEnd (blocksAt row leaf))
+    ∷ (11 ⇒ not (isConnection row (wordAt image leaf)))
+    ∷ []

@@ -1,0 +1,251 @@
+// An image's header, and the header of a controller's leaf (document 01, 'The image').
+use block::chip;
+use rom::ByteOffset;
+use rom::refusal;
+ghost use mathlib.Core.Path.{_≡_};
+ghost use mathlib.Core.Bool.{not};
+ghost use Prim.Native.Nat.{_+_, _*_, _^_, _<_, _≤_};
+ghost use lib.Dec.{eqb};
+ghost use lib.ListN.{length};
+ghost use Rattle.rom.specs.Geometry.{imageLength, checkedLength, idCrcAt, versionAt};
+ghost use Rattle.rom.specs.Bytes.{byteAt, wordAt, isIn};
+ghost use Rattle.rom.specs.Refusal.{firstMet};
+ghost use Rattle.crc.specs.Crc.{sromCrc, idCrc};
+ghost use Rattle.header.specs.Image.{versions, controllerCount, reservedAt, baseAddress, headerLength, controlByte, badCount, imageCauses, argumentCauses, leafHeaderCauses};
+ghost use Rattle.header.specs.Header.{rowFor, leafFor, noHeader, foundHeader, headerFor};
+
+// What a reading is told beside the image: the chip by its decimal number, the controller from 0, and the reader's level.
+#[repr(C)]
+pub struct Arguments {
+    pub chip: u16,
+    pub controller: u8,
+    pub level: u8,
+}
+
+const FIRST_VERSION: u8 = 3;
+
+const LAST_VERSION: u8 = 4;
+
+// What the header says of a controller's leaf, or a refusal's number and zeros. The row is the chip's, and start is where
+// the first block stands.
+pub struct Header {
+    pub number: u8,
+    pub row: usize,
+    pub start: usize,
+    pub connection: u16,
+    pub control: u8,
+    pub address: u64,
+    pub blocks: u8,
+}
+
+fn refused(number: u8) -> Header
+    ensures { λ r. ⌜ r ≡ noHeader number ⌝ }
+{
+    Header {
+        number,
+        row: 0,
+        start: 0,
+        connection: 0,
+        control: 0,
+        address: 0,
+        blocks: 0,
+    }
+}
+
+// Whether the version is none that is read.
+fn bad_version(image: &[u8]) -> bool
+    ensures { λ r. ⌜ r ≡ not (isIn (byteAt (now (image .entry)) versionAt) versions) ⌝ }
+{
+    let version = rom::byte_at(image, ByteOffset(rom::VERSION_AT));
+    if version == FIRST_VERSION {
+        return false;
+    }
+    version != LAST_VERSION
+}
+
+// Whether the SROM CRC is not the stored one.
+fn bad_srom_crc(image: &[u8]) -> bool
+    requires { ⌜ length (now image) ≡ imageLength ⌝ }
+    ensures { λ r. ⌜ r ≡ not (eqb (wordAt (now (image .entry)) checkedLength) (sromCrc (now (image .entry)))) ⌝ }
+{
+    let stored = rom::word_at(image, ByteOffset(rom::CHECKED_LENGTH));
+    stored != crc::srom_crc(image).value
+}
+
+// Whether the ID CRC is not the stored one.
+fn bad_id_crc(image: &[u8]) -> bool
+    requires { ⌜ length (now image) ≡ imageLength ⌝ }
+    ensures { λ r. ⌜ r ≡ not (eqb (byteAt (now (image .entry)) idCrcAt) (idCrc (now (image .entry)))) ⌝ }
+{
+    let stored = rom::byte_at(image, ByteOffset(rom::ID_CRC_AT));
+    (stored as u16) != crc::id_crc(image).value
+}
+
+fn controller_count(image: &[u8]) -> u8
+    ensures { λ r. ⌜ r ≡ controllerCount (now (image .entry)) ⌝ }
+{
+    rom::byte_at(image, ByteOffset(rom::CONTROLLER_COUNT_AT))
+}
+
+// Where the reserved byte stands, behind the last controller.
+fn reserved_at(image: &[u8]) -> usize
+    ensures { λ r. ⌜ (r ≡ reservedAt (now (image .entry))) × (r < 1024) ⌝ }
+{
+    rom::CONTROLLERS_AT + 3 * (controller_count(image) as usize)
+}
+
+// Whether the controller count is out of bounds, or the reserved byte is not 0.
+fn bad_count(image: &[u8]) -> bool
+    ensures { λ r. ⌜ r ≡ badCount (now (image .entry)) ⌝ }
+{
+    let count = controller_count(image);
+    if count == 0 {
+        return true;
+    }
+    if rom::MOST_CONTROLLERS < count {
+        return true;
+    }
+    let reserved = rom::byte_at(image, ByteOffset(reserved_at(image)));
+    reserved != 0
+}
+
+// Refusals 1 to 5, from the image alone.
+fn image_refusal(image: &[u8]) -> u8
+    ensures { λ r. ⌜ r ≡ firstMet (imageCauses (now (image .entry))) ⌝ }
+{
+    if image.len() != rom::IMAGE_LENGTH {
+        return refusal::IMAGE_LENGTH;
+    }
+    let version = bad_version(image);
+    if version {
+        return refusal::VERSION;
+    }
+    let srom_crc = bad_srom_crc(image);
+    if srom_crc {
+        return refusal::SROM_CRC;
+    }
+    let id_crc = bad_id_crc(image);
+    if id_crc {
+        return refusal::ID_CRC;
+    }
+    let count = bad_count(image);
+    if count {
+        return refusal::CONTROLLER_COUNT;
+    }
+    refusal::ACCEPTED
+}
+
+// A byte of the address, as the number that it stands for.
+fn address_byte(image: &[u8], k: usize) -> u64
+    requires { ⌜ k < 6 ⌝ }
+    ensures { λ r. ⌜ (r ≡ byteAt (now (image .entry)) (20 + k)) × (r < 256) ⌝ }
+{
+    rom::byte_at(image, ByteOffset(rom::ADDRESS_AT + k)) as u64
+}
+
+// The base address, byte 20 most significant.
+fn base_address(image: &[u8]) -> u64
+    ensures { λ r. ⌜ (r ≡ baseAddress (now (image .entry))) × (r < 2 ^ 48) ⌝ }
+{
+    let high = 0x100_0000_0000 * address_byte(image, 0) + 0x1_0000_0000 * address_byte(image, 1);
+    let middle = 0x100_0000 * address_byte(image, 2) + 0x1_0000 * address_byte(image, 3);
+    let low = 0x100 * address_byte(image, 4) + address_byte(image, 5);
+    high + middle + low
+}
+
+// Refusals 6 to 9, from the arguments.
+fn argument_refusal(image: &[u8], arguments: Arguments) -> u8
+    ensures { λ r. ⌜ r ≡ firstMet (argumentCauses (now (image .entry)) arguments) ⌝ }
+{
+    if controller_count(image) <= arguments.controller {
+        return refusal::CONTROLLER;
+    }
+    if chip::CHIP_COUNT <= chip::row_of(arguments.chip) {
+        return refusal::CHIP;
+    }
+    if block::NEWEST_LEVEL < arguments.level {
+        return refusal::LEVEL;
+    }
+    if 0x1_0000_0000_0000 <= base_address(image) + (arguments.controller as u64) {
+        return refusal::ADDRESS;
+    }
+    refusal::ACCEPTED
+}
+
+// The bytes of a leaf before its blocks: the 21140 has a control byte.
+fn header_length(row: usize) -> usize
+    ensures { λ r. ⌜ (r ≡ headerLength row) × (3 ≤ r) × (r ≤ 4) ⌝ }
+{
+    if row == chip::ROW_21140 {
+        return 4;
+    }
+    3
+}
+
+// The control byte of a leaf, 0 but for the 21140.
+fn control_byte(image: &[u8], row: usize, leaf: usize) -> u8
+    requires { ⌜ leaf < 65536 ⌝ }
+    ensures { λ r. ⌜ r ≡ controlByte (now (image .entry)) row leaf ⌝ }
+{
+    if row == chip::ROW_21140 {
+        return rom::byte_at(image, ByteOffset(leaf + 2));
+    }
+    0
+}
+
+// Refusals 10 and 11, from the header of the leaf.
+fn leaf_refusal(image: &[u8], row: usize, leaf: usize) -> u8
+    requires { ⌜ leaf < 65536 ⌝ }
+    ensures { λ r. ⌜ r ≡ firstMet (leafHeaderCauses (now (image .entry)) row leaf) ⌝ }
+{
+    if leaf <= reserved_at(image) {
+        return refusal::LEAF_HEADER;
+    }
+    if rom::LEAVES_END < leaf + header_length(row) {
+        return refusal::LEAF_HEADER;
+    }
+    let permitted = chip::is_connection(row, rom::word_at(image, ByteOffset(leaf)));
+    if !permitted {
+        return refusal::CONNECTION_TYPE;
+    }
+    refusal::ACCEPTED
+}
+
+// The header of the leaf at an offset, where nothing is refused.
+fn header_at(image: &[u8], arguments: Arguments, row: usize, leaf: usize) -> Header
+    requires { ⌜ (row ≡ rowFor arguments) × (leaf ≡ leafFor (now image) arguments) × (leaf < 65536) ⌝ }
+    ensures { λ r. ⌜ r ≡ foundHeader (now (image .entry)) arguments ⌝ }
+{
+    let start = leaf + header_length(row);
+    Header {
+        number: refusal::ACCEPTED,
+        row,
+        start,
+        connection: rom::word_at(image, ByteOffset(leaf)),
+        control: control_byte(image, row, leaf),
+        address: base_address(image) + (arguments.controller as u64),
+        blocks: rom::byte_at(image, ByteOffset(start - 1)),
+    }
+}
+
+// The header, or the first of refusals 1 to 11.
+pub fn read_header(image: &[u8], arguments: Arguments) -> Header
+    ensures { λ r. ⌜ r ≡ headerFor (now (image .entry)) arguments ⌝ }
+{
+    let number = image_refusal(image);
+    if number != refusal::ACCEPTED {
+        return refused(number);
+    }
+    let number = argument_refusal(image, arguments);
+    if number != refusal::ACCEPTED {
+        return refused(number);
+    }
+    let row = chip::row_of(arguments.chip);
+    let controller = arguments.controller as usize;
+    let leaf = rom::word_at(image, ByteOffset(rom::CONTROLLERS_AT + 3 * controller + 1)) as usize;
+    let number = leaf_refusal(image, row, leaf);
+    if number != refusal::ACCEPTED {
+        return refused(number);
+    }
+    header_at(image, arguments, row, leaf)
+}

@@ -1,0 +1,100 @@
+-- The blocks of a leaf one by one: the next block of a cut and the rest behind it, and causes that are accepted block by block.
+-- Assumes nothing.
+use Prim.Native.Nat.{ℕ, zero, suc, _+_, _-_, _≤_, _<_}
+use native.Mathlib.Omega.{arith}
+use native.Mathlib.Nat.{le-refl}
+use mathlib.Core.List.{List, [], _∷_}
+use mathlib.Core.Path.{_≡_, refl, ap, sym, _∙_}
+use lib.Dec.{lit<}
+use lib.ListN.{length, take, drop, length-drop}
+use lib.Seq.{take-all}
+use Rattle.rom.specs.Refusal.{firstMet, Numbered}
+use Rattle.rom.proofs.First.{exact, numbered-append, both-accepted}
+use Rattle.block.specs.declared.Block.{Block}
+use Rattle.block.specs.Block.{sizeOf, causes, refusalOf}
+use Rattle.block.specs.Answer.{blockOf, numberOf, sizeIn}
+use Rattle.block.proofs.Exact.{causes-numbered}
+use Rattle.block.proofs.Seen.{Seen, seen, seen-number, seen-size, fits}
+use Rattle.leaf.specs.Leaf.{cut, blockCauses, clashCause, leafCauses}
+use Rattle.leaf.specs.Claims.{ExactLeaf}
+
+-- ## The cut
+
+pub cut-more : (row count k : ℕ) (s : List ℕ) → k < count → cut row (count - k) s ≡ s ∷ cut row (count - (k + 1)) (drop (sizeOf row s) s)
+unfolding cut
+cut-more row count k s h =
+    let e : count - k ≡ suc (count - (k + 1)) = omega arith in
+    rw e
+
+pub cut-none : (row count k : ℕ) (s : List ℕ) → count ≤ k → cut row (count - k) s ≡ []
+unfolding cut
+cut-none row count k s h =
+    let e : count - k ≡ 0 = omega arith in
+    rw e
+
+pub cut-length : (row count : ℕ) (s : List ℕ) → length (cut row count s) ≡ count
+unfolding cut
+cut-length row zero s = refl
+cut-length row (suc count) s = ap suc (cut-length row count (drop (sizeOf row s) s))
+
+-- a part from a place on has all the elements from there
+pub rest-part : (n : ℕ) (s : List ℕ) → take (length s - n) (drop n s) ≡ drop n s
+rest-part n s = take-all (length s - n) (drop n s) (simp length-drop (le-refl _))
+
+-- and ends where the whole does
+pub part-ends : (s : List ℕ) (at n : ℕ) {end : ℕ} → n ≤ length s → at + length s ≤ end → (at + n) + length (take (length s - n) (drop n s)) ≤ end
+part-ends s at n h k = rw rest-part (omega (arith, length-drop n s))
+
+-- ## Causes
+
+blocks-numbered : (row level : ℕ) (bs : List (List ℕ)) → Numbered (blockCauses row level bs)
+unfolding blockCauses
+blocks-numbered row level [] = tt
+blocks-numbered row level (s ∷ bs) = numbered-append (causes row level s) (blockCauses row level bs) (causes-numbered row level s) (blocks-numbered row level bs)
+
+pub leaf-numbered : (row level : ℕ) (bs : List (List ℕ)) → Numbered (leafCauses row level bs)
+unfolding leafCauses clashCause
+leaf-numbered row level bs = numbered-append (blockCauses row level bs) _ (blocks-numbered row level bs) (lit< tt, tt)
+
+pub exact-leaf : ExactLeaf
+exact-leaf row level bs = exact (leafCauses row level bs) (leaf-numbered row level bs) .0
+
+-- an accepted leaf's blocks are accepted, and its clash is not met
+pub leaf-accepted : (row level : ℕ) (bs : List (List ℕ)) → firstMet (leafCauses row level bs) ≡ 0
+    → (firstMet (blockCauses row level bs) ≡ 0) × (firstMet (clashCause row level bs ∷ []) ≡ 0)
+unfolding leafCauses
+leaf-accepted row level bs = both-accepted (blockCauses row level bs) _ (blocks-numbered row level bs)
+
+pub accepted-blocks : (row level : ℕ) (bs : List (List ℕ)) → firstMet (leafCauses row level bs) ≡ 0 → firstMet (blockCauses row level bs) ≡ 0
+accepted-blocks row level bs e = leaf-accepted row level bs e .0
+
+-- accepted blocks, one by one
+pub first-accepted : (row level : ℕ) (s : List ℕ) (bs : List (List ℕ)) → firstMet (blockCauses row level (s ∷ bs)) ≡ 0
+    → (refusalOf row level s ≡ 0) × (firstMet (blockCauses row level bs) ≡ 0)
+unfolding blockCauses refusalOf
+first-accepted row level s bs = both-accepted (causes row level s) (blockCauses row level bs) (causes-numbered row level s)
+
+-- an accepted block lies in the rest, in the terms of the code: b is what it is found to be, n its number, z its size
+pub size-fits : (row level : ℕ) (s : List ℕ) {b : Block} {n z : ℕ} → b ≡ blockOf row level s → n ≡ numberOf b → n ≡ 0 → z ≡ sizeIn b → z ≤ length s
+size-fits row level s {b} {n} {z} eb en e ez =
+    let v : Seen row level s b = rw eb (seen row level s) in
+    let r : refusalOf row level s ≡ 0 = sym (seen-number v) ∙ sym en ∙ e in
+    rw (ez, seen-size v (sym en ∙ e)) (fits row level s r)
+
+-- ## A pass over accepted blocks: i are passed, and b is what the next is found to be
+
+module _ (row level count : ℕ) (rest : List ℕ) {i : ℕ} {b : Block} (e : firstMet (blockCauses row level (cut row (count - i) rest)) ≡ 0) (h : i < count) (eb : b ≡ blockOf row level rest) where
+  next-accepted : (refusalOf row level rest ≡ 0) × (firstMet (blockCauses row level (cut row (count - (i + 1)) (drop (sizeOf row rest) rest))) ≡ 0)
+  next-accepted = first-accepted row level rest _ (rw cut-more at e)
+
+  pub next-seen : Seen row level rest b
+  next-seen = rw eb (seen row level rest)
+
+  pub next-fine : numberOf b ≡ 0
+  next-fine = seen-number next-seen ∙ next-accepted .0
+
+  pub next-fits : {z : ℕ} → z ≡ sizeIn b → z ≤ length rest
+  next-fits = size-fits row level rest eb refl next-fine
+
+  pub next-left : firstMet (blockCauses row level (cut row (count - (i + 1)) (drop (sizeOf row rest) rest))) ≡ 0
+  next-left = next-accepted .1

@@ -1,0 +1,4 @@
+pub mod Cuts
+pub mod Tables
+pub mod Counts
+pub mod Worked

@@ -1,0 +1,102 @@
+-- Each turn counts one block, and what is counted and what is left make up the whole. Assumes nothing.
+use native.Mathlib.Nat.{le-refl, sub-zero}
+use borrow.Author.Needs.{needs}
+use Prim.Native.Nat.{_-_, _≤_}
+use Rattle.leaf.specs.Leaf.{cut}
+use Rattle.leaf.proofs.Cuts.{size-fits}
+use Rattle.leaf.proofs.Counts.{Counted, counted-start, judge-refused, judge-more, judge-18, judge-done}
+use Rattle.leaf.proofs.judge.Statement.{statement}
+use Rattle.leaf.proofs.judge.Tie as tie
+
+abbrev Inv-loop : tie.InvT-loop
+Inv-loop blocks count row level rest₀ k₀ t₀ rest k t = Counted row level (cut row count blocks) (cut row (count - k) rest) k t × (k ≤ count)
+
+abbrev μ-loop : tie.MeasureT-loop
+μ-loop blocks count row level rest₀ k₀ t₀ rest k t = count - k
+
+start-tally-requires : tie.Need-start-tally-requires Inv-loop μ-loop
+start-tally-requires c κs = search needs
+
+loop-holds : tie.Need-loop-holds Inv-loop μ-loop
+loop-holds c = (rw (c .start-tally .ensures, sub-zero) (counted-start _ _ _), search needs)
+
+judge-block-requires : tie.Need-judge-block-requires Inv-loop μ-loop
+judge-block-requires c κs = search needs
+
+number-of-requires : tie.Need-number-of-requires Inv-loop μ-loop
+number-of-requires c κs = search needs
+
+refused-tally-requires : tie.Need-refused-tally-requires Inv-loop μ-loop
+refused-tally-requires c κs = search needs
+
+returns : tie.Need-returns Inv-loop μ-loop
+returns c =
+    let j = c .before .before .before in
+    judge-refused _ _ _ _ (j .before .before .loop .inv .0) (j .before .loop-test .taken) (j .judge-block .ensures) (c .before .before .number-of .ensures) (c .before .if1 .taken) (c .refused-tally .ensures)
+
+counted-requires : tie.Need-counted-requires Inv-loop μ-loop
+counted-requires c κs = search needs
+
+size-of-requires : tie.Need-size-of-requires Inv-loop μ-loop
+size-of-requires c κs = search needs
+
+sub-rest : tie.Need-sub-rest Inv-loop μ-loop
+sub-rest c =
+    let j = c .before .before .before .before in
+    size-fits _ _ _ (j .judge-block .ensures) (c .before .before .before .number-of .ensures) (c .before .before .if1 .left) (c .size-of .ensures)
+
+part-rest-start : tie.Need-part-rest-start Inv-loop μ-loop
+part-rest-start = sub-rest
+
+part-rest-end : tie.Need-part-rest-end Inv-loop μ-loop
+part-rest-end c = le-refl _
+
+add-k : tie.Need-add-k Inv-loop μ-loop
+add-k c = search needs
+
+loop-less : tie.Need-loop-less Inv-loop μ-loop
+loop-less c = search needs
+
+loop-again : tie.Need-loop-again Inv-loop μ-loop
+loop-again c =
+    let j = c .before .before .before .before .before in (
+      judge-more _ _ _ _ (j .before .before .loop .inv .0) (j .before .loop-test .taken) (c .before .before .before .before .before .before .before .before .before .before .fits .count .fits) (j .judge-block .ensures) (c .before .before .before .before .number-of .ensures) (c .before .before .before .if1 .left) (c .before .before .counted .ensures) (c .before .size-of .ensures),
+      search needs,
+    )
+
+clashes-requires : tie.Need-clashes-requires Inv-loop μ-loop
+clashes-requires c κs = search needs
+
+refused-tally-requires-2 : tie.Need-refused-tally-requires-2 Inv-loop μ-loop
+refused-tally-requires-2 c κs = search needs
+
+returns-2 : tie.Need-returns-2 Inv-loop μ-loop
+returns-2 c = judge-18 _ _ _ _ (c .before .before .before .before .loop .inv .0) (c .before .before .before .loop-test .left) (c .before .before .clashes .ensures) (c .before .if2 .taken) (c .refused-tally2 .ensures)
+
+returns-3 : tie.Need-returns-3 Inv-loop μ-loop
+returns-3 c = judge-done _ _ _ _ (c .before .before .before .loop .inv .0) (c .before .before .loop-test .left) (c .before .clashes .ensures) (c .if2 .left)
+
+pub judge-spec : {M : Type 1} → statement M
+judge-spec =
+    tie.close
+    (tie.spec
+    Inv-loop
+    μ-loop
+    start-tally-requires
+    loop-holds
+    judge-block-requires
+    number-of-requires
+    refused-tally-requires
+    returns
+    counted-requires
+    size-of-requires
+    sub-rest
+    part-rest-start
+    part-rest-end
+    add-k
+    loop-less
+    loop-again
+    clashes-requires
+    refused-tally-requires-2
+    returns-2
+    returns-3)

@@ -1,0 +1,132 @@
+-- Cases a to j of document 01, 'Blocks to prove', and others on its rules, over the definitions.
+use Prim.Native.Nat.{ℕ, _-_}
+use mathlib.Core.Path.{_≡_}
+use mathlib.Core.List.{List, [], _∷_, _++_, map}
+use lib.Dec.{eqb}
+use lib.ListN.{take, drop, replicate}
+use Rattle.rom.specs.Bytes.{pick, byteAt}
+use Rattle.block.specs.Format.{rowOf, row21140}
+use Rattle.leaf.specs.Leaf.{cut, tableOf, kindAt, startAt}
+use Rattle.leaf.specs.Tally.{tallyOf}
+
+-- a chip, a level, a leaf's bytes from byte 30 of the image on, and what is answered: the refusal's number, how many blocks
+-- are listed, resets and skipped, and the table's kinds and starts; 0 and empty where the leaf is refused
+pub record Case : Type 0 where
+  pub chip : ℕ
+  pub level : ℕ
+  pub leaf : List ℕ
+  pub number : ℕ
+  pub listed : ℕ
+  pub resets : ℕ
+  pub skipped : ℕ
+  pub kinds : List ℕ
+  pub starts : List ℕ
+
+-- ## How a case is run
+
+-- an image with the leaf at 30, and zeros elsewhere
+unfoldable pub imageWith : List ℕ → List ℕ
+imageWith leaf = take 128 (replicate 30 0 ++ leaf ++ replicate 98 0)
+
+-- the first block stands behind the connection type, for the 21140 the control byte, and the block count
+unfoldable pub blocksAt : ℕ → ℕ
+blocksAt row = pick (eqb row row21140) 34 33
+
+-- the leaf's rest from its first block on, up to byte 123
+unfoldable pub blocksOf : ℕ → List ℕ → List ℕ
+blocksOf row image = take (124 - blocksAt row) (drop (blocksAt row) image)
+
+unfoldable pub run : Case → Case
+run c =
+    let row = rowOf (c .chip) in
+    let image = imageWith (c .leaf) in
+    let count = byteAt image (blocksAt row - 1) in
+    let blocks = blocksOf row image in
+    let tally = tallyOf row (c .level) (cut row count blocks) in
+    let table = pick (eqb (tally .number) 0) (tableOf row (c .level) count (blocksAt row) blocks) [] in
+    record {
+      chip = c .chip;
+      level = c .level;
+      leaf = c .leaf;
+      number = tally .number;
+      listed = tally .listed;
+      resets = tally .resets;
+      skipped = tally .skipped;
+      kinds = map (kindAt row) table;
+      starts = map startAt table;
+    }
+
+-- ## The cases
+
+abbrev accepted : ℕ → ℕ → List ℕ → ℕ → ℕ → ℕ → List ℕ → List ℕ → Case
+accepted chip level leaf listed resets skipped kinds starts =
+    record { chip = chip; level = level; leaf = leaf; number = 0; listed = listed; resets = resets; skipped = skipped; kinds = kinds; starts = starts }
+
+abbrev refused : ℕ → ℕ → List ℕ → ℕ → Case
+refused chip level leaf number =
+    record { chip = chip; level = level; leaf = leaf; number = number; listed = 0; resets = 0; skipped = 0; kinds = []; starts = [] }
+
+abbrev dots : ℕ → List ℕ
+dots n = replicate n 0
+
+abbrev leafB : List ℕ
+leafB = 0x00 ∷ 0x08 ∷ 0x03 ∷ 0x86 ∷ 0x02 ∷ 0x00 ∷ 0x01 ∷ 0x00 ∷ 0x02 ∷ 0x00 ∷ 0x81 ∷ 0x09 ∷ 0x86 ∷ 0x02 ∷ 0x01 ∷ 0x01 ∷ 0x00 ∷ 0x02 ∷ 0x00 ∷ []
+
+-- a type 1 block with capabilities 0x7800 and this advertisement, low byte first
+abbrev leafH : ℕ → ℕ → List ℕ
+leafH low high = 0x00 ∷ 0x08 ∷ 0x00 ∷ 0x01 ∷ 0x8C ∷ 0x01 ∷ 0x00 ∷ 0x00 ∷ 0x00 ∷ 0x00 ∷ 0x78 ∷ low ∷ high ∷ dots 4
+
+abbrev leafI : List ℕ
+leafI = 0x00 ∷ 0x08 ∷ 0x02 ∷ 0x82 ∷ 0x05 ∷ 0x00 ∷ 0x82 ∷ 0x05 ∷ 0x00 ∷ []
+
+-- a type 5 block and this PHY block
+abbrev leafReset : List ℕ → List ℕ
+leafReset phy = 0x00 ∷ 0x08 ∷ 0x02 ∷ 0x82 ∷ 0x05 ∷ 0x00 ∷ phy
+
+-- two compact blocks with media codes 0 and 3 and these high bytes of their commands
+abbrev leafPorts : ℕ → ℕ → List ℕ
+leafPorts first second = 0x00 ∷ 0x08 ∷ 0x00 ∷ 0x02 ∷ 0x00 ∷ 0x00 ∷ 0x00 ∷ first ∷ 0x03 ∷ 0x00 ∷ 0x00 ∷ second ∷ []
+
+unfoldable pub cases : List Case
+cases =
+    -- a, b, c
+    accepted 21143 6 (0x00 ∷ 0x08 ∷ 0x01 ∷ 0x86 ∷ 0x02 ∷ 0x00 ∷ 0x01 ∷ 0x00 ∷ 0x02 ∷ 0x00 ∷ []) 1 0 0 (2 ∷ []) (33 ∷ [])
+    ∷ accepted 21143 6 leafB 2 0 1 (2 ∷ 2 ∷ []) (42 ∷ 33 ∷ [])
+    ∷ accepted 21143 2 leafB 0 0 3 [] []
+    -- d, e, f, g
+    ∷ refused 21143 6 (0x00 ∷ 0x08 ∷ 0x01 ∷ 0x80 ∷ []) 14
+    ∷ refused 21143 6 (0x00 ∷ 0x08 ∷ 0x01 ∷ 0x85 ∷ 0x02 ∷ dots 4) 15
+    ∷ refused 21143 6 (0x00 ∷ 0x08 ∷ 0x01 ∷ 0x86 ∷ 0x02 ∷ 0x40 ∷ dots 4) 15
+    ∷ refused 21143 6 (0x00 ∷ 0x08 ∷ 0x01 ∷ dots 4) 14
+    -- h twice, i, j twice
+    ∷ accepted 21140 6 (leafH 0xE0 0x01) 1 0 0 (1 ∷ []) (34 ∷ [])
+    ∷ refused 21140 6 (leafH 0xE0 0x03) 17
+    ∷ refused 21143 6 leafI 18
+    ∷ accepted 21143 6 (0x00 ∷ 0x08 ∷ 0x01 ∷ 0xDA ∷ 0x09 ∷ dots 89) 0 0 1 [] []
+    ∷ refused 21143 6 (0x00 ∷ 0x08 ∷ 0x01 ∷ 0xDB ∷ 0x09 ∷ dots 90) 13
+    -- no blocks, and no known type
+    ∷ accepted 21143 6 (0x00 ∷ 0x08 ∷ 0x00 ∷ []) 0 0 0 [] []
+    ∷ accepted 21143 0 leafB 0 0 3 [] []
+    -- 13 comes before 14: a compact block at 121, and a type that the chip does not permit
+    ∷ refused 21143 6 (0x00 ∷ 0x08 ∷ 0x02 ∷ 0xD7 ∷ 0x09 ∷ dots 86 ++ 0x00 ∷ 0x00 ∷ 0x00 ∷ []) 13
+    ∷ refused 21143 6 (0x00 ∷ 0x08 ∷ 0x01 ∷ 0xDB ∷ 0x00 ∷ dots 90) 13
+    -- length 0 as the leaf's last byte
+    ∷ refused 21143 6 (0x00 ∷ 0x08 ∷ 0x02 ∷ 0xD9 ∷ 0x09 ∷ dots 88 ++ 0x80 ∷ []) 14
+    -- g past the block's end, and g outside the block, which ends at 123
+    ∷ refused 21140 6 (0x00 ∷ 0x08 ∷ 0x00 ∷ 0x01 ∷ 0x8C ∷ 0x01 ∷ 0x00 ∷ 0xFF ∷ dots 9) 15
+    ∷ refused 21140 6 (0x00 ∷ 0x08 ∷ 0x00 ∷ 0x02 ∷ 0xD6 ∷ 0x09 ∷ dots 85 ++ 0x82 ∷ 0x01 ∷ 0x00 ∷ []) 15
+    -- a 21041 block, one with six bytes more, and one with its reserved bit
+    ∷ accepted 21041 6 (0x00 ∷ 0x08 ∷ 0x02 ∷ 0x41 ∷ dots 6 ++ 0x02 ∷ []) 2 0 0 (257 ∷ 257 ∷ []) (40 ∷ 33 ∷ [])
+    ∷ refused 21041 6 (0x00 ∷ 0x08 ∷ 0x01 ∷ 0x80 ∷ []) 16
+    -- 18: defaults, and resets with a PHY block; only among known blocks
+    ∷ accepted 21140 6 (leafPorts 0x40 0x00) 2 0 0 (256 ∷ 256 ∷ []) (38 ∷ 34 ∷ [])
+    ∷ refused 21140 6 (leafPorts 0x40 0x40) 18
+    ∷ accepted 21140 6 (leafPorts 0x40 0xC0) 2 0 0 (256 ∷ 256 ∷ []) (38 ∷ 34 ∷ [])
+    ∷ refused 21143 6 (leafReset (0x8F ∷ 0x03 ∷ 0x00 ∷ 0x00 ∷ 0x01 ∷ dots 11)) 18
+    ∷ accepted 21143 6 (leafReset (0x8D ∷ 0x03 ∷ 0x00 ∷ 0x00 ∷ 0x00 ∷ dots 9)) 1 1 0 (3 ∷ []) (36 ∷ [])
+    ∷ accepted 21143 5 leafI 0 0 2 [] []
+    ∷ []
+
+-- each case is answered as it says
+abbrev pub Worked : Type 0
+Worked = map run cases ≡ cases

@@ -1,0 +1,97 @@
+-- The blocks of a leaf (document 01, 'Leaf and blocks', 'Levels and the table'). Each is given as the leaf's rest from its
+-- first byte on. No level changes where they are cut: the level only judges and lists.
+use Prim.Native.Nat.{ℕ, zero, suc, _+_}
+use mathlib.Core.List.{List, [], _∷_, _++_, reverse}
+use mathlib.Core.Bool.{Bool, true, false, _||_, _&&_, not}
+use lib.ListN.{drop}
+use lib.Dec.{eqb, ltb}
+use Rattle.rom.specs.Bytes.{pick}
+use Rattle.rom.specs.Refusal.{Cause, _⇒_}
+use Rattle.block.specs.Block.{sizeOf, kindOf, isKnown, factsOf, causes}
+
+-- so many blocks, numbered from 0 as they stand
+unfoldable pub cut : ℕ → ℕ → List ℕ → List (List ℕ)
+cut row zero s = []
+cut row (suc n) s = s ∷ cut row n (drop (sizeOf row s) s)
+
+-- ## How a level sees a block
+
+-- known blocks but type 5 are listed
+unfoldable pub isListed : ℕ → ℕ → List ℕ → Bool
+isListed row level s = isKnown level (kindOf row s) && not (eqb (kindOf row s) 5)
+
+unfoldable pub isReset : ℕ → ℕ → List ℕ → Bool
+isReset row level s = isKnown level (kindOf row s) && eqb (kindOf row s) 5
+
+-- an unknown type is stepped over
+unfoldable pub isSkipped : ℕ → ℕ → List ℕ → Bool
+isSkipped row level s = not (isKnown level (kindOf row s))
+
+unfoldable pub isDefault : ℕ → ℕ → List ℕ → Bool
+isDefault row level s = isKnown level (kindOf row s) && factsOf (kindOf row s) s .isDefault
+
+unfoldable pub resetsPhy : ℕ → ℕ → List ℕ → Bool
+resetsPhy row level s = isKnown level (kindOf row s) && factsOf (kindOf row s) s .resetsPhy
+
+-- ## Counts
+
+abbrev pub one : Bool → ℕ
+one true = 1
+one false = 0
+
+-- how many blocks p takes
+unfoldable pub countOf : (List ℕ → Bool) → List (List ℕ) → ℕ
+countOf p [] = 0
+countOf p (s ∷ bs) = one (p s) + countOf p bs
+
+-- the number of the first block that p takes, where the first of these blocks has number k; 255 if none
+unfoldable pub firstFrom : (List ℕ → Bool) → ℕ → List (List ℕ) → ℕ
+firstFrom p k [] = 255
+firstFrom p k (s ∷ bs) = pick (p s) k (firstFrom p (k + 1) bs)
+
+-- ## Why a leaf's blocks are refused: one after another, 18 last
+
+-- two type 5 blocks, or one and a PHY block with r above 0, or two defaults
+unfoldable pub clash : ℕ → ℕ → ℕ → Bool
+clash resets phys defaults = ltb 1 resets || ltb 0 resets && ltb 0 phys || ltb 1 defaults
+
+unfoldable pub blockCauses : ℕ → ℕ → List (List ℕ) → List Cause
+blockCauses row level [] = []
+blockCauses row level (s ∷ bs) = causes row level s ++ blockCauses row level bs
+
+-- among known blocks
+unfoldable pub clashCause : ℕ → ℕ → List (List ℕ) → Cause
+clashCause row level bs = 18 ⇒ clash (countOf (isReset row level) bs) (countOf (resetsPhy row level) bs) (countOf (isDefault row level) bs)
+
+unfoldable pub leafCauses : ℕ → ℕ → List (List ℕ) → List Cause
+leafCauses row level bs = blockCauses row level bs ++ clashCause row level bs ∷ []
+
+-- ## The table
+
+-- a block with its byte offset in the image
+pub record Place : Type 0 where
+  pub start : ℕ
+  pub rest : List ℕ
+
+-- the blocks with their offsets, the first at `at`
+unfoldable pub placed : ℕ → ℕ → List (List ℕ) → List Place
+placed row at [] = []
+placed row at (s ∷ bs) = record { start = at; rest = s } ∷ placed row (at + sizeOf row s) bs
+
+unfoldable pub keep : (Place → Bool) → List Place → List Place
+keep p [] = []
+keep p (b ∷ bs) = pick (p b) (b ∷ keep p bs) (keep p bs)
+
+-- listed blocks from the last to the first
+unfoldable pub table : ℕ → ℕ → List Place → List Place
+table row level bs = reverse (keep (λ b. isListed row level (b .rest)) bs)
+
+-- the table of so many blocks, of which the first stands at byte `at` of the image
+unfoldable pub tableOf : ℕ → ℕ → ℕ → ℕ → List ℕ → List Place
+tableOf row level count at s = table row level (placed row at (cut row count s))
+
+abbrev pub kindAt : ℕ → Place → ℕ
+kindAt row b = kindOf row (b .rest)
+
+abbrev pub startAt : Place → ℕ
+startAt b = b .start

@@ -1,0 +1,138 @@
+// The blocks of a leaf, judged one after another (document 01, 'Leaf and blocks').
+use block::Block;
+ghost use mathlib.Core.Path.{_≡_};
+ghost use Prim.Native.Nat.{_≤_, _<_};
+ghost use Rattle.leaf.specs.Leaf.{cut, clash, one};
+ghost use Rattle.leaf.specs.Tally.{noTally, startTally, tallyOf, firstNumber, plus};
+
+// The blocks of each sort, or a refusal's number and zeros.
+pub struct Tally {
+    pub number: u8,
+    pub listed: u8,
+    pub resets: u8,
+    pub skipped: u8,
+    pub phys: u8,
+    pub defaults: u8,
+    pub default_number: u8,
+}
+
+fn refused_tally(number: u8) -> Tally
+    ensures { λ r. ⌜ r ≡ noTally number ⌝ }
+{
+    Tally {
+        number,
+        listed: 0,
+        resets: 0,
+        skipped: 0,
+        phys: 0,
+        defaults: 0,
+        default_number: 0,
+    }
+}
+
+// Two type 5 blocks, or one and a PHY block with r above 0, or two defaults.
+fn clashes(resets: u8, phys: u8, defaults: u8) -> bool
+    ensures { λ r. ⌜ r ≡ clash resets phys defaults ⌝ }
+{
+    if 1 < resets {
+        return true;
+    }
+    if resets < 1 {
+        return 1 < defaults;
+    }
+    if 0 < phys {
+        return true;
+    }
+    1 < defaults
+}
+
+fn start_tally() -> Tally
+    ensures { λ r. ⌜ r ≡ startTally ⌝ }
+{
+    Tally {
+        number: 0,
+        listed: 0,
+        resets: 0,
+        skipped: 0,
+        phys: 0,
+        defaults: 0,
+        default_number: 255,
+    }
+}
+
+fn one_of(x: bool) -> u8
+    ensures { λ r. ⌜ (r ≡ one x) × (r ≤ 1) ⌝ }
+{
+    if x {
+        return 1;
+    }
+    0
+}
+
+// The default's number, where `old` is that of the blocks before block `number`, or 255.
+fn first_number(old: u8, marked: bool, number: u8) -> u8
+    ensures { λ r. ⌜ r ≡ firstNumber old marked number ⌝ }
+{
+    if old != 255 {
+        return old;
+    }
+    if marked {
+        return number;
+    }
+    255
+}
+
+// A tally with block `number` more.
+fn counted(t: Tally, b: Block, number: u8) -> Tally
+    requires { ⌜ (t .listed < 255) × (t .resets < 255) × (t .skipped < 255) × (t .phys < 255) × (t .defaults < 255) ⌝ }
+    ensures { λ r. ⌜ r ≡ plus t b number ⌝ }
+{
+    let mut next = t;
+    match b {
+        Block::Listed {
+            kind: _,
+            size: _,
+            active_invalid: _,
+            is_default,
+            resets_phy,
+        } => {
+            next.listed = t.listed + 1;
+            next.phys = t.phys + one_of(resets_phy);
+            next.defaults = t.defaults + one_of(is_default);
+            next.default_number = first_number(t.default_number, is_default, number);
+        }
+        Block::Reset { size: _ } => {
+            next.resets = t.resets + 1;
+        }
+        Block::Unknown { size: _ } => {
+            next.skipped = t.skipped + 1;
+        }
+        Block::Refused(_) => {}
+    }
+    next
+}
+
+// The tally of a leaf's blocks, or the first refusal of one, or 18.
+pub fn judge(blocks: &[u8], count: u8, row: usize, level: u8) -> Tally
+    ensures { λ r. ⌜ r ≡ tallyOf row level (cut row count (now (blocks .entry))) ⌝ }
+{
+    let mut rest = blocks;
+    let mut k = 0u8;
+    let mut t = start_tally();
+    while k < count {
+        let b = block::judge_block(rest, row, level);
+        let number = block::number_of(b);
+        if number != 0 {
+            return refused_tally(number);
+        }
+        t = counted(t, b, k);
+        let step = block::size_of(b);
+        rest = &rest[step..];
+        k += 1;
+    }
+    let clash = clashes(t.resets, t.phys, t.defaults);
+    if clash {
+        return refused_tally(rom::refusal::CLASH);
+    }
+    t
+}

@@ -1,0 +1,66 @@
+-- The connection type, and the other bytes behind it. Assumes nothing.
+use native.Mathlib.Omega.{arith}
+use lib.ListN.{length-set}
+use Rattle.writer.proofs.Sheets.{head-21140, head-other}
+use borrow.Author.Needs.{needs}
+use Rattle.writer.proofs.leaf_writer.put_head.Statement.{statement}
+use Rattle.writer.proofs.leaf_writer.put_head.Tie as tie
+
+word-at-requires : tie.Need-word-at-requires
+word-at-requires c κs = search needs
+
+put-word-requires : tie.Need-put-word-requires
+put-word-requires c κs = search needs
+
+shared-slice-read-room : tie.Need-shared-slice-read-room
+shared-slice-read-room c = search needs
+
+slice-write-room : tie.Need-slice-write-room
+slice-write-room c = search needs
+
+shared-slice-read-room-2 : tie.Need-shared-slice-read-room-2
+shared-slice-read-room-2 c = search needs
+
+slice-write-room-2 : tie.Need-slice-write-room-2
+slice-write-room-2 c = simp length-set (omega arith)
+
+same-length : tie.Need-same-length
+same-length c = search needs
+
+returns : tie.Need-returns
+returns c =
+    let start = c .before .before .before .before .before .before .before .before .before .before in
+    let past = c .before .before .before .before .before in
+    head-21140 (start .args .sheet .now) (start .args .row) _ (start .args .room .now) _ (start .pre .0) (past .before .word-at .ensures) (start .pre .1) (past .put-word .ensures) (c .before .before .if1 .taken)
+
+shared-slice-read-room-3 : tie.Need-shared-slice-read-room-3
+shared-slice-read-room-3 c = search needs
+
+slice-write-room-3 : tie.Need-slice-write-room-3
+slice-write-room-3 c = search needs
+
+same-length-2 : tie.Need-same-length-2
+same-length-2 c = search needs
+
+returns-2 : tie.Need-returns-2
+returns-2 c =
+    let start = c .before .before .before .before .before .before .before .before .before in
+    let past = c .before .before .before .before in
+    head-other (start .args .sheet .now) (start .args .row) _ (start .args .room .now) _ (start .pre .0) (past .before .word-at .ensures) (start .pre .1) (past .put-word .ensures) (c .before .if1 .left)
+
+pub put-head-spec : {M : Type 1} → statement M
+put-head-spec =
+    tie.close
+    (tie.spec
+    word-at-requires
+    put-word-requires
+    shared-slice-read-room
+    slice-write-room
+    shared-slice-read-room-2
+    slice-write-room-2
+    same-length
+    returns
+    shared-slice-read-room-3
+    slice-write-room-3
+    same-length-2
+    returns-2)
