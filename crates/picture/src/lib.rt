@@ -208,7 +208,7 @@ fn with_controller(cells: Cells, image: &[u8], arguments: Arguments) -> Cells {
     let controller = arguments.controller;
     let entry = rom::CONTROLLERS_AT + 3 * (controller as usize);
     let cells = cells.painted(CONTROLLER, controller, entry, 3);
-    let header = reader::read_header(image, arguments);
+    let header = header::read_header(image, arguments);
     if header.number != refusal::ACCEPTED {
         return cells;
     }

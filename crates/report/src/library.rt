@@ -20,7 +20,7 @@ pub fn read(image: &[u8], arguments: Arguments, offsets: &mut [u16]) -> Answer {
 
 // How many blocks the leaf has, 0 where its header is refused.
 pub fn block_count(image: &[u8], arguments: Arguments) -> u8 {
-    reader::read_header(image, arguments).blocks
+    header::read_header(image, arguments).blocks
 }
 
 pub fn block_place(image: &[u8], arguments: Arguments, number: u8) -> Place {
