@@ -15,13 +15,13 @@ use Rattle.block.specs.Block.{sizeOf}
 use Rattle.block.proofs.Seen.{fits}
 use Rattle.block.proofs.Whole.{size-positive}
 use Rattle.header.specs.declared.Arguments.{Arguments}
-use Rattle.reader.specs.declared.Reading.{Reading}
 use Rattle.header.specs.Image.{controllerCount, reservedAt, headerLength, blocksAt, badCount, restFrom, imageCauses, argumentCauses, leafHeaderCauses}
-use Rattle.leaf.specs.Leaf.{cut, blockCauses}
 use Rattle.header.specs.Header.{rowFor, leafFor, startFor, countFor, headerCauses}
-use Rattle.reader.specs.Reading.{blocksFor, leafCausesFor, judgeCauses, acceptedReading, judgedReading, acceptedAnswer}
-use Rattle.leaf.proofs.Cuts.{first-accepted, accepted-blocks}
 use Rattle.header.proofs.Headers.{image-numbered, argument-numbered, start-fits}
+use Rattle.leaf.specs.Leaf.{cut, blockCauses}
+use Rattle.leaf.proofs.Cuts.{first-accepted, accepted-blocks}
+use Rattle.reader.specs.declared.Reading.{Reading}
+use Rattle.reader.specs.Reading.{blocksFor, leafCausesFor, judgeCauses, acceptedReading, judgedReading, acceptedAnswer}
 use Rattle.reader.proofs.Readings.{Accepted, accepted-judged, restOf, reading-number}
 use Rattle.autosense.specs.declared.Walk.{Walk}
 use Rattle.autosense.specs.declared.Rows.{Rows}

@@ -11,8 +11,8 @@ use Rattle.block.specs.declared.Block.{Block}
 use Rattle.block.specs.declared.Block.the-variants.{Listed, Reset, Unknown, Refused}
 use Rattle.block.specs.Block.{kindOf, factsOf}
 use Rattle.header.specs.declared.Arguments.{Arguments}
-use Rattle.leaf.specs.Leaf.{isListed, one}
 use Rattle.header.specs.Header.{rowFor}
+use Rattle.leaf.specs.Leaf.{isListed, one}
 use Rattle.reader.specs.Reading.{blocksFor, judgeCauses, acceptedAnswer}
 use Rattle.autosense.specs.declared.Walk.{Walk}
 use Rattle.autosense.specs.declared.Walked.{Walked}

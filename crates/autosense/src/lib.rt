@@ -3,7 +3,6 @@ use block::Block;
 use reader::Arguments;
 use rom::refusal;
 ghost use mathlib.Core.Path.{_≡_};
-ghost use mathlib.Core.Bool.{Bool};
 ghost use Prim.Native.Nat.{_≤_};
 ghost use Rattle.rom.specs.Refusal.{firstMet};
 ghost use Rattle.block.specs.Answer.{listedIn};

@@ -93,6 +93,12 @@ fn is_readable(file: i32) -> bool {
     0 <= libc::read(file, &mut nothing)
 }
 
+// Whether a file that has been read as far as there is room goes on.
+fn goes_on(file: i32) -> bool {
+    let mut next = [0u8; 1];
+    0 < libc::read(file, &mut next)
+}
+
 fn read_from(file: i32, place: usize) -> Input {
     let readable = is_readable(file);
     if !readable {
@@ -100,6 +106,9 @@ fn read_from(file: i32, place: usize) -> Input {
     }
     let mut room = io::buffer();
     let length = io::read_full(file, &mut room);
+    if goes_on(file) {
+        return refuse(b"found more than 4,096 bytes", place);
+    }
     told_apart(&room[..length], place)
 }
 

@@ -127,12 +127,23 @@ word-at-once r w s h =
     ∙ sym (bits-low 8 0 (idBits 8 r (byteAt s (2 * w + 1))) (word s w))
     ∙ ap (idBits 8 (idBits 8 r (byteAt s (2 * w + 1)))) low
 
+-- as the code feeds it: the byte at `up` and then the byte at `at`
+pub word-fed : (s : List ℕ) (w r at low up high fed x : ℕ) → byteAt s (2 * w) < 256 → at ≡ 2 * w → low ≡ byteAt s at
+    → up ≡ 2 * w + 1 → high ≡ byteAt s up → fed ≡ idBits 8 r high → x ≡ idBits 8 fed low → x ≡ idBits 16 r (word s w)
+word-fed s w r at low up high fed x h ea el eu eh ef ex =
+    ex ∙ ap₂ (idBits 8) (ef ∙ ap (idBits 8 r) (eh ∙ ap (byteAt s) eu)) (el ∙ ap (byteAt s) ea) ∙ sym (word-at-once r w s h)
+
 -- ## Word by word
 
-pub words-more : (m w r : ℕ) (s : List ℕ) → w < m
+words-more : (m w r : ℕ) (s : List ℕ) → w < m
     → idWords (m - w) w r s ≡ idWords (m - (w + 1)) (w + 1) (idBits 16 r (word s w)) s
 unfolding idWords
 words-more m w r s h = let e : m - w ≡ suc (m - (w + 1)) = omega arith in rw e
+
+-- with word w fed, what is left is the words behind it
+pub words-next : (s : List ℕ) (w r x whole : ℕ) → w < 8 → x ≡ idBits 16 r (word s w) → idWords (8 - w) w r s ≡ whole
+    → idWords (8 - (w + 1)) (w + 1) x s ≡ whole
+words-next s w r x whole h e all = ap (λ (n : ℕ). idWords (8 - (w + 1)) (w + 1) n s) e ∙ sym (words-more 8 w r s h) ∙ all
 
 -- after word 7, byte 17
 pub words-done : (s : List ℕ) (w r at b x : ℕ) → 8 ≤ w → idWords (8 - w) w r s ≡ idWords 8 0 (ones 8) s

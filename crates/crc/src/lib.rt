@@ -3,7 +3,7 @@ mod id;
 mod srom;
 
 ghost use mathlib.Core.Path.{_≡_};
-ghost use Rattle.crc.specs.Answer.{answer, sromAnswer, idAnswer};
+ghost use Rattle.crc.specs.Answer.{sromAnswer, idAnswer};
 
 // A CRC, or a refusal's number and 0.
 #[repr(C)]

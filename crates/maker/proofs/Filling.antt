@@ -12,8 +12,8 @@ use Rattle.sheet.specs.Lists.{wordBytes, put}
 use Rattle.sheet.specs.Record.{Entry}
 use Rattle.sheet.specs.Sheet.{kindBytes, sizeBytes, bodyBytes}
 use Rattle.sheet.specs.Image.{openingLength, bodyOf, entryOf}
-use Rattle.maker.specs.Code.{AcceptedBlocks, entriesOf}
 use Rattle.sheet.proofs.Put.{put-none, put-length, joined}
+use Rattle.maker.specs.Code.{AcceptedBlocks, entriesOf}
 use Rattle.maker.proofs.Blocks.{next-block, next-left, entries-more, entries-none}
 
 -- a part of a sheet is made of a piece for each entry

@@ -13,8 +13,8 @@ use Rattle.rom.specs.Bytes.{pick, byteAt, wordAt}
 use Rattle.rom.specs.Refusal.{_⇒_, firstMet}
 use Rattle.rom.proofs.First.{after-accepted, after-refused}
 use Rattle.rom.proofs.Reached.{reached, end, stop, skip}
-use Rattle.reader.specs.declared.Reading.{Reading}
 use Rattle.header.specs.Image.{controllerCount, leafAt, restFrom}
+use Rattle.reader.specs.declared.Reading.{Reading}
 use Rattle.reader.specs.Reading.{judgeCauses, acceptedAnswer, acceptedReading, judgedReading}
 use Rattle.reader.proofs.Readings.{Accepted, restOf, accepted-judged, reading-number, reading-start, reading-blocks}
 use Rattle.reader.proofs.Promised.{judge-numbered}
@@ -23,11 +23,11 @@ use Rattle.sheet.specs.Layout.{chipAt, headLength}
 use Rattle.sheet.specs.Sheet.{bodyBytes, partsOf}
 use Rattle.sheet.specs.Image.{leafStart, newest, imageFrom, leafEnd, upToLeavesEnd, isTidy}
 use Rattle.sheet.specs.Make.{sheetFor, makeCauses, makeNumber, makeLength, made}
+use Rattle.sheet.proofs.Put.{put-length}
 use Rattle.maker.specs.declared.Made.{Made}
 use Rattle.maker.specs.declared.parts.Measured.{Measured}
 use Rattle.maker.specs.Answer.{madeFor, refusedMade}
 use Rattle.maker.specs.Code.{AcceptedBlocks, entriesOf, measuredOf, isTidyFrom, frontBytes, fieldBytes, Sheetable}
-use Rattle.sheet.proofs.Put.{put-length}
 use Rattle.maker.proofs.Sheets.{front-long, field-long, third-room, three-put, read-whole, read-entries, read-sheet, read-long}
 
 -- ## Whether an image is tidy

@@ -7,12 +7,12 @@ use lib.ListN.{length, take, drop, length-append, length-drop}
 use lib.Seq.{length-take-le, take-suc, drop-cons, getD-drop}
 use Rattle.rom.specs.Geometry.{imageLength, leavesEnd, addressAt}
 use Rattle.rom.specs.Bytes.{byteAt}
+use Rattle.header.specs.Image.{restFrom}
+use Rattle.header.proofs.Headers.{whole-image}
 use Rattle.reader.specs.declared.Answer.{Answer}
 use Rattle.reader.specs.declared.Reading.{Reading}
-use Rattle.header.specs.Image.{restFrom}
 use Rattle.reader.specs.Reading.{acceptedAnswer, acceptedReading}
 use Rattle.reader.proofs.Readings.{Accepted, restOf}
-use Rattle.header.proofs.Headers.{whole-image}
 use Rattle.sheet.specs.Lists.{wordBytes, put}
 use Rattle.sheet.specs.Layout.{chipAt, headLength}
 use Rattle.sheet.specs.Record.{Entry}
@@ -21,8 +21,8 @@ use Rattle.sheet.specs.Image.{newest, imageFrom}
 use Rattle.sheet.specs.Make.{sheetFor}
 use Rattle.sheet.proofs.Blocks.{entries-length}
 use Rattle.sheet.proofs.Sheets.{kind-length, size-length}
-use Rattle.maker.specs.Code.{entriesOf, frontBytes, fieldBytes}
 use Rattle.sheet.proofs.Put.{put-length, joined}
+use Rattle.maker.specs.Code.{entriesOf, frontBytes, fieldBytes}
 
 -- ## Three parts
 

@@ -8,12 +8,12 @@ use lib.Dec.{eqb}
 use Rattle.rom.specs.Geometry.{leavesEnd, addressAt}
 use Rattle.rom.specs.Refusal.{firstMet}
 use Rattle.block.specs.Format.{newestLevel}
-use Rattle.reader.specs.declared.Answer.{Answer}
-use Rattle.reader.specs.declared.Reading.{Reading}
 use Rattle.header.specs.Image.{controllerCount, leafAt}
 use Rattle.leaf.specs.Leaf.{cut, blockCauses}
+use Rattle.reader.specs.declared.Answer.{Answer}
+use Rattle.reader.specs.declared.Reading.{Reading}
 use Rattle.reader.specs.Reading.{judgedReading}
-use Rattle.sheet.specs.Lists.{wordBytes, allZero, put}
+use Rattle.sheet.specs.Lists.{wordBytes, allZero}
 use Rattle.sheet.specs.Record.{Entry}
 use Rattle.sheet.specs.Sheet.{bodyBytes}
 use Rattle.sheet.specs.Image.{leafStart, entryOf, sizes, upToLeavesEnd, newest, imageFrom}

@@ -13,8 +13,8 @@ use Rattle.header.specs.declared.Arguments.{Arguments}
 use Rattle.leaf.specs.Leaf.{one}
 use Rattle.autosense.specs.declared.Walk.{Walk}
 use Rattle.autosense.specs.Walk.{freshWalk, loadedWalk, chosen, switched, stepped, lookCauses, loadCauses, walkedTo, loadFor, lookFor, clearFor}
-use Rattle.older.specs.Claims.{Reached, fresh, load, look, clear, CountsExactly}
 use Rattle.autosense.proofs.Looks.{accepted-looks}
+use Rattle.older.specs.Claims.{Reached, fresh, load, look, clear, CountsExactly}
 
 record Counts (w : Walk) : Type 0 where
   fewer : w .switches ≤ w .looks

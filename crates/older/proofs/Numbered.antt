@@ -12,8 +12,8 @@ use Rattle.rom.specs.Bytes.{pick}
 use Rattle.block.specs.Block.{kindOf, isKnown, factsOf, reset}
 use Rattle.block.proofs.Levels.{known-up}
 use Rattle.leaf.specs.Leaf.{isListed, isDefault, one, firstFrom}
-use Rattle.older.specs.Levels.{isRemoved}
 use Rattle.autosense.specs.Walk.{blockIs, flags, flagAt, isInvalid}
+use Rattle.older.specs.Levels.{isRemoved}
 
 -- ## Flags
 

@@ -9,12 +9,12 @@ use mathlib.Core.Bool.{Bool, true, false, _||_, _&&_, not}
 use lib.Dec.{eqb, ltb}
 use borrow.Author.Tests.{ltb-false, le-ltb}
 use Rattle.rom.specs.Bytes.{pick}
-use Rattle.block.specs.Block.{kindOf, isKnown, factsOf}
 use Rattle.rom.proofs.Fewer.{Fewer, end, and, fewer, fewer-append}
+use Rattle.block.specs.Block.{kindOf, isKnown, factsOf}
 use Rattle.block.proofs.Levels.{known-up, causes-down}
 use Rattle.leaf.specs.Leaf.{Place, keep, table, isListed, isReset, isDefault, resetsPhy, one, countOf, clash, blockCauses, clashCause, leafCauses}
-use Rattle.older.specs.Levels.{stays, OlderTable, OlderAccepts}
 use Rattle.leaf.proofs.Cuts.{leaf-numbered}
+use Rattle.older.specs.Levels.{stays, OlderTable, OlderAccepts}
 
 keep-keep : (p q r : Place → Bool) → ((b : Place) → p b ≡ (q b && r b)) → (bs : List Place) → keep p bs ≡ keep q (keep r bs)
 unfolding keep pick

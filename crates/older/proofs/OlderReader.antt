@@ -9,14 +9,14 @@ use Rattle.rom.specs.Bytes.{pick}
 use Rattle.rom.specs.Refusal.{firstMet}
 use Rattle.block.specs.Format.{newestLevel}
 use Rattle.header.specs.declared.Arguments.{Arguments}
-use Rattle.reader.specs.declared.Answer.{Answer}
 use Rattle.header.specs.Image.{restFrom}
 use Rattle.header.specs.Header.{rowFor, startFor, countFor}
-use Rattle.reader.specs.Reading.{blocksFor, judgeCauses, acceptedAnswer, answerFor, judgeAnswer}
 use Rattle.leaf.proofs.Cuts.{cut-length}
+use Rattle.reader.specs.declared.Answer.{Answer}
+use Rattle.reader.specs.Reading.{blocksFor, judgeCauses, acceptedAnswer, answerFor, judgeAnswer}
 use Rattle.autosense.specs.Walk.{freshWalk, loadedWalk, rowsOf, loadCauses, walkedTo, loadFor}
-use Rattle.older.specs.OlderReader.{removedBlock, atLevel, WalksAgree, OlderReader}
 use Rattle.autosense.proofs.Loads.{few-blocks}
+use Rattle.older.specs.OlderReader.{removedBlock, atLevel, WalksAgree, OlderReader}
 use Rattle.older.proofs.Numbered.{block-past, listed-same, invalid-same}
 use Rattle.older.proofs.OlderReadings.{parts, judge-down, default-number, reads-agree}
 use Rattle.older.proofs.Simulation.{walkAt, Alike, runs-agree}

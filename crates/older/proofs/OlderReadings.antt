@@ -15,18 +15,18 @@ use Rattle.block.specs.Format.{newestLevel}
 use Rattle.block.specs.Block.{isKnown}
 use Rattle.header.specs.declared.Arguments.{Arguments}
 use Rattle.header.specs.Image.{restFrom, imageCauses, argumentCauses, leafHeaderCauses}
-use Rattle.leaf.specs.Leaf.{Place, keep, countOf, isListed, tableOf, kindAt, startAt}
-use Rattle.reader.specs.Table.{written}
-use Rattle.older.specs.Levels.{stays}
 use Rattle.header.specs.Header.{rowFor, leafFor, startFor, countFor, headerCauses}
-use Rattle.reader.specs.Reading.{blocksFor, tableFor, leafCausesFor, judgeCauses, readCauses, acceptedAnswer, answerFor, readAnswer, readInto, readKinds, readOffsets}
 use Rattle.header.proofs.Headers.{header-numbered}
+use Rattle.leaf.specs.Leaf.{Place, keep, countOf, isListed, tableOf, kindAt, startAt}
 use Rattle.leaf.proofs.Tables.{listed-length}
-use Rattle.older.proofs.Older.{older-accepts, older-table}
-use Rattle.older.proofs.OlderAnswer.{older-counts, older-default}
 use Rattle.leaf.proofs.Counts.{accepted-defaults}
+use Rattle.reader.specs.Table.{written}
+use Rattle.reader.specs.Reading.{blocksFor, tableFor, leafCausesFor, judgeCauses, readCauses, acceptedAnswer, answerFor, readAnswer, readInto, readKinds, readOffsets}
+use Rattle.older.specs.Levels.{stays}
 use Rattle.older.specs.Written.{Arrays, Room, Entry, entries, answerOf, tableIn, those}
 use Rattle.older.specs.OlderReader.{removed, kept, removedBlock, atLevel, ReadsAgree}
+use Rattle.older.proofs.Older.{older-accepts, older-table}
+use Rattle.older.proofs.OlderAnswer.{older-counts, older-default}
 use Rattle.older.proofs.Numbered.{default-kept}
 
 -- ## Acceptance goes down the levels

@@ -9,13 +9,13 @@ use lib.ListN.{length, getD, replicate, length-append, length-map, length-replic
 use Rattle.rom.specs.Bytes.{pick}
 use Rattle.block.specs.Block.{sizeOf}
 use Rattle.header.specs.Image.{restFrom}
-use Rattle.leaf.specs.Leaf.{Place, placed, keep, table, isListed, one, tableOf}
 use Rattle.header.specs.Header.{rowFor, startFor, countFor}
-use Rattle.reader.specs.Reading.{blocksFor, acceptedAnswer}
+use Rattle.leaf.specs.Leaf.{Place, placed, keep, table, isListed, one, tableOf}
 use Rattle.leaf.proofs.Cuts.{cut-length}
+use Rattle.reader.specs.Reading.{blocksFor, acceptedAnswer}
 use Rattle.autosense.specs.Walk.{none, rowLength, flags, blockIs, isInvalid, isUp, rowsOf, loadedWalk, lastBelow, isCandidate, firstUp}
-use Rattle.older.specs.Claims.{FlagForEach, RowsSay, numbersFrom, entryNumbers, firstOf, TableNumbers, FirstInOrder}
 use Rattle.autosense.proofs.Loads.{few-blocks}
+use Rattle.older.specs.Claims.{FlagForEach, RowsSay, numbersFrom, entryNumbers, firstOf, TableNumbers, FirstInOrder}
 use Rattle.older.proofs.Numbered.{flag-block}
 use Rattle.older.proofs.OlderReadings.{parts}
 use Rattle.older.proofs.Simulation.{last-same}

@@ -9,9 +9,9 @@ use Rattle.rom.specs.Refusal.{firstMet, Numbered}
 use Rattle.rom.proofs.First.{exact, numbered-append}
 use Rattle.header.specs.declared.Arguments.{Arguments}
 use Rattle.header.specs.Header.{rowFor, headerCauses}
-use Rattle.reader.specs.Reading.{blocksFor, leafCausesFor, judgeCauses}
 use Rattle.header.proofs.Headers.{header-numbered}
 use Rattle.leaf.proofs.Cuts.{leaf-numbered}
+use Rattle.reader.specs.Reading.{blocksFor, leafCausesFor, judgeCauses}
 use Rattle.autosense.specs.declared.Walk.{Walk}
 use Rattle.autosense.specs.Walk.{lookCauses, loadCauses, walkedTo, loadFor, lookFor}
 use Rattle.older.specs.Claims.{ExactLoad, ExactLook, RefusedLoad, RefusedLook}

@@ -10,8 +10,8 @@ use lib.ListN.{getD}
 use Rattle.rom.specs.Bytes.{pick}
 use Rattle.rom.specs.Refusal.{firstMet}
 use Rattle.header.specs.declared.Arguments.{Arguments}
-use Rattle.leaf.specs.Leaf.{isListed, isDefault, firstFrom}
 use Rattle.header.specs.Header.{rowFor}
+use Rattle.leaf.specs.Leaf.{isListed, isDefault, firstFrom}
 use Rattle.reader.specs.Reading.{blocksFor, acceptedAnswer}
 use Rattle.autosense.specs.declared.Walk.{Walk}
 use Rattle.autosense.specs.Walk.{none, flags, flagAt, isUp, rowsOf, freshWalk, loadedWalk, lastBelow, stays, isCandidate, firstUp, upIn, choice, chosen, stepped, lookCauses, loadCauses, walkedTo, loadFor, lookFor, clearFor}

@@ -9,8 +9,8 @@ use lib.ListN.{length, getD}
 use Rattle.rom.specs.Bytes.{pick}
 use Rattle.rom.specs.Refusal.{firstMet, Exact}
 use Rattle.header.specs.declared.Arguments.{Arguments}
-use Rattle.leaf.specs.Leaf.{Place, placed, isListed, one}
 use Rattle.header.specs.Header.{rowFor, startFor}
+use Rattle.leaf.specs.Leaf.{Place, placed, isListed, one}
 use Rattle.reader.specs.Reading.{blocksFor, tableFor, judgeCauses}
 use Rattle.autosense.specs.declared.Walk.{Walk}
 use Rattle.autosense.specs.Walk.{none, rowLength, blockIs, flagAt, isInvalid, isUp, freshWalk, loadedWalk, firstUp, lookCauses, loadCauses, loadFor, lookFor, clearFor}

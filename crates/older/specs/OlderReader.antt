@@ -10,12 +10,12 @@ use Rattle.rom.specs.Refusal.{firstMet}
 use Rattle.block.specs.Format.{newestLevel}
 use Rattle.block.specs.Block.{isKnown}
 use Rattle.header.specs.declared.Arguments.{Arguments}
-use Rattle.reader.specs.declared.Answer.{Answer}
-use Rattle.leaf.specs.Leaf.{countOf}
-use Rattle.older.specs.Levels.{onlyNewest, isRemoved}
 use Rattle.header.specs.Header.{rowFor}
+use Rattle.leaf.specs.Leaf.{countOf}
+use Rattle.reader.specs.declared.Answer.{Answer}
 use Rattle.reader.specs.Reading.{blocksFor, judgeCauses, judgeAnswer}
 use Rattle.autosense.specs.Walk.{none, blockIs, freshWalk}
+use Rattle.older.specs.Levels.{onlyNewest, isRemoved}
 use Rattle.older.specs.Calls.{Call, Down, run}
 use Rattle.older.specs.Written.{Arrays, Room, answerOf, Entry, tableIn, those}
 

@@ -5,8 +5,8 @@ use mathlib.Core.Bool.{Bool}
 use lib.ListN.{length, take}
 use Rattle.rom.specs.Bytes.{pick}
 use Rattle.header.specs.declared.Arguments.{Arguments}
-use Rattle.reader.specs.declared.Answer.{Answer}
 use Rattle.header.specs.Header.{countFor}
+use Rattle.reader.specs.declared.Answer.{Answer}
 use Rattle.reader.specs.Reading.{readAnswer, readKinds, readOffsets}
 
 pub record Arrays : Type 0 where

@@ -8,8 +8,8 @@ use lib.Seq.{getD-at}
 use Rattle.rom.specs.Refusal.{firstMet}
 use Rattle.block.specs.Block.{sizeOf}
 use Rattle.leaf.specs.Leaf.{cut, blockCauses, Place, table, tableOf}
-use Rattle.reader.specs.Table.{noPart, partAt, entryPart}
 use Rattle.leaf.proofs.Tables.{Every, every-at, Lies, every-lies}
+use Rattle.reader.specs.Table.{noPart, partAt, entryPart}
 
 -- ## In a table
 

@@ -16,9 +16,9 @@ use Rattle.block.specs.Block.{sizeOf}
 use Rattle.block.specs.Answer.{blockOf, numberOf, sizeIn, listedIn, kindIn}
 use Rattle.block.proofs.Seen.{Seen, refused, unknown, a-reset, a-medium, seen-size, seen-kind}
 use Rattle.leaf.specs.Leaf.{cut, isListed, blockCauses, Place, placed, keep, table, kindAt, startAt}
-use Rattle.reader.specs.Table.{written, stored}
 use Rattle.leaf.proofs.Cuts.{cut-more, cut-none, rest-part, next-seen, next-fine, next-left}
 use Rattle.leaf.proofs.Tables.{entry, table-cons, table-more}
+use Rattle.reader.specs.Table.{written, stored}
 
 -- one entry more at the front of an array, by one store
 written-set : (f : Place → ℕ) (t : List Place) (x : Place) (a : List ℕ) → length t < length a → written f t (set a (length t) (f x)) ≡ written f (t ++ x ∷ []) a

@@ -12,11 +12,11 @@ use Rattle.block.specs.declared.Block.{Block}
 use Rattle.block.specs.Block.{sizeOf}
 use Rattle.block.specs.Answer.{blockOf, numberOf, sizeIn, listedIn}
 use Rattle.block.proofs.Seen.{Seen, seen-size}
-use Rattle.reader.specs.declared.Part.{Part}
 use Rattle.leaf.specs.Leaf.{cut, isListed, blockCauses, Place, placed, keep, table}
-use Rattle.reader.specs.Table.{partAt, entryPart}
 use Rattle.leaf.proofs.Cuts.{cut-more, cut-none, rest-part, next-seen, next-fine, next-left}
 use Rattle.leaf.proofs.Tables.{few-one, entry, seen-listed, table-cons, table-more}
+use Rattle.reader.specs.declared.Part.{Part}
+use Rattle.reader.specs.Table.{partAt, entryPart}
 use Rattle.reader.proofs.Entries.{part-front, part-last}
 
 -- `behind` counts the entries of the blocks ps that are left

@@ -11,15 +11,15 @@ use Rattle.rom.specs.Bytes.{pick}
 use Rattle.rom.specs.Refusal.{Exact, Numbered, firstMet}
 use Rattle.rom.proofs.First.{exact, numbered-append, both-accepted}
 use Rattle.header.specs.declared.Arguments.{Arguments}
-use Rattle.reader.specs.declared.Part.{Part}
 use Rattle.header.specs.Image.{restFrom}
-use Rattle.reader.specs.Table.{entryPart}
 use Rattle.header.specs.Header.{rowFor, startFor, countFor, headerCauses}
-use Rattle.reader.specs.Reading.{blocksFor, tableFor, leafCausesFor, judgeCauses, readCauses, acceptedAnswer, judgeAnswer, readAnswer, partFor, viewFor}
-use Rattle.reader.specs.Promises.{ExactReading, CountsAddUp, ViewIsBlock}
 use Rattle.header.proofs.Headers.{header-numbered, start-fits}
 use Rattle.leaf.proofs.Cuts.{leaf-numbered, accepted-blocks}
 use Rattle.leaf.proofs.Counts.{sorts-add-up}
+use Rattle.reader.specs.declared.Part.{Part}
+use Rattle.reader.specs.Table.{entryPart}
+use Rattle.reader.specs.Reading.{blocksFor, tableFor, leafCausesFor, judgeCauses, readCauses, acceptedAnswer, judgeAnswer, readAnswer, partFor, viewFor}
+use Rattle.reader.specs.Promises.{ExactReading, CountsAddUp, ViewIsBlock}
 use Rattle.reader.proofs.Entries.{entry-inside, entry-bytes, entry-after}
 use Rattle.reader.proofs.Readings.{answer-number}
 

@@ -12,21 +12,21 @@ use Rattle.rom.specs.Bytes.{pick}
 use Rattle.rom.specs.Refusal.{Cause, _⇒_, firstMet}
 use Rattle.rom.proofs.First.{none-here, after-accepted, after-refused, both-accepted}
 use Rattle.header.specs.declared.Arguments.{Arguments}
-use Rattle.reader.specs.declared.Answer.{Answer}
-use Rattle.reader.specs.declared.Part.{Part}
-use Rattle.reader.specs.declared.Reading.{Reading}
 use Rattle.header.specs.declared.Header.{Header}
-use Rattle.leaf.specs.declared.Tally.{Tally}
 use Rattle.header.specs.Image.{restFrom}
-use Rattle.leaf.specs.Leaf.{Place, cut, blockCauses, tableOf}
-use Rattle.reader.specs.Table.{written, noPart, entryPart}
-use Rattle.leaf.specs.Tally.{tallyOf, counts}
 use Rattle.header.specs.Header.{rowFor, startFor, countFor, headerCauses, foundHeader, headerFor}
-use Rattle.reader.specs.Reading.{blocksFor, tableFor, leafCausesFor, judgeCauses, readCauses, refusedAnswer, acceptedAnswer, answerFor, judgeAnswer, readAnswer, readInto, partFor, viewFor, answerFrom, refusedReading, acceptedReading, readingWith, readingFor, judgedReading}
 use Rattle.header.proofs.Headers.{header-numbered, whole-image, start-fits, read-number, no-refusal, read-found, read-count}
+use Rattle.leaf.specs.declared.Tally.{Tally}
+use Rattle.leaf.specs.Leaf.{Place, cut, blockCauses, tableOf}
+use Rattle.leaf.specs.Tally.{tallyOf, counts}
 use Rattle.leaf.proofs.Cuts.{accepted-blocks}
 use Rattle.leaf.proofs.Counts.{tally-number, tally-accepted, sorts-add-up}
 use Rattle.leaf.proofs.Tables.{listed-length}
+use Rattle.reader.specs.declared.Answer.{Answer}
+use Rattle.reader.specs.declared.Part.{Part}
+use Rattle.reader.specs.declared.Reading.{Reading}
+use Rattle.reader.specs.Table.{written, noPart, entryPart}
+use Rattle.reader.specs.Reading.{blocksFor, tableFor, leafCausesFor, judgeCauses, readCauses, refusedAnswer, acceptedAnswer, answerFor, judgeAnswer, readAnswer, readInto, partFor, viewFor, answerFrom, refusedReading, acceptedReading, readingWith, readingFor, judgedReading}
 use Rattle.reader.proofs.Entries.{entry-inside}
 
 -- ## The number of a reading

@@ -6,8 +6,8 @@ use lib.ListN.{length, take, getD}
 use Rattle.rom.specs.Refusal.{Exact, firstMet}
 use Rattle.block.specs.Block.{sizeOf}
 use Rattle.header.specs.declared.Arguments.{Arguments}
-use Rattle.leaf.specs.Leaf.{Place}
 use Rattle.header.specs.Header.{rowFor}
+use Rattle.leaf.specs.Leaf.{Place}
 use Rattle.reader.specs.Reading.{tableFor, judgeCauses, readCauses, acceptedAnswer, judgeAnswer, readAnswer, viewFor}
 
 -- a number other than 0 means that its cause is met and none before it; 0 that none is met

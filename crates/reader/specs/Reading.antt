@@ -8,14 +8,14 @@ use lib.ListN.{length, take, drop}
 use Rattle.rom.specs.Bytes.{pick, wordAt}
 use Rattle.rom.specs.Refusal.{Cause, _⇒_, firstMet}
 use Rattle.header.specs.declared.Arguments.{Arguments}
-use Rattle.reader.specs.declared.Answer.{Answer}
 use Rattle.header.specs.declared.Header.{Header}
-use Rattle.reader.specs.declared.Reading.{Reading}
-use Rattle.leaf.specs.declared.Tally.{Tally}
-use Rattle.reader.specs.declared.Part.{Part}
 use Rattle.header.specs.Image.{addressOf, controlByte, restFrom}
 use Rattle.header.specs.Header.{rowFor, leafFor, startFor, countFor, headerCauses}
+use Rattle.leaf.specs.declared.Tally.{Tally}
 use Rattle.leaf.specs.Leaf.{Place, cut, isListed, isReset, isSkipped, isDefault, countOf, firstFrom, leafCauses, kindAt, startAt, tableOf}
+use Rattle.reader.specs.declared.Answer.{Answer}
+use Rattle.reader.specs.declared.Reading.{Reading}
+use Rattle.reader.specs.declared.Part.{Part}
 use Rattle.reader.specs.Table.{written, noPart, entryPart}
 
 -- ## The leaf that the arguments name

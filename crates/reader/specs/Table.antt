@@ -5,8 +5,8 @@ use lib.ListN.{length, drop, set, getD}
 use Rattle.block.specs.declared.Block.{Block}
 use Rattle.block.specs.declared.Block.the-variants.{Listed, Reset, Unknown, Refused}
 use Rattle.block.specs.Block.{sizeOf}
-use Rattle.reader.specs.declared.Part.{Part}
 use Rattle.leaf.specs.Leaf.{Place, table}
+use Rattle.reader.specs.declared.Part.{Part}
 
 -- an array with the table's numbers at its front, and its other elements unchanged
 unfoldable pub written : (Place → ℕ) → List Place → List ℕ → List ℕ

@@ -6,8 +6,8 @@ use Rattle.crc.specs.Crc.{sromCrc, idCrc}
 use Rattle.block.specs.Format.{chips, placeOf, rowOf, connections21041, connections21140, connections21142, connectionRows, isConnection, permittedRows, isPermitted, siaCodes, portCodes, symCodes, neverDefault}
 use Rattle.block.specs.Block.{isExtended, lengthOf, siaSize, sizeOf, kindOf, isKnown, gCount, rCount, capabilitiesAt, lengthFor, isWrong, badSiaCode, badPlainCode, badCommand, countsAsDefault, exceeds, sia, port, symbol, phy, reset, factsOf, causes}
 use Rattle.header.specs.Image.{versions, controllerCount, reservedAt, baseAddress, addressOf, leafAt, headerLength, controlByte, blocksAt, blockCount, restFrom, badCount, imageCauses, argumentCauses, leafHeaderCauses}
-use Rattle.leaf.specs.Leaf.{cut, isReset, isDefault, resetsPhy, countOf, clash, blockCauses, clashCause, leafCauses}
 use Rattle.header.specs.Header.{headerCauses}
+use Rattle.leaf.specs.Leaf.{cut, isReset, isDefault, resetsPhy, countOf, clash, blockCauses, clashCause, leafCauses}
 use Rattle.reader.specs.Reading.{leafCausesFor, judgeCauses}
 use Rattle.sheet.specs.Lists.{wordBytes, sum, allZero, padded, over}
 use Rattle.sheet.specs.Sheet.{headOf, kindBytes, sizeBytes, bodyBytes, partsOf, sheetOf, entriesFrom, sheetFrom, isSheet}

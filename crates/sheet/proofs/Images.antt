@@ -16,11 +16,11 @@ use Rattle.rom.proofs.First.{none-here, both-accepted}
 use Rattle.crc.specs.Crc.{sromCrc, idCrc, idWords, word}
 use Rattle.block.specs.Format.{chips, rowOf, row21140, newestLevel}
 use Rattle.header.specs.Image.{controllerCount, reservedAt, leafAt, headerLength, controlByte, blocksAt, blockCount, restFrom, badCount, imageCauses, argumentCauses}
-use Rattle.leaf.specs.Leaf.{cut, blockCauses}
 use Rattle.header.specs.Header.{leafFor, startFor, countFor, headerCauses}
-use Rattle.reader.specs.Reading.{blocksFor, leafCausesFor, judgeCauses}
 use Rattle.header.proofs.Headers.{image-numbered, argument-numbered, header-numbered}
+use Rattle.leaf.specs.Leaf.{cut, blockCauses}
 use Rattle.leaf.proofs.Cuts.{accepted-blocks}
+use Rattle.reader.specs.Reading.{blocksFor, leafCausesFor, judgeCauses}
 use Rattle.sheet.specs.Lists.{Bytes, wordBytes, allZero, padded}
 use Rattle.sheet.specs.Record.{Plain}
 use Rattle.sheet.specs.Sheet.{sheetOf}

@@ -15,9 +15,9 @@ use Rattle.rom.proofs.First.{exact, numbered-append, none-here, after-accepted,
 use Rattle.rom.proofs.Reached.{end, skip, reached}
 use Rattle.block.specs.Format.{chips}
 use Rattle.header.specs.Header.{headerCauses}
-use Rattle.reader.specs.Reading.{leafCausesFor, judgeCauses}
 use Rattle.header.proofs.Headers.{header-numbered}
 use Rattle.leaf.proofs.Cuts.{leaf-numbered}
+use Rattle.reader.specs.Reading.{leafCausesFor, judgeCauses}
 use Rattle.sheet.specs.Lists.{Bytes, over}
 use Rattle.sheet.specs.Record.{Plain}
 use Rattle.sheet.specs.Sheet.{sheetOf, chipIn, sheetFrom, isSheet}

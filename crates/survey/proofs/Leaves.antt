@@ -11,9 +11,9 @@ use Rattle.rom.specs.Refusal.{firstMet}
 use Rattle.header.specs.declared.Arguments.{Arguments}
 use Rattle.header.specs.declared.Header.{Header}
 use Rattle.header.specs.Image.{restFrom}
-use Rattle.leaf.specs.Leaf.{cut, firstFrom}
 use Rattle.header.specs.Header.{startFor, countFor, headerCauses, foundHeader, headerFor}
 use Rattle.header.proofs.Headers.{read-number, no-refusal, read-found, read-count}
+use Rattle.leaf.specs.Leaf.{cut, firstFrom}
 use Rattle.survey.specs.Survey.{hasLeaf, noPlace, placeFrom, placeFor, isRefused, refusedFor}
 use Rattle.survey.proofs.Stepping.{stands-behind}
 

@@ -10,10 +10,10 @@ use Rattle.rom.specs.Refusal.{firstMet}
 use Rattle.rom.proofs.First.{after-accepted, after-refused}
 use Rattle.block.specs.Block.{sizeOf, causes, refusalOf}
 use Rattle.block.proofs.Exact.{causes-numbered}
-use Rattle.leaf.specs.Leaf.{firstFrom, blockCauses, leafCauses, placed, Place as Standing}
 use Rattle.header.specs.Header.{rowFor, startFor, headerCauses}
-use Rattle.reader.specs.Reading.{blocksFor, leafCausesFor, judgeCauses, judgeAnswer}
 use Rattle.header.proofs.Headers.{header-numbered}
+use Rattle.leaf.specs.Leaf.{firstFrom, blockCauses, leafCauses, placed, Place as Standing}
+use Rattle.reader.specs.Reading.{blocksFor, leafCausesFor, judgeCauses, judgeAnswer}
 use Rattle.reader.proofs.Readings.{answer-number}
 use Rattle.survey.specs.Survey.{isRefused, refusedFor}
 use Rattle.survey.specs.Promises.{NamesTheBlock}

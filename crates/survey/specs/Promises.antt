@@ -5,8 +5,8 @@ use mathlib.Core.List.{List}
 use Rattle.rom.specs.Refusal.{firstMet}
 use Rattle.block.specs.Block.{refusalOf}
 use Rattle.header.specs.declared.Arguments.{Arguments}
-use Rattle.leaf.specs.Leaf.{blockCauses}
 use Rattle.header.specs.Header.{rowFor, headerCauses}
+use Rattle.leaf.specs.Leaf.{blockCauses}
 use Rattle.reader.specs.Reading.{blocksFor, judgeAnswer}
 use Rattle.survey.specs.Survey.{refusedFor, standingFor}
 

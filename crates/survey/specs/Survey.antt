@@ -9,8 +9,8 @@ use Rattle.rom.specs.Bytes.{pick}
 use Rattle.rom.specs.Refusal.{firstMet}
 use Rattle.block.specs.Block.{sizeOf, kindOf, refusalOf}
 use Rattle.header.specs.declared.Arguments.{Arguments}
-use Rattle.leaf.specs.Leaf.{firstFrom, placed, Place as Standing}
 use Rattle.header.specs.Header.{rowFor, startFor, countFor, headerCauses}
+use Rattle.leaf.specs.Leaf.{firstFrom, placed, Place as Standing}
 use Rattle.reader.specs.Reading.{blocksFor}
 use Rattle.survey.specs.declared.Place.{Place}
 

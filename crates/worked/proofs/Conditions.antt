@@ -12,15 +12,15 @@ use Rattle.block.specs.Format.{newestLevel, chips, placeOf, rowOf, connections2
 use Rattle.block.specs.Block.{isExtended, lengthOf, sizeOf, kindOf, isKnown, lengthFor, isWrong, badSiaCode, badPlainCode, countsAsDefault, sia, symbol, factsOf, causes}
 use Rattle.header.specs.declared.Arguments.{Arguments}
 use Rattle.header.specs.Image.{versions, controllerCount, reservedAt, baseAddress, addressOf, leafAt, headerLength, controlByte, blocksAt, blockCount, restFrom, badCount, imageCauses, argumentCauses, leafHeaderCauses}
-use Rattle.leaf.specs.Leaf.{cut, isListed, isReset, isSkipped, isDefault, resetsPhy, countOf, firstFrom, clash, blockCauses, clashCause, leafCauses}
 use Rattle.header.specs.Header.{headerCauses}
+use Rattle.leaf.specs.Leaf.{cut, isListed, isReset, isSkipped, isDefault, resetsPhy, countOf, firstFrom, clash, blockCauses, clashCause, leafCauses}
 use Rattle.reader.specs.Reading.{leafCausesFor, judgeCauses, acceptedAnswer, answerFor, judgeAnswer}
 use Rattle.autosense.specs.Walk.{none, served, isServed, noFlags, flags, blockIs, flagAt, isInvalid, rowsOf, freshWalk, loadedWalk, lastBelow, anyBelow, stays, isCandidate, firstUp, upIn, chosen, switched, stepped, badReport, lookCauses, loadCauses, walkedTo, loadFor, lookFor}
 use Rattle.older.specs.Calls.{Call, load, look, Seen, fresh, loaded, After, call, seen, after, run}
 use Rattle.older.specs.OlderReader.{removedBlock, atLevel}
+use Rattle.older.proofs.Numbered.{flag-none}
 use Rattle.worked.specs.Conditions.{RemovedDefault, RemovedUp}
 use Rattle.worked.specs.Cases.{unsealed, sealed, imageWith}
-use Rattle.older.proofs.Numbered.{flag-none}
 
 abbrev for21143 : Arguments
 for21143 = record { chip = 21143; controller = 0; level = newestLevel }

@@ -6,11 +6,11 @@ use Rattle.crc.specs.Crc.{sromCrc, idCrc}
 use Rattle.block.specs.Format.{chips, placeOf, rowOf, connections21041, connections21140, connections21142, connectionRows, isConnection, permittedRows, isPermitted, siaCodes, portCodes, symCodes, neverDefault}
 use Rattle.block.specs.Block.{isExtended, lengthOf, siaSize, sizeOf, kindOf, isKnown, gCount, rCount, capabilitiesAt, lengthFor, isWrong, badSiaCode, badPlainCode, badCommand, countsAsDefault, exceeds, sia, port, symbol, phy, reset, factsOf, causes}
 use Rattle.header.specs.Image.{versions, controllerCount, reservedAt, baseAddress, addressOf, leafAt, headerLength, controlByte, blocksAt, blockCount, restFrom, badCount, imageCauses, argumentCauses, leafHeaderCauses}
-use Rattle.leaf.specs.Leaf.{cut, isListed, isReset, isSkipped, isDefault, resetsPhy, countOf, firstFrom, clash, blockCauses, clashCause, leafCauses, placed, keep, table, tableOf}
-use Rattle.reader.specs.Table.{written}
 use Rattle.header.specs.Header.{headerCauses}
-use Rattle.reader.specs.Reading.{leafCausesFor, judgeCauses, refusedAnswer, acceptedAnswer, answerFor, readCauses, readAnswer, readInto, readKinds, readOffsets}
+use Rattle.leaf.specs.Leaf.{cut, isListed, isReset, isSkipped, isDefault, resetsPhy, countOf, firstFrom, clash, blockCauses, clashCause, leafCauses, placed, keep, table, tableOf}
 use Rattle.leaf.specs.Cases as leaves
+use Rattle.reader.specs.Table.{written}
+use Rattle.reader.specs.Reading.{leafCausesFor, judgeCauses, refusedAnswer, acceptedAnswer, answerFor, readCauses, readAnswer, readInto, readKinds, readOffsets}
 use Rattle.autosense.specs.Walk.{served, isServed, noFlags, flags, flagAt, isInvalid, rowsOf, freshWalk, loadedWalk, lastBelow, anyBelow, stays, isCandidate, firstUp, upIn, chosen, switched, stepped, badReport, lookCauses, loadCauses, walkedTo, loadFor, lookFor}
 use Rattle.older.specs.Calls.{call, seen, after, run}
 use Rattle.older.specs.Written.{answerOf, entries, tableIn}

@@ -11,8 +11,8 @@ use Rattle.rom.specs.Bytes.{byteAt}
 use Rattle.block.specs.Format.{kindCompact, kind21041}
 use Rattle.block.specs.Block.{siaSize}
 use Rattle.sheet.specs.Write.{isOtherFamily, isBadBody, isBad}
-use Rattle.writer.specs.Inside.{entry}
 use Rattle.sheet.proofs.Basics.{pick-true, pick-false}
+use Rattle.writer.specs.Inside.{entry}
 
 module _ (k : ℕ) (b : List ℕ) where
   pub bad-21041 : (first size : ℕ) → k ≡ kind21041 → first ≡ byteAt b 0 → size ≡ siaSize first → not (eqb (length b) size) ≡ isBadBody k b

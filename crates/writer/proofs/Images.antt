@@ -13,9 +13,9 @@ use Rattle.sheet.specs.Lists.{wordBytes, padded, put}
 use Rattle.sheet.specs.Layout.{headLength}
 use Rattle.sheet.specs.Sheet.{sheetFrom}
 use Rattle.sheet.specs.Image.{leafStart, frontWith, frontOf, leafOf, coveredOf, imageOf}
-use Rattle.writer.specs.Inside.{zeros, frameOf, identified, sealed, Writable}
 use Rattle.sheet.proofs.Crcs.{srom-front}
 use Rattle.sheet.proofs.Basics.{padded-length, spell, spelled}
+use Rattle.writer.specs.Inside.{zeros, frameOf, identified, sealed, Writable}
 use Rattle.writer.proofs.Checksums.{id-front}
 use Rattle.writer.proofs.Sheets.{has-head, leaf-fits}
 

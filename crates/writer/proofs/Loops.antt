@@ -17,9 +17,9 @@ use Rattle.sheet.specs.Sheet.{entriesFrom}
 use Rattle.sheet.specs.Image.{encode, encodes}
 use Rattle.sheet.specs.Write.{isBad, anyBad}
 use Rattle.sheet.specs.Lists.{put}
-use Rattle.writer.specs.Inside.{entry, openingSize, Parts, Fits, Holds, entryCauses}
 use Rattle.sheet.proofs.Basics.{or-false}
 use Rattle.sheet.proofs.Put.{put-length, put-take, put-drop}
+use Rattle.writer.specs.Inside.{entry, openingSize, Parts, Fits, Holds, entryCauses}
 use Rattle.writer.proofs.Openings.{encode-length, size-small}
 use Rattle.writer.proofs.Parts.{entries-none, next, next-body, rests, first}
 

@@ -14,8 +14,8 @@ use Rattle.rom.proofs.First.{after-accepted, after-refused}
 use Rattle.rom.proofs.Reached.{reached, stop, skip}
 use Rattle.block.specs.Format.{chips, rowOf}
 use Rattle.block.proofs.Lists.{in-place}
-use Rattle.reader.specs.declared.Answer.{Answer}
 use Rattle.header.specs.Image.{headerLength}
+use Rattle.reader.specs.declared.Answer.{Answer}
 use Rattle.reader.specs.Reading.{judgeCauses, judgeAnswer}
 use Rattle.reader.proofs.Readings.{answer-number}
 use Rattle.sheet.specs.Record.{Plain}
@@ -23,8 +23,8 @@ use Rattle.sheet.specs.Sheet.{sheetFrom, isSheet}
 use Rattle.sheet.specs.Image.{leafStart, encodes, leafOf, imageOf, newest}
 use Rattle.sheet.specs.Write.{anyBad, strayControl, cannotHold, recordCauses, writeCauses, writeNumber, written}
 use Rattle.sheet.proofs.Returns.{record-numbered}
-use Rattle.writer.specs.Inside.{entryCauses}
 use Rattle.sheet.proofs.Basics.{pick-true, pick-false}
+use Rattle.writer.specs.Inside.{entryCauses}
 use Rattle.writer.proofs.Tests.{or-second}
 use Rattle.writer.proofs.Sheets.{leaf-length}
 

@@ -11,10 +11,10 @@ use Rattle.block.specs.Format.{kindCompact, kind21041}
 use Rattle.sheet.specs.Image.{isWhole, openingOf, encode}
 use Rattle.sheet.specs.Write.{isOtherFamily, isBadBody, isBad}
 use Rattle.sheet.specs.Lists.{put}
-use Rattle.writer.specs.Inside.{entry, openingSize, Fits}
 use Rattle.sheet.proofs.Basics.{or-false, pick-true, pick-false}
-use Rattle.writer.proofs.Tests.{or-true, or-second}
 use Rattle.sheet.proofs.Put.{put-none, put-two, put-put, put-length}
+use Rattle.writer.specs.Inside.{entry, openingSize, Fits}
+use Rattle.writer.proofs.Tests.{or-true, or-second}
 
 module _ (k : ℕ) where
   pub whole-compact : k ≡ kindCompact → isWhole k ≡ true

@@ -19,9 +19,9 @@ use Rattle.sheet.specs.Record.{Entry, Plain}
 use Rattle.sheet.specs.Sheet.{countIn, totalIn, kindsIn, sizesIn, bodiesIn, entriesFrom, sheetFrom, isSheet}
 use Rattle.sheet.specs.Image.{leafStart, encodes, controlBytes, leafHeadOf, leafOf}
 use Rattle.sheet.specs.Write.{anyBad, cannotHold, recordCauses}
-use Rattle.writer.specs.Inside.{Parts, Holds, Writable}
 use Rattle.sheet.proofs.Basics.{and-true, or-false, pick-true, pick-false}
 use Rattle.sheet.proofs.Put.{put-one, put-two, put-put, put-length}
+use Rattle.writer.specs.Inside.{Parts, Holds, Writable}
 use Rattle.writer.proofs.Parts.{entries-length}
 
 -- ## Length and sum

@@ -3,7 +3,7 @@ use Prim.Native.Nat.{ℕ, _+_, _-_, _*_, _≤_}
 use mathlib.Core.Path.{_≡_}
 use mathlib.Core.List.{List, [], _∷_, _++_}
 use mathlib.Core.Bool.{true, false}
-use lib.ListN.{length, take, drop, set, replicate}
+use lib.ListN.{length, take, set, replicate}
 use lib.Dec.{ltb}
 use Rattle.rom.specs.Geometry.{imageLength, leavesEnd, checkedLength, idCrcAt}
 use Rattle.rom.specs.Bytes.{pick}

@@ -2,8 +2,8 @@
 use native.Mathlib.Omega.{arith}
 use mathlib.Core.Path.{refl}
 use borrow.Author.Tests.{not-true, not-false}
-use Rattle.sheet.specs.Image.{newest}
 use Rattle.reader.proofs.Readings.{reading-start, reading-end}
+use Rattle.sheet.specs.Image.{newest}
 use Rattle.maker.proofs.Making.{refused-done, make-refused, is-read, blocks-read, end-fits, make-untidy, make-short, make-room, make-done}
 use borrow.Author.Needs.{needs}
 use Rattle.maker.proofs.make.Statement.{statement}

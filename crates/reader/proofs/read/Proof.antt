@@ -2,8 +2,8 @@
 use Prim.Native.Nat.{ℕ}
 use lib.ListN.{length}
 use denote.Ref.{now}
-use Rattle.leaf.specs.Leaf.{kindAt, startAt}
 use Rattle.header.specs.Header.{rowFor}
+use Rattle.leaf.specs.Leaf.{kindAt, startAt}
 use Rattle.reader.specs.Reading.{readKinds, readOffsets}
 use Rattle.reader.proofs.Readings.{answer-read, unchanged, accepted-read, reading-start, reading-end, reading-blocks, reading-listed, reading-short, room-kinds, room-offsets, filled-in}
 use mathlib.Core.Path.{_∙_}

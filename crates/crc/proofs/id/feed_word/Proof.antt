@@ -1,6 +1,6 @@
 -- A word is its high byte and then its low byte. Assumes nothing.
 use Prim.Native.Nat.{_*_}
-use Rattle.crc.proofs.Identity.{word-at-once}
+use Rattle.crc.proofs.Identity.{word-fed}
 use borrow.Author.Needs.{needs}
 use Rattle.crc.proofs.id.feed_word.Statement.{statement}
 use Rattle.crc.proofs.id.feed_word.Tie as tie
@@ -25,9 +25,12 @@ feed-requires-2 c κs = search needs
 
 returns : tie.Need-returns
 returns c =
-    let known = c .before .before .before .before .before .before in
+    let high = c .before .before in
+    let low = high .before .before in
+    let known = low .before .before in
     let a = known .before .args in
-    cc (word-at-once (a .register) (a .w .0) (a .image .now) (known .shared-slice-known .given (2 * a .w .0) .fits))
+    word-fed (a .image .now) (a .w .0) (a .register) _ _ _ _ _ _ (known .shared-slice-known .given (2 * a .w .0) .fits)
+    (low .before .low-byte .ensures) (low .byte-at .ensures) (high .before .high-byte .ensures) (high .byte-at2 .ensures) (c .before .feed .ensures) (c .feed2 .ensures)
 
 pub feed-word-spec : {M : Type 1} → statement M
 feed-word-spec =

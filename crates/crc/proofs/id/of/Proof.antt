@@ -5,7 +5,7 @@ use native.Mathlib.Omega.{arith}
 use borrow.Author.Needs.{needs}
 use Rattle.crc.specs.Crc.{idWords, ones}
 use Rattle.crc.specs.Tables.{idTable}
-use Rattle.crc.proofs.Identity.{words-more, words-done}
+use Rattle.crc.proofs.Identity.{words-next, words-done}
 use Rattle.crc.proofs.id.of.Statement.{statement}
 use Rattle.crc.proofs.id.of.Tie as tie
 
@@ -36,7 +36,7 @@ loop-again c =
     let t = c .before .before in
     let l = t .before .loop in
     let e = t .before .before .before .before in
-    (omega arith, cc (words-more 8 (l .w) (l .register) (e .args .image .now) (omega arith)), l .inv .2)
+    (omega arith, words-next (e .args .image .now) (l .w) (l .register) _ _ (omega arith) (c .feed-word .ensures) (l .inv .1), l .inv .2)
 
 high-byte-requires : tie.Need-high-byte-requires Inv-loop μ-loop
 high-byte-requires c κs = search needs

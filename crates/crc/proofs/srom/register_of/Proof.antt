@@ -1,8 +1,8 @@
 -- The loop keeps the register read in reverse, the next byte already XORed in; what is left to feed is the rest of the
 -- checked bytes. Assumes nothing.
 use Prim.Native.Nat.{_≤_, _-_}
-use mathlib.Core.Path.{_≡_, _∙_}
-use lib.Bits.{xor-zero-r}
+use mathlib.Core.Path.{_≡_, ap, _∙_}
+use lib.Bits.{bitXor, xor-zero-r}
 use lib.Dec.{lit<}
 use lib.ListN.{take, drop}
 use native.Mathlib.Omega.{arith}
@@ -37,7 +37,7 @@ loop-holds : tie.Need-loop-holds Inv-loop μ-loop
 loop-holds c =
     let known = c .before .before in
     let e = known .before in
-    (omega arith, first-byte reflected checkedLength (e .args .image .now) (e .pre) (ones 32) _ (lit< tt) (known .shared-slice-known .given 0 .fits) (cc), c .before .table .ensures)
+    (omega arith, first-byte reflected checkedLength (e .args .image .now) (e .pre) (ones 32) _ (lit< tt) (known .shared-slice-known .given 0 .fits) (ap (bitXor (ones 32)) (c .byte-at .ensures)), c .before .table .ensures)
 
 byte-at-requires-2 : tie.Need-byte-at-requires-2 Inv-loop μ-loop
 byte-at-requires-2 c κs = search needs
@@ -58,7 +58,7 @@ loop-again c =
     let e = known .before in (
       omega arith,
       next-byte reflected checkedLength (e .args .image .now) (e .pre) (l .at) (l .mixed) (c .turned .result) _ (omega arith)
-          (known .shared-slice-known .given (l .at) .fits) (cc) (l .inv .1),
+          (known .shared-slice-known .given (l .at) .fits) (c .turned .ensures ∙ ap (bitXor (turns reflected 8 (l .mixed))) (c .before .byte-at2 .ensures)) (l .inv .1),
       l .inv .2,
     )
 

@@ -7,8 +7,8 @@ use mathlib.Core.Path.{refl}
 use lib.ListN.{length}
 use denote.Ref.{now}
 use Rattle.leaf.specs.Leaf.{cut, placed, tableOf}
-use Rattle.reader.proofs.Filling.{Filling, fill-place, fill-more, fill-done}
 use Rattle.leaf.proofs.Cuts.{next-fits, part-ends}
+use Rattle.reader.proofs.Filling.{Filling, fill-place, fill-more, fill-done}
 use Rattle.reader.proofs.table.fill.Statement.{statement}
 use Rattle.reader.proofs.table.fill.Tie as tie
 
