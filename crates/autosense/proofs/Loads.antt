@@ -2,8 +2,8 @@
 use Prim.Native.Nat.{ℕ, zero, suc, _-_, _≤_, _<_, zero-le}
 use native.Mathlib.Omega.{arith}
 use mathlib.Core.List.{List}
-use mathlib.Core.Path.{_≡_, refl, sym}
-use mathlib.Core.Bool.{Bool, true, false, _||_}
+use mathlib.Core.Path.{_≡_, sym}
+use mathlib.Core.Bool.{Bool, true, false}
 use lib.Dec.{eqb, lit<}
 use lib.ListN.{length, take, drop, length-take, length-drop}
 use borrow.Author.Tests.{ne-eqb, leb-false, eqb-false}
@@ -11,6 +11,7 @@ use Rattle.rom.specs.Geometry.{leavesEnd}
 use Rattle.rom.specs.Bytes.{pick}
 use Rattle.rom.specs.Refusal.{firstMet}
 use Rattle.rom.proofs.First.{none-here, both-accepted}
+use Rattle.rom.proofs.Truth.{or-false}
 use Rattle.block.specs.Block.{sizeOf}
 use Rattle.block.proofs.Seen.{fits}
 use Rattle.block.proofs.Whole.{size-positive}
@@ -37,10 +38,6 @@ blocks-few row level (suc count) s e =
     let a = first-accepted row level s (cut row count (drop (sizeOf row s) s)) e in
     omega (arith, blocks-few row level count (drop (sizeOf row s) s) (a .1), length-drop (sizeOf row s) s, fits row level s (a .0), size-positive row s)
 
-first-false : (p q : Bool) → (p || q) ≡ false → p ≡ false
-first-false false q e = refl
-first-false true q e = let z : _≡_ {A = ℕ} 0 1 = cc in absurd (omega arith)
-
 header-positive : (row : ℕ) → 3 ≤ headerLength row
 unfolding headerLength pick
 header-positive row = go (eqb row 1)
@@ -60,8 +57,8 @@ start-late image a e =
     let i3 = none-here _ _ (lit< tt) (i2 .1) in
     let i4 = none-here _ _ (lit< tt) (i3 .1) in
     let i5 = none-here _ _ (lit< tt) (i4 .1) in
-    let some = eqb-false (controllerCount image) 0 (first-false _ _ (first-false _ _ (i5 .0))) in
-    let behind = leb-false (leafFor image a) (reservedAt image) (first-false _ _ (none-here _ _ (lit< tt) l .0)) in
+    let some = eqb-false (controllerCount image) 0 (or-false _ _ (or-false _ _ (i5 .0) .0) .0) in
+    let behind = leb-false (leafFor image a) (reservedAt image) (or-false _ _ (none-here _ _ (lit< tt) l .0) .0) in
     omega (arith, some, behind, header-positive (rowFor a))
 
 pub few-blocks : (image : List ℕ) (a : Arguments) → firstMet (headerCauses image a) ≡ 0 → firstMet (leafCausesFor image a) ≡ 0 → countFor image a ≤ 91

@@ -11,6 +11,7 @@ use Rattle.rom.specs.Geometry.{imageLength, leavesEnd, mostControllers}
 use Rattle.rom.specs.Bytes.{pick, byteAt, wordAt, isIn}
 use Rattle.rom.specs.Refusal.{firstMet, Numbered}
 use Rattle.rom.proofs.First.{numbered-append, none-here, after-accepted, after-refused, both-accepted}
+use Rattle.rom.proofs.Truth.{or-false}
 use Rattle.crc.specs.declared.Checksum.{Checksum}
 use Rattle.crc.specs.Crc.{sromCrc, idCrc}
 use Rattle.crc.specs.Answer.{sromAnswer, idAnswer}
@@ -174,11 +175,7 @@ module _ (image : List ℕ) (a : Arguments) where
   start-fits e =
       let g = both-accepted (imageCauses image) _ (image-numbered image) e .1 in
       let l = both-accepted (argumentCauses image a) _ (argument-numbered image a) g .1 in
-      ltb-false leavesEnd (startFor image a) (second (leb (leafFor image a) _) _ (none-here _ _ (lit< tt) l .0))
-    where
-      second : (p q : Bool) → (p || q) ≡ false → q ≡ false
-      second false q e = e
-      second true q e = let z : _≡_ {A = ℕ} 0 1 = cc in absurd (omega arith)
+      ltb-false leavesEnd (startFor image a) (or-false (leb (leafFor image a) _) _ (none-here _ _ (lit< tt) l .0) .1)
 
 -- The header that the code has read.
 module _ (image : List ℕ) (a : Arguments) (h : Header) (eh : h ≡ headerFor image a) where

@@ -12,6 +12,7 @@ use borrow.Author.Tests.{ltb-false, eqb-true, ne-eqb}
 use Rattle.rom.specs.Bytes.{pick}
 use Rattle.rom.specs.Refusal.{firstMet}
 use Rattle.rom.proofs.First.{none-here, after-accepted, after-refused}
+use Rattle.rom.proofs.Truth.{or-false}
 use Rattle.block.specs.declared.Block.{Block}
 use Rattle.block.specs.Block.{kindOf, isKnown, factsOf, reset, causes, refusalOf}
 use Rattle.block.specs.Answer.{blockOf, numberOf, sizeIn}
@@ -42,7 +43,7 @@ tally-accepted row level bs e = rw e
 pub accepted-defaults : (row level : ℕ) (bs : List (List ℕ)) → firstMet (leafCauses row level bs) ≡ 0 → countOf (isDefault row level) bs ≤ 1
 unfolding clashCause clash
 accepted-defaults row level bs e =
-    ltb-false 1 _ (second (ltb 1 resets || ltb 0 resets && ltb 0 phys) (ltb 1 defaults) (none-here (clashCause row level bs) [] (lit< tt) (leaf-accepted row level bs e .1) .0))
+    ltb-false 1 _ (or-false (ltb 1 resets || ltb 0 resets && ltb 0 phys) (ltb 1 defaults) (none-here (clashCause row level bs) [] (lit< tt) (leaf-accepted row level bs e .1) .0) .1)
   where
     resets : ℕ
     resets = countOf (isReset row level) bs
@@ -52,10 +53,6 @@ accepted-defaults row level bs e =
 
     defaults : ℕ
     defaults = countOf (isDefault row level) bs
-
-    second : (x y : Bool) → (x || y) ≡ false → y ≡ false
-    second true y e = let z : _≡_ {A = ℕ} 0 1 = cc in absurd (omega arith)
-    second false y e = e
 
 -- ## One block more
 

@@ -9,6 +9,7 @@ use lib.Dec.{eqb}
 use lib.ListN.{length, getD, replicate}
 use borrow.Author.Tests.{eqb-true}
 use Rattle.rom.specs.Bytes.{pick}
+use Rattle.rom.proofs.Truth.{true-false}
 use Rattle.block.specs.Block.{kindOf, isKnown, factsOf, reset}
 use Rattle.block.proofs.Levels.{known-up}
 use Rattle.leaf.specs.Leaf.{isListed, isDefault, one, firstFrom}
@@ -55,7 +56,7 @@ block-same p q r h (s ∷ bs) (suc k) e = block-same p q r h bs k e
 -- a block that p takes is the one of its number in the list
 pub block-at : (p q : List ℕ → Bool) (bs : List (List ℕ)) (k : ℕ) → blockIs p bs k ≡ true → (p (getD bs k []) ≡ true) × (blockIs q bs k ≡ q (getD bs k []))
 unfolding blockIs
-block-at p q [] k e = let z : _≡_ {A = ℕ} 0 1 = cc in absurd (omega arith)
+block-at p q [] k e = true-false (sym e)
 block-at p q (s ∷ bs) zero e = (e, refl)
 block-at p q (s ∷ bs) (suc k) e = block-at p q bs k e
 
@@ -68,7 +69,7 @@ listed-level row older newest h s = go (isKnown newest (kindOf row s)) (isKnown 
   where
     go : (k l x : Bool) → (l ≡ true → k ≡ true) → ((k && x) && not l) ≡ false → (l && x) ≡ (k && x)
     go k true x u e = rw (u refl)
-    go true false true u e = let z : _≡_ {A = ℕ} 0 1 = cc in absurd (omega arith)
+    go true false true u e = true-false e
     go true false false u e = refl
     go false false x u e = refl
 
@@ -96,8 +97,7 @@ default-listed row level s e = go (eqb (kindOf row s) 5) refl (isKnown level (ki
     go true f true g =
         let five = eqb-true (kindOf row s) 5 f in
         let g′ : factsOf 5 s .isDefault ≡ true = rw five at g in
-        let z : _≡_ {A = ℕ} 0 1 = cc in
-        absurd (omega arith)
+        true-false (sym g′)
 
 -- the number that is found is that of a block that p takes, or 255
 pub data Found (p : List ℕ → Bool) (k : ℕ) (bs : List (List ℕ)) : ℕ → Type 0 where

@@ -10,6 +10,7 @@ use lib.Dec.{eqb, ltb}
 use borrow.Author.Tests.{ltb-false, le-ltb}
 use Rattle.rom.specs.Bytes.{pick}
 use Rattle.rom.proofs.Fewer.{Fewer, end, and, fewer, fewer-append}
+use Rattle.rom.proofs.Truth.{true-false}
 use Rattle.block.specs.Block.{kindOf, isKnown, factsOf}
 use Rattle.block.proofs.Levels.{known-up, causes-down}
 use Rattle.leaf.specs.Leaf.{Place, keep, table, isListed, isReset, isDefault, resetsPhy, one, countOf, clash, blockCauses, clashCause, leafCauses}
@@ -68,7 +69,7 @@ count-down p q h (s ∷ bs) = omega (arith, h s, count-down p q h bs)
 
 -- tests of which each part can only turn false
 or-mono : (p q r s : Bool) → (p ≡ false → r ≡ false) → (q ≡ false → s ≡ false) → (p || q) ≡ false → (r || s) ≡ false
-or-mono true q r s f g e = let z : _≡_ {A = ℕ} 0 1 = cc in absurd (omega arith)
+or-mono true q r s f g e = true-false e
 or-mono false q r s f g e = rw (f refl) (g e)
 
 and-mono : (p q r s : Bool) → (p ≡ false → r ≡ false) → (q ≡ false → s ≡ false) → (p && q) ≡ false → (r && s) ≡ false

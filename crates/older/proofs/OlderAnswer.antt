@@ -9,6 +9,7 @@ use lib.Dec.{eqb, ltb}
 use lib.ListN.{getD}
 use borrow.Author.Tests.{eqb-true}
 use Rattle.rom.specs.Bytes.{pick}
+use Rattle.rom.proofs.Truth.{true-false}
 use Rattle.block.specs.Block.{kindOf, isKnown, factsOf}
 use Rattle.block.proofs.Levels.{known-up}
 use Rattle.leaf.specs.Leaf.{isListed, isReset, isSkipped, isDefault, one, countOf, firstFrom}
@@ -94,7 +95,7 @@ default-known row older newest s = go (isKnown newest (kindOf row s)) (isKnown o
     go : (k l x : Bool) → (k && x) ≡ true → (l && x) ≡ l
     go true true x e = e
     go true false x e = refl
-    go false l x e = let z : _≡_ {A = ℕ} 0 1 = cc in absurd (omega arith)
+    go false l x e = true-false (sym e)
 
 no-default : (row older newest k : ℕ) (bs : List (List ℕ)) → older ≤ newest → countOf (isDefault row newest) bs ≡ 0 → firstFrom (isDefault row older) k bs ≡ 255
 unfolding countOf firstFrom pick

@@ -3,7 +3,7 @@ use Prim.Native.Nat.{ℕ, zero, suc, _+_, _-_, _≤_, _<_, zero-le}
 use native.Mathlib.Omega.{arith}
 use mathlib.Core.List.{List, _∷_}
 use mathlib.Core.Path.{_≡_, refl, ap, sym, _∙_}
-use mathlib.Core.Bool.{Bool, true, false, _||_}
+use mathlib.Core.Bool.{true, _||_}
 use lib.Dec.{eqb, ltb, lit<, eqb·suc-zero}
 use lib.ListN.{length, take, drop, length-take}
 use borrow.Author.Tests.{ne-eqb, lt-ltb, le-ltb, ltb-false}
@@ -11,6 +11,7 @@ use Rattle.rom.specs.Geometry.{leavesEnd}
 use Rattle.rom.specs.Bytes.{pick}
 use Rattle.rom.specs.Refusal.{Cause, _⇒_, firstMet}
 use Rattle.rom.proofs.First.{none-here, after-accepted, after-refused, both-accepted}
+use Rattle.rom.proofs.Truth.{or-false}
 use Rattle.header.specs.declared.Arguments.{Arguments}
 use Rattle.header.specs.declared.Header.{Header}
 use Rattle.header.specs.Image.{restFrom}
@@ -216,10 +217,6 @@ module _ (image : List ℕ) (a : Arguments) where
 
 -- ## Into arrays
 
-neither : (p q : Bool) → (p || q) ≡ false → (p ≡ false) × (q ≡ false)
-neither false q e = (refl, e)
-neither true q e = let z : _≡_ {A = ℕ} 0 1 = cc in absurd (omega arith)
-
 module _ (image : List ℕ) (a : Arguments) (k o : ℕ) (r : Reading) (er : r ≡ readingFor image a k o) where
   number-read : r .answer .number ≡ firstMet (readCauses image a k o)
   unfolding readingFor
@@ -239,7 +236,7 @@ module _ (image : List ℕ) (a : Arguments) (k o : ℕ) (r : Reading) (er : r �
     behind-met =
         let b = both-accepted (headerCauses image a) _ (header-numbered image a) (sym number-read ∙ z) in
         let c = none-here _ (leafCausesFor image a) (lit< tt) (b .1) in
-        let n = neither (ltb k (countFor image a)) (ltb o (countFor image a)) (c .0) in
+        let n = or-false (ltb k (countFor image a)) (ltb o (countFor image a)) (c .0) in
         (b .0, ltb-false k (countFor image a) (n .0), ltb-false o (countFor image a) (n .1), c .1)
 
     pub accepted-read : Accepted image a r

@@ -1,3 +1,4 @@
+pub mod Truth
 pub mod First
 pub mod Fewer
 pub mod Past

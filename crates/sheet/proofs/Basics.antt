@@ -1,41 +1,15 @@
--- Laws of tests, words, zeros and parts of lists. Assumes nothing.
+-- Laws of words, zeros and parts of lists. Assumes nothing.
 use Prim.Native.Nat.{ℕ, zero, suc, _+_, _*_, _-_, _/_, _%_, _≤_, _<_}
 use mathlib.Core.Path.{_≡_, refl, sym, ap, ap₂, _∙_}
-use mathlib.Core.Bool.{Bool, true, false, _&&_, _||_, not}
+use mathlib.Core.Bool.{true}
 use mathlib.Core.List.{List, [], _∷_}
 use native.Mathlib.Omega.{arith}
 use lib.ListN.{length, take, drop, replicate, length-append, length-replicate}
 use lib.Seq.{drop-cons, getD-drop, take-all}
 use borrow.Author.Tests.{eqb-true}
-use Rattle.rom.specs.Bytes.{pick, byteAt}
+use Rattle.rom.specs.Bytes.{byteAt}
+use Rattle.rom.proofs.Truth.{and-true}
 use Rattle.sheet.specs.Lists.{Bytes, wordBytes, allZero, padded}
-
--- ## Tests
-
-pub true-false {ℓ} : {A : Type ℓ} → true ≡ false → A
-true-false e = let z : _≡_ {A = ℕ} 0 1 = cc in absurd (omega arith)
-
-pub pick-true {ℓ} : {A : Type ℓ} (t : Bool) (x y : A) → t ≡ true → pick t x y ≡ x
-unfolding pick
-pick-true true x y e = refl
-pick-true false x y e = true-false (sym e)
-
-pub pick-false {ℓ} : {A : Type ℓ} (t : Bool) (x y : A) → t ≡ false → pick t x y ≡ y
-unfolding pick
-pick-false true x y e = true-false e
-pick-false false x y e = refl
-
-pub and-true : (a b : Bool) → (a && b) ≡ true → (a ≡ true) × (b ≡ true)
-and-true true b e = (refl, e)
-and-true false b e = true-false (sym e)
-
-pub or-false : (a b : Bool) → (a || b) ≡ false → (a ≡ false) × (b ≡ false)
-or-false true b e = true-false e
-or-false false b e = (refl, e)
-
-pub met-not : (t : Bool) → t ≡ true → not t ≡ false
-met-not true e = refl
-met-not false e = sym e
 
 -- ## Words
 

@@ -11,6 +11,7 @@ use borrow.Author.Tests.{eqb-true, eqb-false, leb-true, leb-false, ltb-false, eq
 use Rattle.rom.specs.Bytes.{pick, byteAt, bit}
 use Rattle.rom.specs.Refusal.{firstMet}
 use Rattle.rom.proofs.First.{none-here}
+use Rattle.rom.proofs.Truth.{true-false, or-false}
 use Rattle.block.specs.Format.{row21041, kindCompact, kind21041}
 use Rattle.block.specs.Block.{isExtended, lengthOf, siaSize, sizeOf, kindOf, causes, refusalOf}
 use Rattle.block.proofs.Whole.{Form, extended-form, compact-form, form-21041, size-positive}
@@ -21,7 +22,7 @@ use Rattle.sheet.specs.Record.{Entry}
 use Rattle.sheet.specs.Sheet.{bodyBytes}
 use Rattle.sheet.specs.Image.{isWhole, openingOf, encode, encodes, openingLength, bodyOf, entryOf, sizes}
 use Rattle.sheet.specs.Write.{isOtherFamily, isBadBody, isBad, anyBad}
-use Rattle.sheet.proofs.Basics.{true-false, or-false, bytes-drop}
+use Rattle.sheet.proofs.Basics.{bytes-drop}
 
 -- ## An entry that an image of a chip can hold
 

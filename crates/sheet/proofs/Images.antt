@@ -13,6 +13,7 @@ use Rattle.rom.specs.Geometry.{leavesEnd, checkedLength, imageLength, mostContr
 use Rattle.rom.specs.Bytes.{pick, byteAt, wordAt, isIn}
 use Rattle.rom.specs.Refusal.{firstMet}
 use Rattle.rom.proofs.First.{none-here, both-accepted}
+use Rattle.rom.proofs.Truth.{true-false, and-true, or-false}
 use Rattle.crc.specs.Crc.{sromCrc, idCrc, idWords, word}
 use Rattle.block.specs.Format.{chips, rowOf, row21140, newestLevel}
 use Rattle.header.specs.Image.{controllerCount, reservedAt, leafAt, headerLength, controlByte, blocksAt, blockCount, restFrom, badCount, imageCauses, argumentCauses}
@@ -26,7 +27,7 @@ use Rattle.sheet.specs.Record.{Plain}
 use Rattle.sheet.specs.Sheet.{sheetOf}
 use Rattle.sheet.specs.Image.{leafStart, frontWith, frontOf, encodes, controlBytes, leafHeadOf, leafOf, coveredOf, imageOf, newest, entryOf, imageFrom, sizes, leafEnd, upToLeavesEnd, isTidy}
 use Rattle.sheet.specs.Write.{anyBad, strayControl, cannotHold}
-use Rattle.sheet.proofs.Basics.{true-false, and-true, or-false, word-of, word-back, zeros, zeros-all, bytes-drop, bytes-take, spell, spelled}
+use Rattle.sheet.proofs.Basics.{word-of, word-back, zeros, zeros-all, bytes-drop, bytes-take, spell, spelled}
 use Rattle.sheet.proofs.Blocks.{cut-encodes, entries-length, blocks-few, bodies-short, Encoded, encodes-cut}
 use Rattle.sheet.proofs.Sheets.{Sized, spelledOut, spelled-out, sheet-length}
 use Rattle.sheet.proofs.Crcs.{srom-covered}

@@ -13,6 +13,7 @@ use Rattle.rom.specs.Bytes.{pick, isIn}
 use Rattle.rom.specs.Refusal.{firstMet, Numbered}
 use Rattle.rom.proofs.First.{exact, numbered-append, none-here, after-accepted, both-accepted}
 use Rattle.rom.proofs.Reached.{end, skip, reached}
+use Rattle.rom.proofs.Truth.{pick-true, pick-false, met-not}
 use Rattle.block.specs.Format.{chips}
 use Rattle.header.specs.Header.{headerCauses}
 use Rattle.header.proofs.Headers.{header-numbered}
@@ -25,7 +26,6 @@ use Rattle.sheet.specs.Image.{leafStart, leafOf, imageOf, newest, imageF
 use Rattle.sheet.specs.Write.{cannotHold, recordCauses, writeCauses, writeNumber, written}
 use Rattle.sheet.specs.Make.{sheetFor, makeCauses, makeNumber, makeLength, made}
 use Rattle.sheet.specs.Returns.{SheetReturns, ImageReturns, WrittenIsTidy, SheetFits, ExactRefusals, RefusalsChangeNothing}
-use Rattle.sheet.proofs.Basics.{pick-true, pick-false, met-not}
 use Rattle.sheet.proofs.Sheets.{sheet-means, sheet-is, from-sized, sheet-back}
 use Rattle.sheet.proofs.Images.{image-means, image-tidy, accepted, tidy, means-sized, means-holds, means-fits, means-short, image-back}
 

@@ -10,11 +10,12 @@ use lib.Seq.{take-at, drop-at, take-all, take-append-seam, drop-append-seam, dro
 use lib.Dec.{eqb}
 use borrow.Author.Tests.{eqb-true, eq-eqb}
 use Rattle.rom.specs.Bytes.{byteAt, wordAt}
+use Rattle.rom.proofs.Truth.{and-true}
 use Rattle.sheet.specs.Lists.{Bytes, wordBytes, sum}
 use Rattle.sheet.specs.Layout.{headLength}
 use Rattle.sheet.specs.Record.{Entry, Plain}
 use Rattle.sheet.specs.Sheet.{headOf, kindBytes, sizeBytes, bodyBytes, partsOf, sheetOf, countIn, totalIn, kindsIn, sizesIn, bodiesIn, entriesFrom, sheetFrom, isSheet}
-use Rattle.sheet.proofs.Basics.{and-true, word-of, word-back, bytes-drop, spell, spelled, spelled-whole}
+use Rattle.sheet.proofs.Basics.{word-of, word-back, bytes-drop, spell, spelled, spelled-whole}
 
 -- ## Records whose parts have their lengths
 

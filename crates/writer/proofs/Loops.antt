@@ -12,12 +12,12 @@ use Rattle.rom.specs.Geometry.{leavesEnd}
 use Rattle.rom.specs.Bytes.{byteAt, wordAt}
 use Rattle.rom.specs.Refusal.{firstMet}
 use Rattle.rom.proofs.Reached.{reached, end, stop, skip}
+use Rattle.rom.proofs.Truth.{or-false}
 use Rattle.sheet.specs.Record.{Entry}
 use Rattle.sheet.specs.Sheet.{entriesFrom}
 use Rattle.sheet.specs.Image.{encode, encodes}
 use Rattle.sheet.specs.Write.{isBad, anyBad}
 use Rattle.sheet.specs.Lists.{put}
-use Rattle.sheet.proofs.Basics.{or-false}
 use Rattle.sheet.proofs.Put.{put-length, put-take, put-drop}
 use Rattle.writer.specs.Inside.{entry, openingSize, Parts, Fits, Holds, entryCauses}
 use Rattle.writer.proofs.Openings.{encode-length, size-small}

@@ -12,6 +12,7 @@ use Rattle.rom.specs.Bytes.{pick, isIn}
 use Rattle.rom.specs.Refusal.{firstMet}
 use Rattle.rom.proofs.First.{after-accepted, after-refused}
 use Rattle.rom.proofs.Reached.{reached, stop, skip}
+use Rattle.rom.proofs.Truth.{pick-true, pick-false}
 use Rattle.block.specs.Format.{chips, rowOf}
 use Rattle.block.proofs.Lists.{in-place}
 use Rattle.header.specs.Image.{headerLength}
@@ -23,7 +24,6 @@ use Rattle.sheet.specs.Sheet.{sheetFrom, isSheet}
 use Rattle.sheet.specs.Image.{leafStart, encodes, leafOf, imageOf, newest}
 use Rattle.sheet.specs.Write.{anyBad, strayControl, cannotHold, recordCauses, writeCauses, writeNumber, written}
 use Rattle.sheet.proofs.Returns.{record-numbered}
-use Rattle.sheet.proofs.Basics.{pick-true, pick-false}
 use Rattle.writer.specs.Inside.{entryCauses}
 use Rattle.writer.proofs.Tests.{or-second}
 use Rattle.writer.proofs.Sheets.{leaf-length}

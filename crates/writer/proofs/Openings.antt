@@ -7,11 +7,11 @@ use native.Mathlib.Omega.{arith}
 use lib.ListN.{length, set, length-append}
 use lib.Dec.{eqb, ltb}
 use borrow.Author.Tests.{eq-eqb, ne-eqb, eqb-false, ltb-false}
+use Rattle.rom.proofs.Truth.{or-false, pick-true, pick-false}
 use Rattle.block.specs.Format.{kindCompact, kind21041}
 use Rattle.sheet.specs.Image.{isWhole, openingOf, encode}
 use Rattle.sheet.specs.Write.{isOtherFamily, isBadBody, isBad}
 use Rattle.sheet.specs.Lists.{put}
-use Rattle.sheet.proofs.Basics.{or-false, pick-true, pick-false}
 use Rattle.sheet.proofs.Put.{put-none, put-two, put-put, put-length}
 use Rattle.writer.specs.Inside.{entry, openingSize, Fits}
 use Rattle.writer.proofs.Tests.{or-true, or-second}

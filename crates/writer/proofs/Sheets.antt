@@ -10,6 +10,7 @@ use borrow.Author.Tests.{eq-eqb, ne-eqb, eqb-true, ltb-false}
 use Rattle.rom.specs.Geometry.{leavesEnd}
 use Rattle.rom.specs.Bytes.{pick, byteAt, wordAt}
 use Rattle.rom.proofs.First.{none-here}
+use Rattle.rom.proofs.Truth.{and-true, or-false, pick-true, pick-false}
 use Rattle.block.specs.Format.{rowOf, row21140}
 use Rattle.header.specs.Image.{headerLength}
 use Rattle.leaf.proofs.Cuts.{rest-part}
@@ -19,7 +20,6 @@ use Rattle.sheet.specs.Record.{Entry, Plain}
 use Rattle.sheet.specs.Sheet.{countIn, totalIn, kindsIn, sizesIn, bodiesIn, entriesFrom, sheetFrom, isSheet}
 use Rattle.sheet.specs.Image.{leafStart, encodes, controlBytes, leafHeadOf, leafOf}
 use Rattle.sheet.specs.Write.{anyBad, cannotHold, recordCauses}
-use Rattle.sheet.proofs.Basics.{and-true, or-false, pick-true, pick-false}
 use Rattle.sheet.proofs.Put.{put-one, put-two, put-put, put-length}
 use Rattle.writer.specs.Inside.{Parts, Holds, Writable}
 use Rattle.writer.proofs.Parts.{entries-length}
