@@ -7,7 +7,7 @@ use second::crc;
 use second::images::block::{self, Phy};
 use second::images::{Card, Image};
 use second::random::Random;
-use second::reader::{self, Arguments, NEWEST_LEVEL};
+use second::reader::{self, Arguments};
 use second::{sheet, walk};
 use std::{env, hint::black_box, time::Instant};
 
@@ -69,7 +69,7 @@ fn images(card: impl Fn(&mut Random) -> Card) -> Vec<Image> {
 
 /// Reading into arrays that are long enough, and the view of the table's last entry.
 fn contest_reading(leaf: &str, chip: u16, images: &[Image]) {
-    let arguments = newest(chip);
+    let arguments = Arguments::newest(chip);
     let listed = reading(arguments, reader::read)(&images[0]).listed;
     assert!(listed > 0, "the newest reader accepts the {leaf} leaf");
     contest(
@@ -87,18 +87,10 @@ fn contest_reading(leaf: &str, chip: u16, images: &[Image]) {
     );
 }
 
-fn newest(chip: u16) -> Arguments {
-    Arguments {
-        chip,
-        controller: 0,
-        level: NEWEST_LEVEL,
-    }
-}
-
 /// Loading into a fresh walk, and looks of a settled walk at reports with a quarter of the links
 /// up, so that most of them select anew.
 fn contest_walking(leaf: &str, chip: u16, images: &[Image]) {
-    let arguments = newest(chip);
+    let arguments = Arguments::newest(chip);
     contest(
         &format!("load {leaf}"),
         images,
@@ -123,7 +115,7 @@ fn contest_walking(leaf: &str, chip: u16, images: &[Image]) {
 /// What it costs that a walk goes in and comes back by value: a call that only hands out a fresh one,
 /// and one that takes a walk too.
 fn contest_by_value(images: &[Image]) {
-    let settled = settled(&images[0], newest(21143));
+    let settled = settled(&images[0], Arguments::newest(21143));
     contest(
         "fresh",
         images,

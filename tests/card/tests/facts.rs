@@ -133,11 +133,7 @@ fn readings() {
 fn walks() {
     let mut random = Random::new(21143);
     for (name, chip, image) in samples() {
-        let arguments = Arguments {
-            chip,
-            controller: 0,
-            level: NEWEST_LEVEL,
-        };
+        let arguments = Arguments::newest(chip);
         let mut walk = Autosense::Fresh;
         if walk.load(&image, arguments) != 0 {
             continue;
@@ -197,11 +193,7 @@ fn older_readers() {
             line.map(|line| line[40..].to_string())
         };
         for level in 0..=NEWEST_LEVEL {
-            let arguments = Arguments {
-                chip,
-                controller: 0,
-                level,
-            };
+            let arguments = Arguments::at_level(chip, level);
             let (mut kinds, mut offsets) = ([0; 255], [0; 255]);
             let answer = second::reader::read(&image, arguments, &mut kinds, &mut offsets);
             let cell = |line: &str| {

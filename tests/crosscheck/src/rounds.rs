@@ -211,11 +211,7 @@ fn spent(random: &mut Random) -> Input {
     let media = [0, 1].map(|code| block::sia(code, None, 0, 0));
     let connection = random.pick(&[0x0800, 0x8800]);
     let image = Card::tidy(21143, connection, media.to_vec()).image();
-    let arguments = Arguments {
-        chip: 21143,
-        controller: 0,
-        level: NEWEST_LEVEL,
-    };
+    let arguments = Arguments::newest(21143);
     let load = Step::Load(image.to_vec(), arguments);
     let habits = Habits {
         blocks: 2,

@@ -5,7 +5,7 @@ use crate::input::Input;
 use second::calls::{Call, Step, block_count};
 use second::crc::lay_crcs;
 use second::images::without_block;
-use second::reader::{Arguments, NEWEST_LEVEL};
+use second::reader::Arguments;
 use second::sheet::{COUNT, KINDS, TOTAL};
 
 /// Passes over all edits, and calls in all of them, after which the input is small enough.
@@ -256,11 +256,7 @@ fn rows(input: &mut Input) -> Vec<Row<'_>> {
             image, arguments, ..
         } => vec![Row::new(image, Sort::Image(*arguments))],
         Input::MakeSheet { image, chip, .. } => {
-            let arguments = Arguments {
-                chip: *chip,
-                controller: 0,
-                level: NEWEST_LEVEL,
-            };
+            let arguments = Arguments::newest(*chip);
             vec![Row::new(image, Sort::Image(arguments))]
         }
         Input::Write { sheet, .. } => vec![Row::new(sheet, Sort::Sheet)],
@@ -297,11 +293,7 @@ mod tests {
     use second::sheet::write;
     use second::sheets::Sheet;
 
-    const ARGUMENTS: Arguments = Arguments {
-        chip: 21143,
-        controller: 0,
-        level: 6,
-    };
+    const ARGUMENTS: Arguments = Arguments::newest(21143);
 
     /// A difference at one byte above 6: that byte alone is left, and it is 7.
     #[test]

@@ -1,10 +1,14 @@
 //! The header and the example driver, as a C or C++ author meets them: compiled with warnings as errors, linked to the
 //! archive, and run. Needs `cc` and `c++`.
 
-use second::crc::Checksum;
+use second::calls;
+use second::crc::{self, Checksum};
+use second::images::Sample;
+use second::random::Random;
 use second::reader::{self, Answer, Arguments};
-use second::sheet::Made;
-use second::walk::{Walk, Walked};
+use second::sheet::{self, Made};
+use second::walk::{Autosense, Walk, Walked};
+use std::collections::{BTreeMap, BTreeSet};
 use std::fs;
 use std::mem::{offset_of, size_of};
 use std::path::{Path, PathBuf};
@@ -171,6 +175,117 @@ fn header_is_cpp17() {
     header_in("c++", "-std=c++17", "cc");
 }
 
+/// What tests/fields.c prints of a walk.
+fn walk_fields(walk: &Walk) -> String {
+    let row = |row: &[u8]| row.iter().map(u8::to_string).collect::<String>();
+    format!(
+        " {} {} {} {} {} {} {} {} {} {}",
+        u8::from(walk.loaded),
+        walk.connection,
+        walk.blocks,
+        row(&walk.listed),
+        row(&walk.active_invalid),
+        walk.default_number,
+        u8::from(walk.settled),
+        walk.selected,
+        walk.looks,
+        walk.switches
+    )
+}
+
+/// What tests/fields.c prints for an image, from the second implementation.
+fn fields_expected(image: &[u8], arguments: Arguments) -> Vec<String> {
+    let short = &image[1..];
+    let answer = reader::read(image, arguments, &mut [0; 255], &mut [0; 255]);
+    let part = reader::view(image, arguments, 0);
+    let start = match part {
+        [] => 0,
+        _ => part.as_ptr() as usize - image.as_ptr() as usize,
+    };
+    let checksum = |crc: Checksum| format!("checksum {} {}", crc.number, crc.value);
+    let mut expected = vec![
+        checksum(crc::srom_crc(image)),
+        checksum(crc::id_crc(image)),
+        checksum(crc::srom_crc(short)),
+        checksum(crc::id_crc(short)),
+        format!(
+            "answer {} {} {} {} {} {} {} {} {}",
+            answer.number,
+            answer.connection,
+            answer.control,
+            answer.address,
+            answer.blocks,
+            answer.listed,
+            answer.resets,
+            answer.skipped,
+            answer.default_number
+        ),
+        format!("part {start} {}", part.len()),
+    ];
+    let mut walk = Autosense::default();
+    for call in ["load", "look", "look", "clear"] {
+        let report = [u8::from(walk.walk().looks == 1); 128];
+        let number = match call {
+            "load" => walk.load(image, arguments),
+            "look" => walk.look(&report),
+            _ => walk.clear(),
+        };
+        expected.push(format!("walked {number}{}", walk_fields(&walk.walk())));
+    }
+    let made = sheet::make(image, arguments.chip, &mut [0; 1024]);
+    expected.push(format!("made {} {}", made.number, made.length));
+    expected
+}
+
+/// The fields of the header's structs are those that the archive fills: each has the second implementation's value after every
+/// call, and more than one value over all of them.
+fn fields_in(compiler: &str, standard: &str, extension: &str) {
+    let source = scratch(&format!("fields.{extension}"));
+    let program = scratch(&format!("fields-{extension}"));
+    fs::copy(root().join("tests/library/tests/fields.c"), &source).unwrap();
+    compile(compiler, &[standard], &source, &program);
+    let file = scratch(&format!("fields-{extension}.rom"));
+    let mut random = Random::new(21143);
+    let mut values: BTreeMap<(String, usize), BTreeSet<String>> = BTreeMap::new();
+    for _ in 0..60 {
+        let Sample { card, arguments } = calls::sample(&mut random);
+        let image = card.image();
+        fs::write(&file, image).unwrap();
+        let Arguments {
+            chip,
+            controller,
+            level,
+        } = arguments;
+        let output = run(Command::new(&program)
+            .arg(&file)
+            .args([chip, controller.into(), level.into()].map(|number| number.to_string())));
+        let found = lines(&output);
+        assert_eq!(found, fields_expected(&image, arguments));
+        for line in found {
+            let (name, fields) = line.split_once(' ').unwrap();
+            for (field, value) in fields.split(' ').enumerate() {
+                values
+                    .entry((name.to_owned(), field))
+                    .or_default()
+                    .insert(value.to_owned());
+            }
+        }
+    }
+    for (field, values) in values {
+        assert!(1 < values.len(), "{field:?} is always {values:?}");
+    }
+}
+
+#[test]
+fn fields_in_c11() {
+    fields_in("cc", "-std=c11", "c");
+}
+
+#[test]
+fn fields_in_cpp17() {
+    fields_in("c++", "-std=c++17", "cc");
+}
+
 fn probe(arguments: &[&str]) -> Output {
     static ONCE: std::sync::Once = std::sync::Once::new();
     let program = scratch("probe");
@@ -199,11 +314,7 @@ fn entry_line(image: &[u8], arguments: Arguments, entry: usize, kind: u16, offse
 #[test]
 fn probe_walks_the_replacement_card() {
     let image = fs::read(root().join("samples/replacement-card.rom")).unwrap();
-    let arguments = Arguments {
-        chip: 21143,
-        controller: 0,
-        level: 6,
-    };
+    let arguments = Arguments::at_level(21143, 6);
     let output = probe(&[
         "samples/replacement-card.rom",
         "21143",

@@ -1,5 +1,8 @@
 //! Reading and the block view of the library against the second implementation.
 
+mod families;
+
+use families::{Family, show, tallies};
 use library::compare::{self, agreed};
 use second::calls::block_count;
 use second::crc::{IMAGE_LENGTH, lay_crcs};
@@ -7,8 +10,6 @@ use second::images::{Card, DAMAGES, Sample, random_image};
 use second::random::Random;
 use second::reader::{self, Arguments, CHIPS, NEWEST_LEVEL};
 use std::fmt::Write as _;
-use std::io::{self, Write as _};
-use std::thread;
 
 const HIGHEST_REFUSAL: usize = 18;
 const LEAST_OFTEN: usize = 1_000;
@@ -60,8 +61,6 @@ impl Tally {
 }
 
 /// A name and the calls that go by it.
-type Family = (&'static str, fn() -> Tally);
-
 /// "accepts exactly the images": valid cards of every chip, with unknown types among their blocks,
 /// for each controller and one that is none, at every level, and for another chip.
 fn valid_cards() -> Tally {
@@ -222,11 +221,10 @@ fn image_lengths() -> Tally {
     tally
 }
 
-/// A million calls, in which each refusal is met a thousand times. The table of them goes to the
-/// standard error stream itself, so that a run that passes shows it too.
+/// A million calls, in which each refusal is met a thousand times. The table of them is shown.
 #[test]
 fn library_reads_as_second() {
-    let families: [Family; 7] = [
+    let families: [Family<Tally>; 7] = [
         ("valid", valid_cards),
         ("arrays", array_lengths),
         ("damaged", damaged_fields),
@@ -235,14 +233,7 @@ fn library_reads_as_second() {
         ("random", random_bytes),
         ("lengths", image_lengths),
     ];
-    let tallies: Vec<_> = thread::scope(|scope| {
-        let threads = families.map(|(_, family)| scope.spawn(family));
-        let joined = threads.map(|thread| thread.join());
-        joined
-            .into_iter()
-            .map(|tally| tally.expect("compares equal"))
-            .collect()
-    });
+    let tallies = tallies(families);
     let names = families.map(|(name, _)| name);
     let totals: Vec<usize> = (0..=HIGHEST_REFUSAL)
         .map(|number| tallies.iter().map(|tally| tally.numbers[number]).sum())
@@ -255,9 +246,7 @@ fn library_reads_as_second() {
     }
     let cells: Vec<_> = tallies.iter().map(|tally| tally.calls).collect();
     table += &row("calls", &cells, &calls.to_string());
-    io::stderr()
-        .write_all(table.as_bytes())
-        .expect("standard error is open");
+    show(&table);
     for (number, &total) in totals.iter().enumerate() {
         assert!(total >= LEAST_OFTEN, "{number} was answered {total} times");
     }

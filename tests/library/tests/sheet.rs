@@ -1,6 +1,9 @@
 //! The writer and the sheet maker of the library against the second implementation, and both
 //! returns.
 
+mod families;
+
+use families::{Family, show, tallies};
 use library::compare::{self, agreed};
 use library::lent::{Lent, hex};
 use second::crc::{IMAGE_LENGTH, lay_crcs};
@@ -11,8 +14,6 @@ use second::sheet::{CHIP, KINDS, Made};
 use second::sheets::tidy::{TIDY_DAMAGES, damaged, tidy, untidy};
 use second::sheets::{SHEET_DAMAGES, Sheet};
 use std::fmt::Write as _;
-use std::io::{self, Write as _};
-use std::thread;
 
 const HIGHEST_REFUSAL: usize = 27;
 const LEAST_OFTEN: usize = 1_000;
@@ -122,8 +123,6 @@ impl Tally {
 }
 
 /// A name and the calls that go by it.
-type Family = (&'static str, fn() -> Tally);
-
 /// "Writing a sheet": valid sheets of every chip, and the image that the builder of images lays;
 /// then "making a sheet of a tidy image", of that image.
 fn valid_sheets() -> Tally {
@@ -298,7 +297,7 @@ fn buffer_lengths() -> Tally {
 /// standard error stream itself, so that a run that passes shows it too.
 #[test]
 fn library_writes_and_makes_as_second() {
-    let families: [Family; 9] = [
+    let families: [Family<Tally>; 9] = [
         ("valid", valid_sheets),
         ("damaged", damaged_sheets),
         ("twice", two_damaged_fields),
@@ -309,14 +308,7 @@ fn library_writes_and_makes_as_second() {
         ("ibytes", changed_image_bytes),
         ("buffers", buffer_lengths),
     ];
-    let tallies: Vec<_> = thread::scope(|scope| {
-        let threads = families.map(|(_, family)| scope.spawn(family));
-        let joined = threads.map(|thread| thread.join());
-        joined
-            .into_iter()
-            .map(|tally| tally.expect("compares equal"))
-            .collect()
-    });
+    let tallies = tallies(families);
     let names = families.map(|(name, _)| name);
     let mut table = String::new();
     type Column = fn(&Tally) -> &[usize; HIGHEST_REFUSAL + 1];
@@ -352,9 +344,7 @@ fn library_writes_and_makes_as_second() {
         table += &row(what, &cells, &total.to_string());
         inputs += total;
     }
-    io::stderr()
-        .write_all(table.as_bytes())
-        .expect("standard error is open");
+    show(&table);
     assert!(wrong.is_empty(), "{wrong:?}");
     assert!(inputs >= LEAST_INPUTS, "only {inputs} sheets and images");
 }

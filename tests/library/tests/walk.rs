@@ -88,11 +88,7 @@ fn spent_looks() -> Tally {
     ];
     for (card, switches) in cards {
         let image = card.image();
-        let arguments = Arguments {
-            chip: card.leaves[0].chip,
-            controller: 0,
-            level: NEWEST_LEVEL,
-        };
+        let arguments = Arguments::newest(card.leaves[0].chip);
         let mut pair = agreed(Pair::fresh());
         let mut call = |pair: &mut Pair, call: &Call| {
             let number = agreed(pair.call(call, &image, arguments));
@@ -175,11 +171,7 @@ fn library_walks_as_second() {
 fn case_k() {
     let sia = |code| vec![0x86, 0x02, code, 0x01, 0x00, 0x02, 0x00];
     let blocks = vec![sia(0), vec![0x81, 0x09], sia(1)];
-    let arguments = Arguments {
-        chip: 21143,
-        controller: 0,
-        level: NEWEST_LEVEL,
-    };
+    let arguments = Arguments::newest(21143);
     for (connection, expected, switches) in [(0x0800, [NONE, 2, 0], 2), (0x8800, [NONE, 2, 2], 1)] {
         let image = Card::tidy(21143, connection, blocks.clone()).image();
         let walked = library::load(library::fresh(), &image, arguments);
@@ -325,11 +317,7 @@ fn conditions_are_needed() {
         Card::tidy(21143, 0x0800, blocks).image()
     };
     let selected = |image: &[u8], level, report: &[u8]| {
-        let arguments = Arguments {
-            chip: 21143,
-            controller: 0,
-            level,
-        };
+        let arguments = Arguments::at_level(21143, level);
         let loaded = library::load(library::fresh(), image, arguments);
         let looked = library::look(loaded.walk, report);
         assert_eq!((loaded.number, looked.number), (0, 0));

@@ -161,11 +161,7 @@ pub fn sample(random: &mut Random) -> Sample {
         }
         1 => Sample {
             card: Card::longest(random),
-            arguments: Arguments {
-                chip: 21041,
-                controller: 0,
-                level: random.below(7) as u8,
-            },
+            arguments: Arguments::at_level(21041, random.below(7) as u8),
         },
         _ => Sample::valid(random),
     };

@@ -2,7 +2,7 @@
 //! the leaf at 30, and what the document says of each.
 
 use crate::images::{Card, Image, block};
-use crate::reader::{Arguments, NEWEST_LEVEL};
+use crate::reader::Arguments;
 
 /// A case and the answer to it.
 pub struct Case {
@@ -24,15 +24,8 @@ pub enum Expected {
 
 pub fn cases() -> Vec<Case> {
     use Expected::{Accepted, Refused};
-    let newest = |chip| Arguments {
-        chip,
-        controller: 0,
-        level: NEWEST_LEVEL,
-    };
-    let level_2 = Arguments {
-        level: 2,
-        ..newest(21143)
-    };
+    let newest = Arguments::newest;
+    let level_2 = Arguments::at_level(21143, 2);
     let case = |name, shows, arguments: Arguments, blocks: Vec<Vec<u8>>, expected| Case {
         name,
         shows,

@@ -427,11 +427,7 @@ mod tests {
             block::reset(&[3]),
             block::sia(1, Some([4; 6]), 5, 6),
         ];
-        let arguments = Arguments {
-            chip: 21143,
-            controller: 0,
-            level: NEWEST_LEVEL,
-        };
+        let arguments = Arguments::newest(21143);
         let private = random.bytes::<18>();
         let image = |blocks: &[Vec<u8>]| {
             let mut card = Card::tidy(21143, 0x0800, blocks.to_vec());
@@ -452,11 +448,7 @@ mod tests {
     #[test]
     fn longest_leaf() {
         let image = Card::longest(&mut Random::new(4)).image();
-        let arguments = Arguments {
-            chip: 21041,
-            controller: 0,
-            level: 0,
-        };
+        let arguments = Arguments::at_level(21041, 0);
         let (mut kinds, mut offsets) = ([0; 91], [0; 91]);
         let answer = read(&image, arguments, &mut kinds, &mut offsets);
         assert_eq!((answer.number, answer.listed), (0, 91));

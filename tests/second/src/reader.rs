@@ -69,6 +69,22 @@ pub struct Arguments {
     pub level: u8,
 }
 
+impl Arguments {
+    /// The newest reader, for the first controller.
+    pub const fn newest(chip: u16) -> Self {
+        Self::at_level(chip, NEWEST_LEVEL)
+    }
+
+    /// A reader of some level, for the first controller.
+    pub const fn at_level(chip: u16, level: u8) -> Self {
+        Self {
+            chip,
+            controller: 0,
+            level,
+        }
+    }
+}
+
 /// What reading answers: number 0 with the values, or the refusal's number with zeros. The library's
 /// C interface has the same layout.
 #[repr(C)]

@@ -5,8 +5,8 @@ pub mod fast;
 
 use crate::crc::{IMAGE_LENGTH, lay_crcs};
 use crate::reader::{
-    Arguments, CHIPS, COMPACT, EXT, EXTENDED, LEAF_LIMIT, MEDIA_21041, NEWEST_LEVEL, Refusal,
-    first_block, header_size, kind, leaf, refuse_if, word,
+    Arguments, CHIPS, COMPACT, EXT, EXTENDED, LEAF_LIMIT, MEDIA_21041, Refusal, first_block,
+    header_size, kind, leaf, refuse_if, word,
 };
 
 /// Where the writer puts the leaf, and where a tidy image has it.
@@ -93,12 +93,12 @@ fn try_write(sheet: &[u8], image_length: usize) -> Result<[u8; IMAGE_LENGTH], Re
         Refusal::LeafPastLimit,
     )?;
     let image = record.image(&leaf_bytes);
-    leaf(&image, newest(record.chip), usize::MAX)?;
+    leaf(&image, Arguments::newest(record.chip), usize::MAX)?;
     Ok(image)
 }
 
 fn try_make(image: &[u8], chip: u16, buffer_length: usize) -> Result<Vec<u8>, Refusal> {
-    let (header, blocks) = leaf(image, newest(chip), usize::MAX)?;
+    let (header, blocks) = leaf(image, Arguments::newest(chip), usize::MAX)?;
     let start = header.first_block - header_size(chip);
     let end = blocks
         .last()
@@ -110,15 +110,6 @@ fn try_make(image: &[u8], chip: u16, buffer_length: usize) -> Result<Vec<u8>, Re
     let sheet = Record::of_image(image, chip).sheet();
     refuse_if(buffer_length < sheet.len(), Refusal::ShortArray)?;
     Ok(sheet)
-}
-
-/// The newest reader, for the only controller.
-fn newest(chip: u16) -> Arguments {
-    Arguments {
-        chip,
-        controller: 0,
-        level: NEWEST_LEVEL,
-    }
 }
 
 impl Record {

@@ -35,11 +35,7 @@ fn records() -> Vec<u8> {
     for case in cases() {
         records.push(record(case.arguments, &case.image));
     }
-    let oldest = Arguments {
-        chip: 21041,
-        controller: 0,
-        level: 0,
-    };
+    let oldest = Arguments::at_level(21041, 0);
     records.push(record(oldest, &Card::longest(&mut random).image()));
     for number in DAMAGES {
         for _ in 0..DAMAGED_COUNT {

@@ -53,11 +53,7 @@ fn records() -> Vec<Record> {
             list,
         });
     }
-    let oldest = Arguments {
-        chip: 21041,
-        controller: 0,
-        level: 0,
-    };
+    let oldest = Arguments::at_level(21041, 0);
     let mut samples = vec![Sample {
         card: Card::longest(&mut random),
         arguments: oldest,

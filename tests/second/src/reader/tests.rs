@@ -22,21 +22,6 @@ fn number(image: &[u8], arguments: Arguments) -> u8 {
     read_table(image, arguments).0.number
 }
 
-fn newest(chip: u16) -> Arguments {
-    Arguments {
-        chip,
-        controller: 0,
-        level: NEWEST_LEVEL,
-    }
-}
-
-fn at_level(chip: u16, level: u8) -> Arguments {
-    Arguments {
-        level,
-        ..newest(chip)
-    }
-}
-
 fn tidy(chip: u16, blocks: &[&[u8]]) -> Image {
     let blocks = blocks.iter().map(|block| block.to_vec()).collect();
     Card::tidy(chip, 0x0800, blocks).image()
@@ -44,7 +29,7 @@ fn tidy(chip: u16, blocks: &[&[u8]]) -> Image {
 
 /// What the newest reader answers for one controller and the leaf at 30.
 fn number_of(chip: u16, blocks: &[&[u8]]) -> u8 {
-    number(&tidy(chip, blocks), newest(chip))
+    number(&tidy(chip, blocks), Arguments::newest(chip))
 }
 
 /// A leaf for the chip whose last block starts at the offset, after blocks that every chip but the
@@ -105,7 +90,7 @@ fn refused(number: u8) -> Answer {
 fn image_length() {
     let bytes = [0xFF; 300];
     for length in (0..=300).filter(|&length| length != 128) {
-        let answer = read_table(&bytes[..length], newest(21143)).0;
+        let answer = read_table(&bytes[..length], Arguments::newest(21143)).0;
         assert_eq!(answer, refused(1), "length {length}");
     }
 }
@@ -117,7 +102,11 @@ fn versions() {
         let mut card = Card::tidy(21143, 0x0800, vec![]);
         card.version = version;
         let expected = if version == 3 || version == 4 { 0 } else { 2 };
-        assert_eq!(number(&card.image(), newest(21143)), expected, "{version}");
+        assert_eq!(
+            number(&card.image(), Arguments::newest(21143)),
+            expected,
+            "{version}"
+        );
     }
 }
 
@@ -141,7 +130,11 @@ fn controller_counts() {
             32 => 10,
             _ => 5,
         };
-        assert_eq!(number(&card.image(), newest(21143)), expected, "{count}");
+        assert_eq!(
+            number(&card.image(), Arguments::newest(21143)),
+            expected,
+            "{count}"
+        );
     }
 }
 
@@ -155,7 +148,7 @@ fn reserved_byte() {
             lay_crcs(&mut image);
             let expected = if other == controllers { 5 } else { 0 };
             assert_eq!(
-                number(&image, newest(21143)),
+                number(&image, Arguments::newest(21143)),
                 expected,
                 "{other} of {controllers}"
             );
@@ -163,7 +156,7 @@ fn reserved_byte() {
     }
     let mut card = empty_leaf(1, 60);
     (card.count, card.reserved) = (0, 1);
-    assert_eq!(number(&card.image(), newest(21143)), 5);
+    assert_eq!(number(&card.image(), Arguments::newest(21143)), 5);
 }
 
 /// "6 controller not below n".
@@ -173,7 +166,7 @@ fn controllers() {
     for controller in 0..=255 {
         let arguments = Arguments {
             controller,
-            ..newest(21143)
+            ..Arguments::newest(21143)
         };
         let expected = if controller < 4 { 0 } else { 6 };
         assert_eq!(number(&card.image(), arguments), expected, "{controller}");
@@ -184,7 +177,7 @@ fn controllers() {
 #[test]
 fn chips() {
     let image = tidy(21143, &[]);
-    let accepted = (20_000..22_000).filter(|&chip| number(&image, newest(chip)) != 7);
+    let accepted = (20_000..22_000).filter(|&chip| number(&image, Arguments::newest(chip)) != 7);
     assert!(accepted.eq([21041, 21140, 21142, 21143, 21145]));
 }
 
@@ -194,7 +187,7 @@ fn levels() {
     for chip in CHIPS {
         for level in 0..=255 {
             let expected = if level <= 6 { 0 } else { 8 };
-            let answered = number(&tidy(chip, &[]), at_level(chip, level));
+            let answered = number(&tidy(chip, &[]), Arguments::at_level(chip, level));
             assert_eq!(answered, expected, "{chip} level {level}");
         }
     }
@@ -210,7 +203,7 @@ fn addresses() {
     let read_one = |image: &Image, controller| {
         let arguments = Arguments {
             controller,
-            ..newest(21143)
+            ..Arguments::newest(21143)
         };
         read_table(image, arguments).0
     };
@@ -236,7 +229,7 @@ fn leaf_bounds() {
                 let mut card = Card::new(controllers, vec![Leaf::new(laid, chip, 0x0800, vec![])]);
                 card.controllers[0].leaf_offset = offset;
                 let expected = if is_inside { 0 } else { 10 };
-                let answered = number(&card.image(), newest(chip));
+                let answered = number(&card.image(), Arguments::newest(chip));
                 assert_eq!(answered, expected, "{chip}, {controllers}, {offset}");
             }
         }
@@ -254,7 +247,7 @@ fn leaf_of_each_controller() {
     for (controller, offset) in [(0, 53), (1, 73), (2, 63), (3, 53)] {
         let arguments = Arguments {
             controller,
-            ..newest(21041)
+            ..Arguments::newest(21041)
         };
         assert_eq!(read_table(&image, arguments).1, [(257, offset)]);
     }
@@ -265,7 +258,11 @@ fn leaf_of_each_controller() {
 #[test]
 fn connection_types() {
     let is_accepted = |chip, connection| {
-        let answer = read_table(&Card::tidy(chip, connection, vec![]).image(), newest(chip)).0;
+        let answer = read_table(
+            &Card::tidy(chip, connection, vec![]).image(),
+            Arguments::newest(chip),
+        )
+        .0;
         assert!(answer == refused(11) || answer.connection == connection);
         answer.number == 0
     };
@@ -294,7 +291,10 @@ fn control_byte() {
         let mut card = Card::tidy(chip, 0x0800, vec![]);
         card.leaves[0].control = 0x1F;
         let expected = if chip == 21140 { 0x1F } else { 0 };
-        assert_eq!(read_table(&card.image(), newest(chip)).0.control, expected);
+        assert_eq!(
+            read_table(&card.image(), Arguments::newest(chip)).0.control,
+            expected
+        );
     }
 }
 
@@ -303,7 +303,7 @@ fn control_byte() {
 fn no_blocks() {
     for chip in CHIPS {
         let image = tidy(chip, &[]);
-        let answer = read(&image, newest(chip), &mut [], &mut []);
+        let answer = read(&image, Arguments::newest(chip), &mut [], &mut []);
         let expected = Answer {
             connection: 0x0800,
             address: 0x0800_2B00_0000,
@@ -311,7 +311,7 @@ fn no_blocks() {
             ..refused(0)
         };
         assert_eq!(answer, expected);
-        assert!(view(&image, newest(chip), 0).is_empty());
+        assert!(view(&image, Arguments::newest(chip), 0).is_empty());
     }
 }
 
@@ -327,7 +327,7 @@ fn short_arrays() {
                 let (mut kinds, mut offsets) = ([PATTERN; 6], [PATTERN; 6]);
                 let answer = read(
                     &image,
-                    newest(21143),
+                    Arguments::newest(21143),
                     &mut kinds[..first],
                     &mut offsets[..second],
                 );
@@ -347,29 +347,47 @@ fn short_arrays() {
 #[test]
 fn past_the_limit() {
     // No place for the block at all.
-    assert_eq!(number(&ending_at(21143, 124, &[0x80]), newest(21143)), 13);
-    assert_eq!(number(&ending_at(21041, 124, &[0x00]), newest(21041)), 13);
+    assert_eq!(
+        number(&ending_at(21143, 124, &[0x80]), Arguments::newest(21143)),
+        13
+    );
+    assert_eq!(
+        number(&ending_at(21041, 124, &[0x00]), Arguments::newest(21041)),
+        13
+    );
     // A compact block that the chip does not permit.
     for start in 120..=123 {
         let expected = if start == 120 { 14 } else { 13 };
         let image = ending_at(21143, start, &[0x02, 0, 0, 0xFF]);
-        assert_eq!(number(&image, newest(21143)), expected, "{start}");
+        assert_eq!(
+            number(&image, Arguments::newest(21143)),
+            expected,
+            "{start}"
+        );
     }
     // A known type with a wrong length, and a type that the chip does not permit.
     for (length, kind) in [(5, 2), (90, 2), (5, 0), (5, 9)] {
         let image = ending_at(21143, 119, &[0x80 | length, kind, 0xFF, 0xFF, 0xFF]);
-        assert_eq!(number(&image, newest(21143)), 13, "{length} {kind}");
+        assert_eq!(
+            number(&image, Arguments::newest(21143)),
+            13,
+            "{length} {kind}"
+        );
     }
     // A 21041 block with EXT and the reserved bit.
     for start in 117..=123 {
         let expected = if start == 117 { 16 } else { 13 };
         let image = ending_at(21041, start, &[0xC0, 0, 0, 0, 0, 0, 0]);
-        assert_eq!(number(&image, newest(21041)), expected, "{start}");
+        assert_eq!(
+            number(&image, Arguments::newest(21041)),
+            expected,
+            "{start}"
+        );
     }
     // More blocks are counted than stand there.
     let mut card = Card::longest(&mut Random::new(1));
     card.leaves[0].count = 92;
-    assert_eq!(number(&card.image(), newest(21041)), 13);
+    assert_eq!(number(&card.image(), Arguments::newest(21041)), 13);
 }
 
 /// "14 extended length 0", at every level, also as the leaf's last byte.
@@ -377,7 +395,7 @@ fn past_the_limit() {
 fn extended_length_zero() {
     for level in 0..=6 {
         for chip in [21140, 21142, 21143, 21145] {
-            let arguments = at_level(chip, level);
+            let arguments = Arguments::at_level(chip, level);
             assert_eq!(number(&tidy(chip, &[&[0x80]]), arguments), 14);
             assert_eq!(number(&ending_at(chip, 123, &[0x80]), arguments), 14);
         }
@@ -412,7 +430,7 @@ fn permitted_for_the_chip() {
         for ((kind, block), is_permitted) in right_blocks()[1..].iter().zip(row) {
             for level in 0..=6 {
                 let is_known = *kind == COMPACT || *kind < level.into();
-                let answer = read_table(&tidy(chip, &[block]), at_level(chip, level)).0;
+                let answer = read_table(&tidy(chip, &[block]), Arguments::at_level(chip, level)).0;
                 let expected = match (is_known, is_permitted) {
                     (false, _) => (0, 0, 0, 1),
                     (true, false) => (14, 0, 0, 0),
@@ -431,13 +449,13 @@ fn permitted_for_the_chip() {
 fn level_zero() {
     let image = tidy(21041, &[&[0x00], &[0x44, 1, 2, 3, 4, 5, 6]]);
     assert_eq!(
-        read_table(&image, at_level(21041, 0)).1,
+        read_table(&image, Arguments::at_level(21041, 0)).1,
         [(257, 34), (257, 33)]
     );
     let image = tidy(21140, &[&[0x85, 0x00, 0xFF, 0, 0, 0], &[0x03, 0, 0, 0]]);
-    let (answer, table) = read_table(&image, at_level(21140, 0));
+    let (answer, table) = read_table(&image, Arguments::at_level(21140, 0));
     assert_eq!((answer.skipped, table.as_slice()), (1, &[(256, 40)][..]));
-    assert_eq!(number(&image, at_level(21140, 1)), 16);
+    assert_eq!(number(&image, Arguments::at_level(21140, 1)), 16);
 }
 
 /// "is stepped over by its length, unjudged": any type from 6 on, of any length.
@@ -447,7 +465,8 @@ fn unknown_types() {
         for length in 1..=80 {
             let unknown = block::extended(kind, &vec![kind; length - 1]);
             let last = block::sia(4, None, 0, 0);
-            let (answer, table) = read_table(&tidy(21143, &[&unknown, &last]), newest(21143));
+            let (answer, table) =
+                read_table(&tidy(21143, &[&unknown, &last]), Arguments::newest(21143));
             assert_eq!((answer.number, answer.skipped), (0, 1));
             assert_eq!(table, [(2, 34 + length as u16)]);
         }
@@ -638,9 +657,9 @@ fn resets() {
             ([&reset, &reset], 18),
         ] {
             let image = tidy(chip, &[blocks[0], blocks[1]]);
-            assert_eq!(number(&image, newest(chip)), expected);
+            assert_eq!(number(&image, Arguments::newest(chip)), expected);
             // Type 5 is not known below level 6.
-            assert_eq!(number(&image, at_level(chip, 5)), 0);
+            assert_eq!(number(&image, Arguments::at_level(chip, 5)), 0);
         }
     }
 }
@@ -669,7 +688,7 @@ fn defaults() {
                 let (one, none) = (maker(code, command), maker(code, 0));
                 let image = tidy(chip, &[&unknown, &none, &one]);
                 let expected = if counts { 2 } else { 255 };
-                let answer = read_table(&image, newest(chip)).0;
+                let answer = read_table(&image, Arguments::newest(chip)).0;
                 assert_eq!(answer.default_number, expected, "{one:02x?}");
                 let expected = if counts { 18 } else { 0 };
                 assert_eq!(number_of(chip, &[&one, &unknown, &one]), expected);
@@ -678,8 +697,18 @@ fn defaults() {
     }
     // A default of a type that is not known is none.
     let image = tidy(21143, &[&block::symbol(3, 0, 0, 0x4000)]);
-    assert_eq!(read_table(&image, at_level(21143, 4)).0.default_number, 255);
-    assert_eq!(read_table(&image, at_level(21143, 5)).0.default_number, 0);
+    assert_eq!(
+        read_table(&image, Arguments::at_level(21143, 4))
+            .0
+            .default_number,
+        255
+    );
+    assert_eq!(
+        read_table(&image, Arguments::at_level(21143, 5))
+            .0
+            .default_number,
+        0
+    );
 }
 
 /// "blocks judged one after another (13 to 17 each), 18 last": the first refused block decides.
@@ -700,14 +729,14 @@ fn views() {
     let (first, last) = (block::sia(0, Some([7; 6]), 1, 2), block::symbol(3, 4, 5, 6));
     let unknown = block::extended(200, &[1, 2, 3]);
     let image = tidy(21143, &[&first, &unknown, &block::reset(&[8]), &last]);
-    let arguments = newest(21143);
+    let arguments = Arguments::newest(21143);
     assert_eq!(view(&image, arguments, 0), last);
     assert_eq!(view(&image, arguments, 1), first);
     assert_eq!(view(&image, arguments, 0).as_ptr(), &image[56]);
     for entry in [2, 3, 255, 256, usize::MAX] {
         assert!(view(&image, arguments, entry).is_empty());
     }
-    assert!(view(&image, at_level(21143, 7), 0).is_empty());
+    assert!(view(&image, Arguments::at_level(21143, 7), 0).is_empty());
     assert!(view(&image[..127], arguments, 0).is_empty());
 }
 

@@ -2,13 +2,13 @@
 
 use super::{
     ADDRESS, CHIP, CONNECTION, CONTROL, COUNT, DEVICE, ID, KINDS, LONGEST_BODY, MAKER, Made,
-    TIDY_LEAF, TOTAL, VERSION, newest,
+    TIDY_LEAF, TOTAL, VERSION,
 };
 use crate::crc::{ID_CRC_OFFSET, IMAGE_LENGTH, SROM_CRC_OFFSET, fast::id_crc, fast::srom_crc};
 use crate::reader::fast::{each_block, each_block_unframed};
 use crate::reader::{
-    CHIPS, COMPACT, EXT, EXTENDED, LEAF_LIMIT, MEDIA_21041, Refusal, first_block, header_size,
-    is_version, kind, refuse_if, word,
+    Arguments, CHIPS, COMPACT, EXT, EXTENDED, LEAF_LIMIT, MEDIA_21041, Refusal, first_block,
+    header_size, is_version, kind, refuse_if, word,
 };
 
 type Image = [u8; IMAGE_LENGTH];
@@ -49,7 +49,7 @@ fn try_write(sheet: &[u8], image_length: usize) -> Result<Image, Refusal> {
     image[ID_CRC_OFFSET] = id_crc(&image).value as u8;
     let stored = srom_crc(&image).value.to_le_bytes();
     image[SROM_CRC_OFFSET..].copy_from_slice(&stored);
-    each_block_unframed(&image, newest(chip), usize::MAX, |_, _| {})?;
+    each_block_unframed(&image, Arguments::newest(chip), usize::MAX, |_, _| {})?;
     Ok(image)
 }
 
@@ -111,7 +111,7 @@ fn has_wrong_form(kind: u16, body: &[u8], chip: u16) -> bool {
 fn try_make(image: &[u8], chip: u16, buffer: &mut [u8]) -> Result<usize, Refusal> {
     let first = TIDY_LEAF + header_size(chip);
     let (mut end, mut total) = (first, 0);
-    let answer = each_block(image, newest(chip), usize::MAX, |_, block| {
+    let answer = each_block(image, Arguments::newest(chip), usize::MAX, |_, block| {
         end = block.start + block.size;
         let is_extended = chip != 21041 && image[block.start] & EXTENDED != 0;
         total += block.size - if is_extended { 2 } else { 0 };

@@ -345,7 +345,7 @@ fn tidy_sample(random: &mut Random) -> Sample {
     let sheet = Sheet::valid(random);
     Sample {
         card: sheet.card(),
-        arguments: newest(sheet.chip),
+        arguments: Arguments::newest(sheet.chip),
     }
 }
 

@@ -3,7 +3,7 @@
 use super::Sheet;
 use crate::images::{Card, Image, Sample, TIDY_LEAF};
 use crate::random::Random;
-use crate::reader::{Arguments, LEAF_LIMIT, NEWEST_LEVEL};
+use crate::reader::{Arguments, LEAF_LIMIT};
 
 /// The refusals of [`crate::images::DAMAGES`] that the maker can answer: those of the controller,
 /// the level and the address are not for controller 0.
@@ -20,11 +20,7 @@ pub fn tidy(random: &mut Random) -> (Card, u16) {
 pub fn damaged(random: &mut Random, number: u8) -> Sample {
     loop {
         let (card, chip) = tidy(random);
-        let arguments = Arguments {
-            chip,
-            controller: 0,
-            level: NEWEST_LEVEL,
-        };
+        let arguments = Arguments::newest(chip);
         let mut sample = Sample { card, arguments };
         if sample.damage(random, number) {
             return sample;

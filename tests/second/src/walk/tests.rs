@@ -3,22 +3,6 @@ use crate::calls::{self, Call, Habits};
 use crate::cases::cases;
 use crate::images::{Card, Image, Sample, block};
 use crate::random::Random;
-use crate::reader::NEWEST_LEVEL;
-
-fn newest(chip: u16) -> Arguments {
-    Arguments {
-        chip,
-        controller: 0,
-        level: NEWEST_LEVEL,
-    }
-}
-
-fn at_level(chip: u16, level: u8) -> Arguments {
-    Arguments {
-        level,
-        ..newest(chip)
-    }
-}
 
 fn image(chip: u16, connection: u16, blocks: Vec<Vec<u8>>) -> Image {
     Card::tidy(chip, connection, blocks).image()
@@ -50,7 +34,10 @@ fn selections(walk: &mut Autosense, reports: &[&[u8]]) -> Vec<u8> {
 /// Default.
 fn compacts(connection: u16, commands: &[u16]) -> Autosense {
     let blocks = commands.iter().map(|&it| block::compact(0, 0, it));
-    loaded(&image(21140, connection, blocks.collect()), newest(21140))
+    loaded(
+        &image(21140, connection, blocks.collect()),
+        Arguments::newest(21140),
+    )
 }
 
 /// "k b, reports 000, 101, 100: none, block 2, block 0, 2 switches; under 0x8800: none, 2, 2, 1
@@ -65,7 +52,7 @@ fn case_k() {
     let sia = |code| vec![0x86, 0x02, code, 0x01, 0x00, 0x02, 0x00];
     let blocks = vec![sia(0), vec![0x81, 0x09], sia(1)];
     assert_eq!(image(21143, 0x0800, blocks.clone()), case_b.image);
-    let mut walk = loaded(&image(21143, 0x8800, blocks), newest(21143));
+    let mut walk = loaded(&image(21143, 0x8800, blocks), Arguments::newest(21143));
     assert_eq!(selections(&mut walk, &reports), [NONE, 2, 2]);
     assert_eq!(state(&walk), (true, 2, 3, 1));
 }
@@ -100,7 +87,7 @@ fn loaded_rows() {
         looks: 0,
         switches: 0,
     };
-    assert_eq!(loaded(&image, newest(21143)).walk(), expected);
+    assert_eq!(loaded(&image, Arguments::newest(21143)).walk(), expected);
     // A reader that does not know type 4 sees neither property, nor the default.
     let expected = Walk {
         listed: row(&[0, 0, 0, 0, 1]),
@@ -108,7 +95,10 @@ fn loaded_rows() {
         default_number: NONE,
         ..expected
     };
-    assert_eq!(loaded(&image, at_level(21143, 4)).walk(), expected);
+    assert_eq!(
+        loaded(&image, Arguments::at_level(21143, 4)).walk(),
+        expected
+    );
 }
 
 /// "Clearing makes it fresh and always succeeds."
@@ -154,7 +144,7 @@ fn served_types() {
             for report in [&[][..], &[2], &[0], &[1]] {
                 let blocks = vec![block::extended(9, &[])];
                 let blocks = if chip == 21041 { vec![vec![0]] } else { blocks };
-                let mut walk = loaded(&image(chip, connection, blocks), newest(chip));
+                let mut walk = loaded(&image(chip, connection, blocks), Arguments::newest(chip));
                 let before = walk.clone();
                 let is_report = report == [0] || report == [1];
                 let expected = match (is_served, is_report) {
@@ -272,11 +262,11 @@ fn table_order() {
     ];
     let image = image(21143, 0x0800, blocks);
     for (level, expected) in [(6, 2), (5, 2), (4, 2), (3, 2), (2, NONE), (0, NONE)] {
-        let mut walk = loaded(&image, at_level(21143, level));
+        let mut walk = loaded(&image, Arguments::at_level(21143, level));
         assert_eq!(selections(&mut walk, &[&[1; 5]]), [expected]);
     }
     for (level, expected) in [(6, 1), (4, 1), (3, 0)] {
-        let mut walk = loaded(&image, at_level(21143, level));
+        let mut walk = loaded(&image, Arguments::at_level(21143, level));
         assert_eq!(selections(&mut walk, &[&[1, 1, 0, 1, 1]]), [expected]);
     }
 }
@@ -289,7 +279,7 @@ fn conditions_are_needed() {
     let pair = |command| {
         let blocks = vec![sia.clone(), block::symbol(3, 0, 0, command)];
         let image = image(21143, 0x0800, blocks);
-        [6, 4].map(|level| loaded(&image, at_level(21143, level)))
+        [6, 4].map(|level| loaded(&image, Arguments::at_level(21143, level)))
     };
     let [mut newest, mut older] = pair(0x4000);
     assert_eq!(selections(&mut newest, &[&[0, 0]]), [1]);
