@@ -5,4 +5,3 @@ pub mod Sheets
 pub mod Crcs
 pub mod Images
 pub mod Returns
-pub mod Cases

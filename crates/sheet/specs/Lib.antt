@@ -6,4 +6,3 @@ pub mod Image
 pub mod Write
 pub mod Make
 pub mod Returns
-pub mod Cases

@@ -1,2 +1,3 @@
 pub mod Worked
 pub mod Conditions
+pub mod Sheets
