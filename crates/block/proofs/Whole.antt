@@ -1,5 +1,5 @@
 -- What `blockOf` comes to, by the form of the block and the tests that a reader makes. Assumes nothing.
-use Prim.Native.Nat.{ℕ, _+_, _≤_, _<_}
+use Prim.Native.Nat.{ℕ, _+_, _%_, _≤_, _<_}
 use native.Mathlib.Omega.{arith}
 use mathlib.Core.Path.{_≡_, refl, sym, _∙_}
 use mathlib.Core.Bool.{Bool, true, false, _&&_}
@@ -107,6 +107,17 @@ unfolding sizeOf siaSize pick
 size-positive row s = go (is21041 row) (bit 6 (byteAt s 0)) (isExtended row s)
   where
     go : (t u v : Bool) → _≤_ 1 (pick t (pick u 7 1) (pick v (1 + lengthOf s) 4))
+    go true true v = omega arith
+    go true false v = omega arith
+    go false u true = omega arith
+    go false u false = omega arith
+
+-- an extended block's length has seven bits
+pub size-small : (row : ℕ) (s : List ℕ) → sizeOf row s ≤ 128
+unfolding sizeOf siaSize lengthOf pick
+size-small row s = go (is21041 row) (bit 6 (byteAt s 0)) (isExtended row s)
+  where
+    go : (t u v : Bool) → pick t (pick u 7 1) (pick v (1 + byteAt s 0 % 128) 4) ≤ 128
     go true true v = omega arith
     go true false v = omega arith
     go false u true = omega arith

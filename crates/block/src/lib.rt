@@ -129,7 +129,7 @@ fn has_bit(k: u16, x: u16) -> bool
 }
 
 // The size of a 21041 block with this code byte: 7 with EXT, 1 without.
-fn sia_size(code: u8) -> usize
+pub fn sia_size(code: u8) -> usize
     ensures { λ r. ⌜ (r ≡ siaSize code) × (r ≤ 7) ⌝ }
 {
     let ext = has_bit(EXT, code as u16);

@@ -14,6 +14,10 @@ ghost use Rattle.crc.specs.Crc.{sromCrc, idCrc};
 ghost use Rattle.header.specs.Image.{versions, controllerCount, reservedAt, baseAddress, headerLength, controlByte, badCount, imageCauses, argumentCauses, leafHeaderCauses};
 ghost use Rattle.header.specs.Header.{rowFor, leafFor, noHeader, foundHeader, headerFor};
 
+const FIRST_VERSION: u8 = 3;
+
+const LAST_VERSION: u8 = 4;
+
 // What a reading is told beside the image: the chip by its decimal number, the controller from 0, and the reader's level.
 #[repr(C)]
 pub struct Arguments {
@@ -21,10 +25,6 @@ pub struct Arguments {
     pub controller: u8,
     pub level: u8,
 }
-
-const FIRST_VERSION: u8 = 3;
-
-const LAST_VERSION: u8 = 4;
 
 // What the header says of a controller's leaf, or a refusal's number and zeros. The row is the chip's, and start is where
 // the first block stands.
@@ -173,7 +173,7 @@ fn argument_refusal(image: &[u8], arguments: Arguments) -> u8
 }
 
 // The bytes of a leaf before its blocks: the 21140 has a control byte.
-fn header_length(row: usize) -> usize
+pub fn header_length(row: usize) -> usize
     ensures { λ r. ⌜ (r ≡ headerLength row) × (3 ≤ r) × (r ≤ 4) ⌝ }
 {
     if row == chip::ROW_21140 {

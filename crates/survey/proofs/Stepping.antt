@@ -1,16 +1,15 @@
 -- The blocks of a leaf one by one, whatever they say: where the next stands, and whether it is the first that is refused.
 -- Assumes nothing.
-use Prim.Native.Nat.{ℕ, zero, suc, _+_, _-_, _%_, _≤_, _<_}
+use Prim.Native.Nat.{ℕ, zero, suc, _+_, _-_, _≤_, _<_}
 use native.Mathlib.Omega.{arith}
 use mathlib.Core.List.{List, _∷_}
 use mathlib.Core.Path.{_≡_, refl, sym, _∙_}
-use mathlib.Core.Bool.{Bool, true, false}
 use lib.ListN.{length, take, drop, getD, drop-of-length-le}
 use lib.Seq.{drop-length}
 use borrow.Author.Tests.{eq-eqb, ne-eqb}
-use Rattle.rom.specs.Bytes.{pick, byteAt, bit}
+use Rattle.rom.specs.Bytes.{pick}
 use Rattle.block.specs.declared.Block.{Block}
-use Rattle.block.specs.Block.{is21041, isExtended, lengthOf, siaSize, sizeOf, kindOf, refusalOf}
+use Rattle.block.specs.Block.{sizeOf, kindOf, refusalOf}
 use Rattle.block.specs.Answer.{blockOf, numberOf, sizeIn}
 use Rattle.block.proofs.Seen.{Seen, seen, seen-number, seen-size}
 use Rattle.leaf.specs.Leaf.{cut, firstFrom, placed, Place as Standing}
@@ -19,17 +18,6 @@ use Rattle.survey.specs.declared.Place.{Place}
 use Rattle.survey.specs.Survey.{placeOf, placeFrom, isRefused}
 
 -- ## Where the next block stands
-
--- an extended block's length has seven bits
-pub size-small : (row : ℕ) (s : List ℕ) → sizeOf row s ≤ 128
-unfolding sizeOf siaSize lengthOf pick
-size-small row s = go (is21041 row) (bit 6 (byteAt s 0)) (isExtended row s)
-  where
-    go : (t u v : Bool) → pick t (pick u 7 1) (pick v (1 + byteAt s 0 % 128) 4) ≤ 128
-    go true true v = omega arith
-    go true false v = omega arith
-    go false u true = omega arith
-    go false u false = omega arith
 
 -- nothing lies behind the end
 pub behind-end : (n : ℕ) (s : List ℕ) → length s < n → take (length s - length s) (drop (length s) s) ≡ drop n s

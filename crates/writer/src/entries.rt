@@ -9,7 +9,6 @@ ghost use Prim.Native.Nat.{_<_};
 ghost use lib.ListN.{length};
 ghost use Rattle.rom.specs.Bytes.{byteAt};
 ghost use Rattle.rom.specs.Refusal.{firstMet};
-ghost use Rattle.block.specs.Block.{siaSize};
 ghost use Rattle.sheet.specs.Lists.{sum};
 ghost use Rattle.sheet.specs.Sheet.{entriesFrom};
 ghost use Rattle.sheet.specs.Write.{isOtherFamily, isBadBody, isBad};
@@ -46,23 +45,13 @@ fn is_other_family(row: usize, kind: u16) -> bool
     kind == KIND_21041
 }
 
-// The size of a 21041 block with this code byte: 7 with EXT, 1 without.
-fn sia_size(code: u8) -> usize
-    ensures { λ r. ⌜ r ≡ siaSize code ⌝ }
-{
-    if code / 64 % 2 == 1 {
-        return 7;
-    }
-    1
-}
-
 // Whether no block of the kind has this body.
 fn is_bad_body(kind: u16, body: &[u8]) -> bool
     ensures { λ r. ⌜ r ≡ isBadBody kind (now (body .entry)) ⌝ }
 {
     let first = rom::byte_at(body, ByteOffset(0));
     if kind == KIND_21041 {
-        return body.len() != sia_size(first);
+        return body.len() != block::sia_size(first);
     }
     if kind != KIND_COMPACT {
         return sheet::LONGEST_BODY < body.len();

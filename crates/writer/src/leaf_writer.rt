@@ -10,7 +10,6 @@ ghost use Prim.Native.Nat.{_+_, _≤_};
 ghost use lib.ListN.{length};
 ghost use Rattle.rom.specs.Geometry.{leavesEnd};
 ghost use Rattle.block.specs.Format.{rowOf};
-ghost use Rattle.header.specs.Image.{headerLength};
 ghost use Rattle.sheet.specs.Layout.{headLength};
 ghost use Rattle.sheet.specs.Sheet.{entriesFrom, sheetFrom};
 ghost use Rattle.sheet.specs.Image.{leafStart, openingOf, encode, encodes, leafHeadOf, leafOf};
@@ -19,16 +18,6 @@ ghost use Rattle.writer.specs.Inside.{entry, Fits, Holds, Writable};
 
 // The first byte of an extended block with an empty body: the top bit, and the length of the type byte alone.
 const EMPTY_EXTENDED: u8 = 129;
-
-// The bytes of a leaf before its blocks: the 21140 has a control byte.
-pub fn header_length(row: usize) -> usize
-    ensures { λ r. ⌜ (r ≡ headerLength row) × (r ≤ 4) ⌝ }
-{
-    if row == chip::ROW_21140 {
-        return 4;
-    }
-    3
-}
 
 // Writes an extended block's length and type; others have neither.
 fn put_opening(room: &mut [u8], to: usize, kind: u16, body: &[u8])
@@ -112,7 +101,7 @@ pub fn put_leaf(room: &mut [u8], sheet: &[u8])
     let bodies = sheet::HEAD_LENGTH + 3 * count;
     put_entries(
         room,
-        header_length(row),
+        header::header_length(row),
         count,
         &sheet[sheet::HEAD_LENGTH..],
         &sheet[sizes..],

@@ -70,7 +70,7 @@ fn record_refusal(sheet: &[u8]) -> u8
     let count = entries::count_at(sheet, sheet::COUNT_AT);
     let sizes = sheet::HEAD_LENGTH + 2 * count;
     let bodies = sheet::HEAD_LENGTH + 3 * count;
-    let start = sheet::LEAF_START + leaf_writer::header_length(row);
+    let start = sheet::LEAF_START + header::header_length(row);
     entries::refusal_of(
         row,
         start,

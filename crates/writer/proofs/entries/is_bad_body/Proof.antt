@@ -11,7 +11,7 @@ sia-size-requires : tie.Need-sia-size-requires
 sia-size-requires c κs = search needs
 
 returns : tie.Need-returns
-returns c = bad-21041 _ _ _ _ (c .before .if1 .taken) (c .before .before .byte-at .ensures) (c .sia-size .ensures)
+returns c = bad-21041 _ _ _ _ (c .before .if1 .taken) (c .before .before .byte-at .ensures) (c .sia-size .ensures .0)
 
 returns-2 : tie.Need-returns-2
 returns-2 c = bad-extended _ _ (c .before .if1 .left) (c .if2 .taken)
