@@ -1,10 +1,16 @@
 //! What the bench tool says of a card, held to the second implementation.
 
-use card::{card, samples};
+use card::{card, samples, temporary};
+use second::crc::{IMAGE_LENGTH, lay_srom_crc};
+use second::images::{Image, Sample};
 use second::random::Random;
-use second::reader::{Answer, Arguments, CHIPS, COMPACT, MEDIA_21041, NEWEST_LEVEL, NO_DEFAULT};
+use second::reader::{
+    Answer, Arguments, CHIPS, COMPACT, MEDIA_21041, NEWEST_LEVEL, NO_DEFAULT, header_size,
+};
+use second::sheet;
 use second::walk::{Autosense, NONE};
 use std::collections::BTreeMap;
+use std::fs;
 
 fn kind_words(kind: u16) -> String {
     match kind {
@@ -126,6 +132,106 @@ fn readings() {
     }
     println!("{verdicts:?}");
     assert!(verdicts.len() > 15, "{verdicts:?}");
+}
+
+/// The block for which an image is refused: the last of the fewest blocks that are refused so, were they the whole leaf.
+fn refused_block(image: &Image, arguments: Arguments, number: u8) -> u8 {
+    let entry = 27 + 3 * usize::from(arguments.controller);
+    let leaf = u16::from_le_bytes([image[entry], image[entry + 1]]);
+    let count = usize::from(leaf) + header_size(arguments.chip) - 1;
+    let is_refused = |&blocks: &u8| {
+        let mut fewer = *image;
+        fewer[count] = blocks;
+        lay_srom_crc(&mut fewer);
+        second::reader::read(&fewer, arguments, &mut [0; 255], &mut [0; 255]).number == number
+    };
+    (1..=image[count]).find(is_refused).unwrap() - 1
+}
+
+/// A refusal from 13 to 17 names the block: cards with a damaged one, of every chip.
+#[test]
+fn named_blocks() {
+    let folder = temporary("named_blocks");
+    let file = folder.join("card.rom");
+    let mut random = Random::new(21143);
+    for number in 13..=17 {
+        for _ in 0..40 {
+            let Sample {
+                card: damaged,
+                arguments,
+            } = Sample::damaged(&mut random, number);
+            let image = damaged.image();
+            fs::write(&file, image).unwrap();
+            let Arguments {
+                chip,
+                controller,
+                level,
+            } = arguments;
+            let run = card(&format!(
+                "read {} {chip} {controller} {level}",
+                file.display()
+            ));
+            let block = refused_block(&image, arguments, number);
+            let line = run
+                .written
+                .lines()
+                .find(|line| line.starts_with("  block "));
+            let named = line.and_then(|line| line.split_whitespace().nth(1));
+            assert!(
+                run.written.starts_with(&format!("REFUSED {number}: ")),
+                "{}",
+                run.written
+            );
+            assert_eq!(
+                named,
+                Some(block.to_string().as_str()),
+                "{arguments:?}\n{}",
+                run.written
+            );
+        }
+    }
+}
+
+/// The sheet of every sample, and the image of that sheet: the second implementation's bytes, or no file.
+#[test]
+fn sheets() {
+    let folder = temporary("sheets");
+    let (made, written) = (folder.join("card.sheet"), folder.join("card.rom"));
+    let mut count = 0;
+    for (name, chip, image) in samples() {
+        let run = card(&format!(
+            "sheet samples/{name} {chip} {} --force",
+            made.display()
+        ));
+        let mut buffer = [0; 1024];
+        let answer = sheet::make(&image, chip, &mut buffer);
+        if answer.number != 0 {
+            assert!(
+                run.written
+                    .starts_with(&format!("REFUSED {}: ", answer.number)),
+                "{name}"
+            );
+            assert_eq!(run.status, 1, "{name}");
+            continue;
+        }
+        let bytes = &buffer[..answer.length];
+        assert_eq!(
+            run.written,
+            format!("ACCEPTED  {} bytes are written\n", bytes.len())
+        );
+        assert_eq!(fs::read(&made).unwrap(), bytes, "{name}");
+        let run = card(&format!(
+            "write {} {} --force",
+            made.display(),
+            written.display()
+        ));
+        let mut image = [0; IMAGE_LENGTH];
+        assert_eq!(sheet::write(bytes, &mut image), 0, "{name}");
+        assert_eq!(run.written, "ACCEPTED  128 bytes are written\n", "{name}");
+        assert_eq!(fs::read(&written).unwrap(), image, "{name}");
+        count += 1;
+    }
+    assert!(count >= 10, "{count} samples have a sheet");
 }
 
 /// The walk: after each look the selected block, settled, looks and switches, or the refusal.
