@@ -1,7 +1,7 @@
 //! Transcripts of the bench tool: each line that begins with `$ ` is run at the root, and what it
 //! writes and its exit status must be as stored. `TRANSCRIPTS=write cargo test -p card` stores
 //! them anew, so they guard against change alone; tests/facts.rs holds verdicts, header fields,
-//! counts, tables, walks and columns to the second implementation.
+//! counts, tables, named blocks, walks, columns and sheets to the second implementation.
 
 use card::{root, shell, temporary};
 use std::fs;
