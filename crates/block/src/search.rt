@@ -4,7 +4,7 @@ ghost use Rattle.rom.specs.Bytes.{isIn};
 ghost use Rattle.block.specs.Format.{placeOf};
 
 // The place of x in a list, or the list's length.
-pub fn place_of(x: u16, list: &[u16]) -> usize
+pub(crate) fn place_of(x: u16, list: &[u16]) -> usize
     ensures { λ r. ⌜ r ≡ placeOf x (now (list .entry)) ⌝ }
 {
     let mut i = 0;
@@ -18,7 +18,7 @@ pub fn place_of(x: u16, list: &[u16]) -> usize
 }
 
 // Whether x stands in a list.
-pub fn is_in(x: u16, list: &[u16]) -> bool
+pub(crate) fn is_in(x: u16, list: &[u16]) -> bool
     ensures { λ r. ⌜ r ≡ isIn x (now (list .entry)) ⌝ }
 {
     place_of(x, list) < list.len()

@@ -290,7 +290,7 @@ fn feed_word(table: &[u8; 256], register: u8, image: &[u8], w: WordNumber) -> u8
 }
 
 // The CRC that byte 16 of an image should hold.
-pub fn of(image: &[u8]) -> u8
+pub(crate) fn of(image: &[u8]) -> u8
     ensures { λ r. ⌜ r ≡ idCrc (now (image .entry)) ⌝ }
 {
     let table = table();

@@ -300,7 +300,7 @@ fn register_of(image: &[u8]) -> u32
 }
 
 // The CRC that an image's last word should hold.
-pub fn of(image: &[u8]) -> u16
+pub(crate) fn of(image: &[u8]) -> u16
     requires { ⌜ checkedLength ≤ length (now image) ⌝ }
     ensures { λ r. ⌜ r ≡ sromCrc (now (image .entry)) ⌝ }
 {

@@ -14,7 +14,7 @@ ghost use Rattle.sheet.specs.Lists.{put};
 ghost use Rattle.maker.specs.Code.{AcceptedBlocks, entriesOf, measuredOf};
 
 // How many bytes a leaf's blocks take, and how many of those their bodies.
-pub struct Measured {
+pub(crate) struct Measured {
     pub size: usize,
     pub bodies: usize,
 }
@@ -30,7 +30,7 @@ fn opening_length(rest: &[u8], row: usize) -> usize
     0
 }
 
-pub fn measure(blocks: &[u8], count: u8, row: usize) -> Measured
+pub(crate) fn measure(blocks: &[u8], count: u8, row: usize) -> Measured
     requires { ⌜ AcceptedBlocks row count (now blocks) ⌝ }
     ensures { λ r. ⌜ r ≡ measuredOf row count (now (blocks .entry)) ⌝ }
     ensures { λ r. ⌜ (r .size ≤ length (now (blocks .entry))) × (r .bodies ≤ r .size) ⌝ }
@@ -115,7 +115,7 @@ fn put_bodies(sheet: &mut [u8], at: usize, blocks: &[u8], count: u8, row: usize)
 }
 
 // The three parts behind a sheet's head.
-pub fn put_parts(sheet: &mut [u8], blocks: &[u8], count: u8, row: usize)
+pub(crate) fn put_parts(sheet: &mut [u8], blocks: &[u8], count: u8, row: usize)
     requires { ⌜ AcceptedBlocks row count (now blocks) ⌝ }
     requires { ⌜ headLength + length (partsOf (entriesOf row count (now blocks))) ≤ length (now sheet) ⌝ }
     ensures { λ _. ⌜ now (sheet .exit) ≡ put (now (sheet .entry)) headLength (partsOf (entriesOf row count (now (blocks .entry)))) ⌝ }

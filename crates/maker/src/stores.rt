@@ -5,7 +5,7 @@ ghost use Prim.Native.Nat.{_+_, _≤_};
 ghost use lib.ListN.{length};
 ghost use Rattle.sheet.specs.Lists.{wordBytes, put};
 
-pub fn put_byte(sheet: &mut [u8], at: usize, byte: u8)
+pub(crate) fn put_byte(sheet: &mut [u8], at: usize, byte: u8)
     requires { ⌜ at + 1 ≤ length (now sheet) ⌝ }
     ensures { λ _. ⌜ now (sheet .exit) ≡ put (now (sheet .entry)) at (byte ∷ []) ⌝ }
 {
@@ -13,7 +13,7 @@ pub fn put_byte(sheet: &mut [u8], at: usize, byte: u8)
 }
 
 // Low byte first.
-pub fn put_word(sheet: &mut [u8], at: usize, word: u16)
+pub(crate) fn put_word(sheet: &mut [u8], at: usize, word: u16)
     requires { ⌜ at + 2 ≤ length (now sheet) ⌝ }
     ensures { λ _. ⌜ now (sheet .exit) ≡ put (now (sheet .entry)) at (wordBytes word) ⌝ }
 {
@@ -21,7 +21,7 @@ pub fn put_word(sheet: &mut [u8], at: usize, word: u16)
     sheet[at + 1] = (word / 256) as u8;
 }
 
-pub fn put_bytes(sheet: &mut [u8], at: usize, source: &[u8])
+pub(crate) fn put_bytes(sheet: &mut [u8], at: usize, source: &[u8])
     requires { ⌜ at + length (now source) ≤ length (now sheet) ⌝ }
     ensures { λ _. ⌜ now (sheet .exit) ≡ put (now (sheet .entry)) at (now (source .entry)) ⌝ }
 {

@@ -36,7 +36,7 @@ fn place(b: Block, at: usize, free: usize, kinds: &mut [u16], offsets: &mut [u16
 }
 
 // Writes the table of a leaf's accepted blocks, of which listed are listed, from the last to the first.
-pub fn fill(
+pub(crate) fn fill(
     blocks: &[u8],
     start: usize,
     count: u8,
@@ -68,7 +68,7 @@ pub fn fill(
 
 // The part of an entry of a leaf's accepted blocks, of which listed are listed; empty where there is no such entry.
 // Entries count from the last block, so the wanted one is that with as many listed blocks behind it.
-pub fn find(
+pub(crate) fn find(
     blocks: &[u8],
     start: usize,
     count: u8,

@@ -15,14 +15,14 @@ ghost use Rattle.sheet.specs.Write.{isOtherFamily, isBadBody, isBad};
 ghost use Rattle.writer.specs.Inside.{entry, Parts, openingSize, entryCauses};
 
 // A byte as a count, 0 past the end.
-pub fn count_at(bytes: &[u8], at: usize) -> usize
+pub(crate) fn count_at(bytes: &[u8], at: usize) -> usize
     ensures { λ r. ⌜ (r ≡ byteAt (now (bytes .entry)) at) × (r < 256) ⌝ }
 {
     rom::byte_at(bytes, ByteOffset(at)) as usize
 }
 
 // The sum of body sizes.
-pub fn sum_of(sizes: &[u8]) -> usize
+pub(crate) fn sum_of(sizes: &[u8]) -> usize
     requires { ⌜ length (now sizes) < 256 ⌝ }
     ensures { λ r. ⌜ r ≡ sum (now (sizes .entry)) ⌝ }
 {
@@ -77,7 +77,7 @@ fn is_bad(row: usize, kind: u16, body: &[u8]) -> bool
 }
 
 // How many bytes stand before a block's body: length and type of an extended one.
-pub fn opening_size(kind: u16) -> usize
+pub(crate) fn opening_size(kind: u16) -> usize
     ensures { λ r. ⌜ r ≡ openingSize kind ⌝ }
 {
     if kind == KIND_COMPACT {
@@ -90,7 +90,7 @@ pub fn opening_size(kind: u16) -> usize
 }
 
 // Refusals 25 and 26 of so many entries, from their kinds, body sizes and bodies, where the first block stands at `start`.
-pub fn refusal_of(
+pub(crate) fn refusal_of(
     row: usize,
     start: usize,
     count: usize,

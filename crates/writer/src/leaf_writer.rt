@@ -90,7 +90,7 @@ fn put_head(room: &mut [u8], row: usize, sheet: &[u8])
 }
 
 // Writes the leaf of a sheet.
-pub fn put_leaf(room: &mut [u8], sheet: &[u8])
+pub(crate) fn put_leaf(room: &mut [u8], sheet: &[u8])
     requires { ⌜ Writable (now sheet) × (leafStart + length (now room) ≡ leavesEnd) ⌝ }
     ensures { λ _. ⌜ now (room .exit) ≡ put (now (room .entry)) 0 (leafOf (sheetFrom (now (sheet .entry)))) ⌝ }
 {

@@ -4,7 +4,7 @@ ghost use Prim.Native.Nat.{_+_, _≤_};
 ghost use lib.ListN.{length};
 ghost use Rattle.sheet.specs.Lists.{wordBytes, put};
 
-pub fn put_bytes(out: &mut [u8], at: usize, source: &[u8])
+pub(crate) fn put_bytes(out: &mut [u8], at: usize, source: &[u8])
     requires { ⌜ at + length (now source) ≤ length (now out) ⌝ }
     ensures { λ _. ⌜ now (out .exit) ≡ put (now (out .entry)) at (now (source .entry)) ⌝ }
 {
@@ -13,7 +13,7 @@ pub fn put_bytes(out: &mut [u8], at: usize, source: &[u8])
 }
 
 // Low byte first.
-pub fn put_word(out: &mut [u8], at: usize, word: u16)
+pub(crate) fn put_word(out: &mut [u8], at: usize, word: u16)
     requires { ⌜ at + 2 ≤ length (now out) ⌝ }
     ensures { λ _. ⌜ now (out .exit) ≡ put (now (out .entry)) at (wordBytes word) ⌝ }
 {

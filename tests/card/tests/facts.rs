@@ -116,7 +116,7 @@ fn readings() {
                         controller,
                         level,
                     };
-                    let run = card(&format!("read samples/{name} {chip} {controller} {level}"));
+                    let run = card(&format!("read samples/{name} {arguments}"));
                     let facts = expected(&image, arguments);
                     assert_eq!(
                         shown(&run.written),
@@ -162,15 +162,7 @@ fn named_blocks() {
             } = Sample::damaged(&mut random, number);
             let image = damaged.image();
             fs::write(&file, image).unwrap();
-            let Arguments {
-                chip,
-                controller,
-                level,
-            } = arguments;
-            let run = card(&format!(
-                "read {} {chip} {controller} {level}",
-                file.display()
-            ));
+            let run = card(&format!("read {} {arguments}", file.display()));
             let block = refused_block(&image, arguments, number);
             let line = run
                 .written

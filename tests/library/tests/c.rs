@@ -209,16 +209,8 @@ fn fields_expected(image: &[u8], arguments: Arguments) -> Vec<String> {
         checksum(crc::srom_crc(short)),
         checksum(crc::id_crc(short)),
         format!(
-            "answer {} {} {} {} {} {} {} {} {}",
-            answer.number,
-            answer.connection,
-            answer.control,
-            answer.address,
-            answer.blocks,
-            answer.listed,
-            answer.resets,
-            answer.skipped,
-            answer.default_number
+            "answer {}",
+            answer.values().map(|value| value.to_string()).join(" ")
         ),
         format!("part {start} {}", part.len()),
     ];
@@ -251,14 +243,9 @@ fn fields_in(compiler: &str, standard: &str, extension: &str) {
         let Sample { card, arguments } = calls::sample(&mut random);
         let image = card.image();
         fs::write(&file, image).unwrap();
-        let Arguments {
-            chip,
-            controller,
-            level,
-        } = arguments;
         let output = run(Command::new(&program)
             .arg(&file)
-            .args([chip, controller.into(), level.into()].map(|number| number.to_string())));
+            .args(arguments.to_string().split(' ')));
         let found = lines(&output);
         assert_eq!(found, fields_expected(&image, arguments));
         for line in found {

@@ -4,6 +4,7 @@
 pub mod fast;
 
 use crate::crc::{self, ID_CRC_OFFSET, IMAGE_LENGTH, SROM_CRC_OFFSET};
+use std::fmt;
 
 /// The chips that a leaf can be for.
 pub const CHIPS: [u16; 5] = [21041, 21140, 21142, 21143, 21145];
@@ -85,6 +86,13 @@ impl Arguments {
     }
 }
 
+/// Chip, controller and level, as the words of a command.
+impl fmt::Display for Arguments {
+    fn fmt(&self, to: &mut fmt::Formatter<'_>) -> fmt::Result {
+        write!(to, "{} {} {}", self.chip, self.controller, self.level)
+    }
+}
+
 /// What reading answers: number 0 with the values, or the refusal's number with zeros. The library's
 /// C interface has the same layout.
 #[repr(C)]
@@ -102,6 +110,21 @@ pub struct Answer {
 }
 
 impl Answer {
+    /// The values of all fields, in their order.
+    pub fn values(&self) -> [u64; 9] {
+        [
+            self.number.into(),
+            self.connection.into(),
+            self.control.into(),
+            self.address,
+            self.blocks.into(),
+            self.listed.into(),
+            self.resets.into(),
+            self.skipped.into(),
+            self.default_number.into(),
+        ]
+    }
+
     fn refused(refusal: Refusal) -> Self {
         Self {
             number: refusal as u8,

@@ -82,17 +82,9 @@ fn line(record: &[u8]) -> String {
     let table: String = entries
         .map(|(kind, offset)| format!(" {kind}@{offset}"))
         .collect();
-    format!(
-        "accepted {:04x} {:02x} {:012x} {} {} {} {} {}{table}\n",
-        answer.connection,
-        answer.control,
-        answer.address,
-        answer.blocks,
-        answer.listed,
-        answer.resets,
-        answer.skipped,
-        answer.default_number,
-    )
+    let [_, connection, control, address, counts @ ..] = answer.values();
+    let counts = counts.map(|count| count.to_string()).join(" ");
+    format!("accepted {connection:04x} {control:02x} {address:012x} {counts}{table}\n")
 }
 
 #[cfg(test)]
