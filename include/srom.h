@@ -128,16 +128,21 @@ srom_part srom_view(const uint8_t *image, size_t image_length, srom_arguments ar
 
 /* ---- The autosense walk ---- */
 
-/* A walk's state, passed and returned by value. The flags stand by block number. */
+/* A row of flags for each property, by block number. */
+typedef struct srom_rows {
+    uint8_t listed[128];         /* 1 for an entry of the media table */
+    uint8_t active_invalid[128]; /* 1 for an entry with Active_Invalid */
+} srom_rows;
+
+/* A walk's state, passed and returned by value. */
 typedef struct srom_walk {
     bool loaded;
     uint16_t connection;
     uint8_t blocks;
-    uint8_t listed[128];         /* 1 for an entry of the media table */
-    uint8_t active_invalid[128]; /* 1 for an entry with Active_Invalid */
-    uint8_t default_number;      /* or SROM_NONE */
+    srom_rows rows;
+    uint8_t default_number; /* or SROM_NONE */
     bool settled;
-    uint8_t selected;            /* block number, or SROM_NONE */
+    uint8_t selected;       /* block number, or SROM_NONE */
     uint16_t looks;
     uint16_t switches;
 } srom_walk;

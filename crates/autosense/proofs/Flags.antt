@@ -10,11 +10,13 @@ use lib.Seq.{set-append-seam}
 use Rattle.rom.specs.Refusal.{firstMet}
 use Rattle.block.specs.declared.Block.{Block}
 use Rattle.block.specs.Answer.{blockOf, numberOf, sizeIn, listedIn}
-use Rattle.block.proofs.Seen.{Seen, refused, unknown, a-reset, a-medium, seen-size}
-use Rattle.leaf.specs.Leaf.{cut, isListed, one, blockCauses}
+use Rattle.block.proofs.Seen.{Seen, refused, unknown, a-reset, a-medium, seen-size, seen-listed}
+use Rattle.block.specs.Block.{isListed}
+use Rattle.rom.specs.Bytes.{one}
+use Rattle.leaf.specs.Leaf.{cut, blockCauses}
 use Rattle.leaf.proofs.Cuts.{cut-more, cut-none, cut-length, rest-part, next-seen, next-fine, next-left}
-use Rattle.leaf.proofs.Tables.{seen-listed}
-use Rattle.autosense.specs.Walk.{noFlags, flags, isInvalid, invalidIn, rowsOf}
+use Rattle.autosense.specs.Walk.{noFlags, flags, isInvalid, rowsOf}
+use Rattle.autosense.specs.Inside.{invalidIn}
 
 -- a row with the flags of the blocks bs from number k on
 unfoldable pub rowFrom : (List ℕ → Bool) → ℕ → List (List ℕ) → List ℕ → List ℕ
@@ -54,13 +56,15 @@ pub record Filled (row level : ℕ) (whole bs : List (List ℕ)) (k : ℕ) (list
   pub is-listed : rowFrom (isListed row level) k bs listed ≡ rowFrom (isListed row level) 0 whole noFlags
   pub is-invalid : rowFrom (isInvalid row level) k bs invalid ≡ rowFrom (isInvalid row level) 0 whole noFlags
 
-pub rows-start : (row level count : ℕ) (s : List ℕ) {l i : List ℕ} → firstMet (blockCauses row level (cut row count s)) ≡ 0 → l ≡ noFlags → i ≡ noFlags
+pub rows-start : (row level count : ℕ) (s : List ℕ) {l i : List ℕ} → firstMet (blockCauses row level (cut row count s)) ≡ 0 → l ≡ noFlags
+    → i ≡ noFlags
     → Filled row level (cut row count s) (cut row (count - 0) s) 0 l i
 rows-start row level count s e el ei = rw (sub-zero, el, ei) (record { accepted = e; is-listed = refl; is-invalid = refl })
 
 -- ## The steps of `rows_of` in its own terms: b is the next block, f and g are its flags, z is its size
 
-module _ (row level count : ℕ) (rest : List ℕ) {whole : List (List ℕ)} {k : ℕ} {listed invalid : List ℕ} (inv : Filled row level whole (cut row (count - k) rest) k listed invalid) where
+module _ (row level count : ℕ) (rest : List ℕ) {whole : List (List ℕ)} {k : ℕ} {listed invalid : List ℕ}
+    (inv : Filled row level whole (cut row (count - k) rest) k listed invalid) where
   pub rows-more : {b : Block} {f g z : ℕ} → k < count → b ≡ blockOf row level rest → f ≡ listedIn b → g ≡ invalidIn b → z ≡ sizeIn b
       → Filled row level whole (cut row (count - (k + 1)) (take (length rest - z) (drop z rest))) (k + 1) (set listed k f) (set invalid k g)
   unfolding rowFrom
@@ -72,7 +76,8 @@ module _ (row level count : ℕ) (rest : List ℕ) {whole : List (List ℕ)} {k 
       rw (rest-part, ez, seen-size view fine, ef, eg, ← seen-listed view fine, ← seen-invalid view fine)
       (record { accepted = next-left row level count rest (inv .accepted) h eb; is-listed = l; is-invalid = i })
 
-  pub rows-done : (blocks : List ℕ) → whole ≡ cut row count blocks → count ≤ 91 → count ≤ k → record { listed = listed; «active_invalid» = invalid } ≡ rowsOf row level whole
+  pub rows-done : (blocks : List ℕ) → whole ≡ cut row count blocks → count ≤ 91 → count ≤ k
+      → record { listed = listed; «active_invalid» = invalid } ≡ rowsOf row level whole
   unfolding rowFrom rowsOf
   rows-done blocks e few h =
       let l = rw cut-none at (inv .is-listed) in

@@ -5,9 +5,9 @@ use mathlib.Core.List.{List}
 use mathlib.Core.Path.{_≡_, sym}
 use mathlib.Core.Bool.{Bool, true, false}
 use lib.Dec.{eqb, lit<}
-use lib.ListN.{length, take, drop, length-take, length-drop}
+use lib.ListN.{length, drop, length-take, length-drop}
 use borrow.Author.Tests.{ne-eqb, leb-false, eqb-false}
-use Rattle.rom.specs.Geometry.{leavesEnd}
+use Rattle.rom.specs.Geometry.{leavesEnd, none}
 use Rattle.rom.specs.Bytes.{pick}
 use Rattle.rom.specs.Refusal.{firstMet}
 use Rattle.rom.proofs.First.{none-here, both-accepted}
@@ -16,7 +16,8 @@ use Rattle.block.specs.Block.{sizeOf}
 use Rattle.block.proofs.Seen.{fits}
 use Rattle.block.proofs.Whole.{size-positive}
 use Rattle.header.specs.declared.Arguments.{Arguments}
-use Rattle.header.specs.Image.{controllerCount, reservedAt, headerLength, blocksAt, badCount, restFrom, imageCauses, argumentCauses, leafHeaderCauses}
+use Rattle.header.specs.Image.{controllerCount, reservedAt, headerLength, blocksAt, badCount, restFrom, imageCauses, argumentCauses}
+use Rattle.header.specs.Image.{leafHeaderCauses}
 use Rattle.header.specs.Header.{rowFor, leafFor, startFor, countFor, headerCauses}
 use Rattle.header.proofs.Headers.{image-numbered, argument-numbered, start-fits}
 use Rattle.leaf.specs.Leaf.{cut, blockCauses}
@@ -36,7 +37,13 @@ unfolding cut
 blocks-few row level zero s e = zero-le
 blocks-few row level (suc count) s e =
     let a = first-accepted row level s (cut row count (drop (sizeOf row s) s)) e in
-    omega (arith, blocks-few row level count (drop (sizeOf row s) s) (a .1), length-drop (sizeOf row s) s, fits row level s (a .0), size-positive row s)
+    omega (
+      arith,
+      blocks-few row level count (drop (sizeOf row s) s) (a .1),
+      length-drop (sizeOf row s) s,
+      fits row level s (a .0),
+      size-positive row s,
+    )
 
 header-positive : (row : ℕ) → 3 ≤ headerLength row
 unfolding headerLength pick
@@ -61,14 +68,16 @@ start-late image a e =
     let behind = leb-false (leafFor image a) (reservedAt image) (or-false _ _ (none-here _ _ (lit< tt) l .0) .0) in
     omega (arith, some, behind, header-positive (rowFor a))
 
-pub few-blocks : (image : List ℕ) (a : Arguments) → firstMet (headerCauses image a) ≡ 0 → firstMet (leafCausesFor image a) ≡ 0 → countFor image a ≤ 91
+pub few-blocks : (image : List ℕ) (a : Arguments) → firstMet (headerCauses image a) ≡ 0 → firstMet (leafCausesFor image a) ≡ 0
+    → countFor image a ≤ 91
 unfolding leafCausesFor restFrom
 few-blocks image a h l =
     omega (
       arith,
       start-late image a h,
       start-fits image a h,
-      blocks-few (rowFor a) (a .level) (countFor image a) (restFrom image (startFor image a)) (accepted-blocks (rowFor a) (a .level) (blocksFor image a) l),
+      blocks-few (rowFor a) (a .level) (countFor image a) (restFrom image (startFor image a))
+          (accepted-blocks (rowFor a) (a .level) (blocksFor image a) l),
       length-take (leavesEnd - startFor image a) (drop (startFor image a) image),
     )
 
@@ -96,18 +105,18 @@ module _ (w : Walk) (image : List ℕ) (a : Arguments) where
     unfolding loadFor walkedTo pick
     load-refused n = rw (load-number, ne-eqb (r .answer .number) 0 n)
 
-    pub load-done : (z : r .answer .number ≡ 0) (rows : Rows) → rows ≡ rowsOf (r .row) (a .level) (cut (r .row) (r .answer .blocks) (restOf image r))
+    pub load-done : (z : r .answer .number ≡ 0) (rows : Rows)
+        → rows ≡ rowsOf (r .row) (a .level) (cut (r .row) (r .answer .blocks) (restOf image r))
         → record {
           number = r .answer .number;
           walk = record {
             loaded = true;
             connection = r .answer .connection;
             blocks = r .answer .blocks;
-            listed = rows .listed;
-            «active_invalid» = rows .«active_invalid»;
+            rows = rows;
             «default_number» = r .answer .«default_number»;
             settled = false;
-            selected = 255;
+            selected = none;
             looks = 0;
             switches = 0;
           };

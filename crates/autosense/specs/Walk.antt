@@ -5,14 +5,12 @@ use mathlib.Core.List.{List, [], _∷_, _++_, map}
 use mathlib.Core.Bool.{Bool, true, false, _||_, _&&_, not}
 use lib.Dec.{eqb, ltb}
 use lib.ListN.{length, replicate}
-use Rattle.rom.specs.Bytes.{pick, byteAt, isIn}
+use Rattle.rom.specs.Geometry.{none}
+use Rattle.rom.specs.Bytes.{pick, byteAt, isIn, one}
 use Rattle.rom.specs.Refusal.{Cause, _⇒_, firstMet}
-use Rattle.block.specs.declared.Block.{Block}
-use Rattle.block.specs.declared.Block.the-variants.{Listed, Reset, Unknown, Refused}
-use Rattle.block.specs.Block.{kindOf, factsOf}
+use Rattle.block.specs.Block.{kindOf, factsOf, isListed}
 use Rattle.header.specs.declared.Arguments.{Arguments}
 use Rattle.header.specs.Header.{rowFor}
-use Rattle.leaf.specs.Leaf.{isListed, one}
 use Rattle.reader.specs.Reading.{blocksFor, judgeCauses, acceptedAnswer}
 use Rattle.autosense.specs.declared.Walk.{Walk}
 use Rattle.autosense.specs.declared.Walked.{Walked}
@@ -33,10 +31,6 @@ abbrev pub powerUpOnly : ℕ
 powerUpOnly = 0x8800
 
 -- ## Rows of flags
-
--- no block: what is selected before the first look, and the default's number where there is none
-abbrev pub none : ℕ
-none = 255
 
 abbrev pub rowLength : ℕ
 rowLength = 128
@@ -62,12 +56,9 @@ flagAt row k = eqb (byteAt row k) 1
 unfoldable pub isInvalid : ℕ → ℕ → List ℕ → Bool
 isInvalid row level s = isListed row level s && factsOf (kindOf row s) s .activeInvalid
 
--- the same of what a block is found to be, as a flag
-abbrev pub invalidIn : Block → ℕ
-invalidIn (Listed kind size invalid marked resets) = one invalid
-invalidIn (Reset size) = 0
-invalidIn (Unknown size) = 0
-invalidIn (Refused n) = 0
+-- no flag in any row
+unfoldable pub noRows : Rows
+noRows = record { listed = noFlags; «active_invalid» = noFlags }
 
 unfoldable pub rowsOf : ℕ → ℕ → List (List ℕ) → Rows
 rowsOf row level bs = record { listed = flags (isListed row level) bs; «active_invalid» = flags (isInvalid row level) bs }
@@ -79,8 +70,7 @@ freshWalk = record {
   loaded = false;
   connection = 0;
   blocks = 0;
-  listed = noFlags;
-  «active_invalid» = noFlags;
+  rows = noRows;
   «default_number» = none;
   settled = false;
   selected = none;
@@ -94,8 +84,7 @@ loadedWalk image a = record {
   loaded = true;
   connection = acceptedAnswer image a .connection;
   blocks = acceptedAnswer image a .blocks;
-  listed = rowsOf (rowFor a) (a .level) (blocksFor image a) .listed;
-  «active_invalid» = rowsOf (rowFor a) (a .level) (blocksFor image a) .«active_invalid»;
+  rows = rowsOf (rowFor a) (a .level) (blocksFor image a);
   «default_number» = acceptedAnswer image a .«default_number»;
   settled = false;
   selected = none;
@@ -123,7 +112,7 @@ isUp report k = flagAt report k
 unfoldable pub stays : Walk → List ℕ → Bool
 stays w report =
     w .settled && not (eqb (w .selected) none)
-    && (eqb (w .connection) powerUpOnly || flagAt (w .«active_invalid») (w .selected) || isUp report (w .selected))
+    && (eqb (w .connection) powerUpOnly || flagAt (w .rows .«active_invalid») (w .selected) || isUp report (w .selected))
 
 -- 2: the candidates are all listed entries, or, once settled, those without Active_Invalid
 unfoldable pub isCandidate : List ℕ → List ℕ → Bool → ℕ → Bool
@@ -134,7 +123,7 @@ unfoldable pub firstUp : List ℕ → List ℕ → Bool → List ℕ → ℕ →
 firstUp listed invalid settled report blocks = lastBelow (λ k. isCandidate listed invalid settled k && isUp report k) blocks
 
 unfoldable pub upIn : Walk → List ℕ → ℕ
-upIn w report = firstUp (w .listed) (w .«active_invalid») (w .settled) report (w .blocks)
+upIn w report = firstUp (w .rows .listed) (w .rows .«active_invalid») (w .settled) report (w .blocks)
 
 -- it is selected and settled becomes yes; with none up, the default is selected, or none, and settled is unchanged
 abbrev pub choice : Bool → ℕ → Choice
@@ -157,8 +146,7 @@ stepped w report = record {
   loaded = w .loaded;
   connection = w .connection;
   blocks = w .blocks;
-  listed = w .listed;
-  «active_invalid» = w .«active_invalid»;
+  rows = w .rows;
   «default_number» = w .«default_number»;
   settled = chosen w report .settled;
   selected = chosen w report .selected;

@@ -1,13 +1,17 @@
 // The autosense walk: which medium of an image's table a controller stands on (document 01, 'The walk').
 use block::Block;
 use reader::Arguments;
+use rom::NONE;
 use rom::refusal;
 ghost use mathlib.Core.Path.{_≡_};
 ghost use Prim.Native.Nat.{_≤_};
 ghost use Rattle.rom.specs.Refusal.{firstMet};
 ghost use Rattle.block.specs.Answer.{listedIn};
-ghost use Rattle.leaf.specs.Leaf.{cut, one, blockCauses};
-ghost use Rattle.autosense.specs.Walk.{noFlags, invalidIn, rowsOf, freshWalk, isServed, flagAt, badReport, isCandidate, firstUp, stays, chosen, switched, stepped, lookCauses, loadFor, lookFor, clearFor};
+ghost use Rattle.rom.specs.Bytes.{one};
+ghost use Rattle.leaf.specs.Leaf.{cut, blockCauses};
+ghost use Rattle.autosense.specs.Inside.{invalidIn};
+ghost use Rattle.autosense.specs.Walk.{noFlags, noRows, rowsOf, freshWalk, isServed, flagAt, badReport, isCandidate, firstUp, stays};
+ghost use Rattle.autosense.specs.Walk.{chosen, switched, stepped, lookCauses, loadFor, lookFor, clearFor};
 
 // ## Connection types (document 01, 'The walk'): those that looks serve, and the one under which a settled walk stays
 
@@ -17,21 +21,23 @@ const POWER_UP_AUTOSENSE: u16 = 0x8800;
 
 const AUTOSENSE_WITH_NWAY: u16 = 0x0900;
 
-// No block: what is selected before the first look, and the default's number where there is none.
-const NONE: u8 = 255;
-
 // The most that looks and switches count.
 const MOST_LOOKS: u16 = 65535;
 
-// A walk, fresh or loaded. The rows have a flag for each block, by its number: whether it is listed, and whether it is and
-// has Active_Invalid.
+// A flag for each block, by its number: whether it is listed, and whether it is and has Active_Invalid.
+#[repr(C)]
+pub struct Rows {
+    pub listed: [u8; 128],
+    pub active_invalid: [u8; 128],
+}
+
+// A walk, fresh or loaded. No block is selected before the first look.
 #[repr(C)]
 pub struct Walk {
     pub loaded: bool,
     pub connection: u16,
     pub blocks: u8,
-    pub listed: [u8; 128],
-    pub active_invalid: [u8; 128],
+    pub rows: Rows,
     pub default_number: u8,
     pub settled: bool,
     pub selected: u8,
@@ -44,12 +50,6 @@ pub struct Walk {
 pub struct Walked {
     pub number: u8,
     pub walk: Walk,
-}
-
-// The rows of a leaf's blocks.
-struct Rows {
-    listed: [u8; 128],
-    active_invalid: [u8; 128],
 }
 
 // What a look selects, and whether the walk is then settled.
@@ -67,6 +67,16 @@ fn no_flags() -> [u8; 128]
     [0u8; 128]
 }
 
+// Rows of no block.
+fn no_rows() -> Rows
+    ensures { λ r. ⌜ r ≡ noRows ⌝ }
+{
+    Rows {
+        listed: no_flags(),
+        active_invalid: no_flags(),
+    }
+}
+
 pub fn fresh() -> Walk
     ensures { λ r. ⌜ r ≡ freshWalk ⌝ }
 {
@@ -74,8 +84,7 @@ pub fn fresh() -> Walk
         loaded: false,
         connection: 0,
         blocks: 0,
-        listed: no_flags(),
-        active_invalid: no_flags(),
+        rows: no_rows(),
         default_number: NONE,
         settled: false,
         selected: NONE,
@@ -110,13 +119,7 @@ fn listed_flag(b: Block) -> u8
     ensures { λ r. ⌜ r ≡ listedIn b ⌝ }
 {
     match b {
-        Block::Listed {
-            kind: _,
-            size: _,
-            active_invalid: _,
-            is_default: _,
-            resets_phy: _,
-        } => 1,
+        Block::Listed(_) => 1,
         Block::Reset { size: _ } => 0,
         Block::Unknown { size: _ } => 0,
         Block::Refused(_) => 0,
@@ -128,13 +131,7 @@ fn invalid_flag(b: Block) -> u8
     ensures { λ r. ⌜ r ≡ invalidIn b ⌝ }
 {
     match b {
-        Block::Listed {
-            kind: _,
-            size: _,
-            active_invalid,
-            is_default: _,
-            resets_phy: _,
-        } => flag_of(active_invalid),
+        Block::Listed(medium) => flag_of(medium.active_invalid),
         Block::Reset { size: _ } => 0,
         Block::Unknown { size: _ } => 0,
         Block::Refused(_) => 0,
@@ -190,14 +187,11 @@ pub fn load(walk: Walk, image: &[u8], arguments: Arguments) -> Walked
         row,
         arguments.level,
     );
-    let listed = rows.listed;
-    let active_invalid = rows.active_invalid;
     let next = Walk {
         loaded: true,
         connection: answer.connection,
         blocks: answer.blocks,
-        listed,
-        active_invalid,
+        rows,
         default_number: answer.default_number,
         settled: false,
         selected: NONE,
@@ -286,7 +280,8 @@ fn stays_there(walk: Walk, report: &[u8]) -> bool
     if walk.connection == POWER_UP_AUTOSENSE {
         return true;
     }
-    let active_invalid = walk.active_invalid;
+    let rows = walk.rows;
+    let active_invalid = rows.active_invalid;
     let invalid = flag_at(&active_invalid, selected);
     if invalid {
         return true;
@@ -338,8 +333,9 @@ fn choose(walk: Walk, report: &[u8]) -> Choice
             selected: walk.selected,
         };
     }
-    let listed = walk.listed;
-    let active_invalid = walk.active_invalid;
+    let rows = walk.rows;
+    let listed = rows.listed;
+    let active_invalid = rows.active_invalid;
     let up = first_up(&listed, &active_invalid, walk.settled, report, walk.blocks);
     if up == NONE {
         return Choice {
@@ -353,7 +349,7 @@ fn choose(walk: Walk, report: &[u8]) -> Choice
     }
 }
 
-// The switches after a look; at their most they stay, which no walk meets that began fresh.
+// The switches after a look; at their most they stay, which no look of a walk meets that began fresh.
 fn count_switch(switches: u16, before: u8, after: u8) -> u16
     ensures { λ r. ⌜ r ≡ switched switches before after ⌝ }
 {

@@ -28,7 +28,8 @@ all-below f (suc n) = f n && all-below f n
 below : (f : ℕ → Bool) (n k : ℕ) → T (all-below f n) → k < n → T (f k)
 below f zero k t h = absurd (omega arith)
 below f (suc n) k t h =
-    ⊎-elim (λ e. rw e (both-left (f n) (all-below f n) t)) (below f n k (both-right (f n) (all-below f n) t)) (eq-or-lt-of-le (le-of-suc-le-suc h))
+    ⊎-elim (λ e. rw e (both-left (f n) (all-below f n) t)) (below f n k (both-right (f n) (all-below f n) t))
+    (eq-or-lt-of-le (le-of-suc-le-suc h))
 
 -- some bit of a is not in c
 abbrev outside : ℕ → ℕ → Bool
@@ -40,7 +41,8 @@ outside a c = beyond 0 || beyond 1 || beyond 2 || beyond 3 || beyond 4
 masked : (a c : ℕ) → a < 32 → c < 32 → not (eqb (bitAnd a c) a) ≡ outside a c
 unfolding bit
 masked a c h g = same-equal (not (eqb (bitAnd a c) a)) (outside a c)
-    (below (λ c. same (not (eqb (bitAnd a c) a)) (outside a c)) 32 c (below (λ a. all-below (λ c. same (not (eqb (bitAnd a c) a)) (outside a c)) 32) 32 a tt h) g)
+    (below (λ c. same (not (eqb (bitAnd a c) a)) (outside a c)) 32 c
+    (below (λ a. all-below (λ c. same (not (eqb (bitAnd a c) a)) (outside a c)) 32) 32 a tt h) g)
 
 -- bit i of a field that starts at a bit is that bit's i-th next
 bit-1 : (x : ℕ) → x % 32 / 1 % 2 ≡ x / 1 % 2
@@ -61,4 +63,5 @@ bit-16 x = omega arith
 pub exceeds-masked : (a c : ℕ) → c < 65536 → not (eqb (bitAnd (a / 32 % 32) (c / 2048)) (a / 32 % 32)) ≡ exceeds a c
 unfolding exceeds bit
 exceeds-masked a c h =
-    masked (a / 32 % 32) (c / 2048) (omega arith) (omega arith) ∙ simp (bit-1 (a / 32), bit-2 (a / 32), bit-4 (a / 32), bit-8 (a / 32), bit-16 (a / 32), div-div-eq-div-mul)
+    masked (a / 32 % 32) (c / 2048) (omega arith) (omega arith)
+    ∙ simp (bit-1 (a / 32), bit-2 (a / 32), bit-4 (a / 32), bit-8 (a / 32), bit-16 (a / 32), div-div-eq-div-mul)

@@ -20,4 +20,5 @@ pub permitted-type : (row kind : ℕ) → isPermitted row kind ≡ true → kind
 unfolding isPermitted permittedRows isIn
 permitted-type row kind e h =
     let t : T (isIn kind (getD permittedRows row [])) = rw e tt in
-    ltb→lt kind newestLevel (simp (lt-leb kindCompact kind h) at (in-row (λ x. leb kindCompact x || ltb x newestLevel) permittedRows tt row kind t))
+    ltb→lt kind newestLevel
+    (simp (lt-leb kindCompact kind h) at (in-row (λ x. leb kindCompact x || ltb x newestLevel) permittedRows tt row kind t))

@@ -26,7 +26,8 @@ pub empty-refused : EmptyRefused
 unfolding refusalOf causes firstMet sizeOf isExtended pick
 empty-refused row level s = go s (is21041 row) refl
   where
-    go : (s : List ℕ) (t : Bool) → is21041 row ≡ t → (not (is21041 row) && leb 128 (byteAt s 0)) ≡ true → lengthOf s ≡ 0 → refusalOf row level s ≡ 14
+    go : (s : List ℕ) (t : Bool) → is21041 row ≡ t → (not (is21041 row) && leb 128 (byteAt s 0)) ≡ true → lengthOf s ≡ 0
+        → refusalOf row level s ≡ 14
     go s true f e z = true-false (sym (simp f at e))
     go [] false f e z = true-false (sym (simp f at e))
     go (b ∷ s) false f e z =

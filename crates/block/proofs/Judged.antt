@@ -9,7 +9,8 @@ use Rattle.rom.specs.Refusal.{firstMet}
 use Rattle.block.specs.declared.Block.{Block}
 use Rattle.block.specs.declared.Block.the-variants.{Refused}
 use Rattle.block.specs.Block.{Facts, lengthOf, siaSize, lengthFor, isWrong}
-use Rattle.block.specs.Answer.{answered, judged}
+use Rattle.block.specs.Inside.{judged}
+use Rattle.block.specs.Answer.{answered}
 
 module _ (f : Facts) (b : Block) where
   pub wrong-length : f .wrongLength ≡ true → Refused 15 ≡ judged f b

@@ -10,7 +10,7 @@ use Rattle.rom.proofs.Fewer.{Fewer, end, and, fewer}
 use Rattle.block.specs.Block.{isExtended, lengthOf, kindOf, isKnown, factsOf, causes, refusalOf}
 use Rattle.block.specs.Format.{kindCompact, isPermitted}
 use Rattle.block.specs.Answer.{blockOf}
-use Rattle.block.specs.Claims.{Down, OnlyKnown}
+use Rattle.block.specs.Claims.{AcceptedBelow, OnlyKnown}
 use Rattle.block.proofs.Exact.{causes-numbered}
 
 -- what an older level knows the newest knows
@@ -22,7 +22,8 @@ known-up older newest kind h = go (leb kindCompact kind)
     go true e = refl
     go false e = lt-ltb kind newest (omega (arith, ltb-true kind older e))
 
-and-down : (k l x : Bool) → (l ≡ true → k ≡ true) → (k && x) ≡ false → (l && x) ≡ false
+-- a test that counts only for what is known can only vanish as less is
+pub and-down : (k l x : Bool) → (l ≡ true → k ≡ true) → (k && x) ≡ false → (l && x) ≡ false
 and-down k true x h e = rw (h refl) at e
 and-down k false x h e = refl
 
@@ -45,7 +46,7 @@ causes-down row older newest s h =
     up : isKnown older (kindOf row s) ≡ true → isKnown newest (kindOf row s) ≡ true
     up = known-up older newest (kindOf row s) h
 
-pub down : Down
+pub down : AcceptedBelow
 unfolding refusalOf
 down row older newest s h = fewer (causes-numbered row newest s) (causes-down row older newest s h)
 

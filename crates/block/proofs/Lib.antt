@@ -7,4 +7,5 @@ pub mod Advertised
 pub mod Whole
 pub mod Exact
 pub mod Seen
+pub mod Own
 pub mod Levels

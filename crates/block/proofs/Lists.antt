@@ -32,7 +32,8 @@ unfolding placeOf isIn pick
 in-place x [] = refl
 in-place x (y ∷ ys) = go (eqb y x) (ltb (placeOf x ys) (length ys)) refl (in-place x ys)
   where
-    go : (t u : Bool) → ltb (placeOf x ys) (length ys) ≡ u → ltb (placeOf x ys) (length ys) ≡ isIn x ys → ltb (pick t 0 (1 + placeOf x ys)) (suc (length ys)) ≡ (t || isIn x ys)
+    go : (t u : Bool) → ltb (placeOf x ys) (length ys) ≡ u → ltb (placeOf x ys) (length ys) ≡ isIn x ys
+        → ltb (pick t 0 (1 + placeOf x ys)) (suc (length ys)) ≡ (t || isIn x ys)
     go true u e ih = lt-ltb 0 (suc (length ys)) (omega arith)
     go false true e ih = lt-ltb (1 + placeOf x ys) (suc (length ys)) (omega (arith, ltb-true (placeOf x ys) (length ys) e)) ∙ sym e ∙ ih
     go false false e ih = le-ltb (1 + placeOf x ys) (suc (length ys)) (omega (arith, ltb-false (placeOf x ys) (length ys) e)) ∙ sym e ∙ ih

@@ -7,9 +7,10 @@ use mathlib.Core.Bool.{Bool, true, false}
 use mathlib.Core.List.{List}
 use lib.Dec.{ltb}
 use Rattle.rom.specs.Bytes.{pick, byteAt, wordAt}
+use Rattle.block.specs.declared.Block.{Block}
 use Rattle.block.specs.declared.Block.the-variants.{Listed}
 use Rattle.block.specs.Block.{lengthOf, gCount, rCount, capabilitiesAt, lengthFor, isWrong, exceeds}
-use Rattle.block.specs.Answer.{phyLength}
+use Rattle.block.specs.Inside.{phyLength}
 use Rattle.block.proofs.Judged.{is-wrong, is-right}
 
 -- so many units take few bytes
@@ -24,6 +25,11 @@ type-1 s = omega arith
 pub type-3 : (s : List ℕ) → lengthFor 3 s ≡ phyLength 2 s
 unfolding lengthFor phyLength pick
 type-3 s = omega arith
+
+-- a PHY, which is reset or not
+abbrev pub listedPhy : ℕ → ℕ → Bool → Block
+listedPhy kind size resets =
+    Listed (record { kind = kind; size = size; «active_invalid» = false; «is_default» = false; «resets_phy» = resets })
 
 module _ (unit : ℕ) (s : List ℕ) {g r : ℕ} (eg : g ≡ byteAt s 3) (er : r ≡ byteAt s (4 + unit * g)) where
   g-count : gCount s ≡ g
@@ -49,11 +55,12 @@ module _ (unit : ℕ) (s : List ℕ) {g r : ℕ} (eg : g ≡ byteAt s 3) (er : r
     pub counts-right : len ≡ 11 + unit + (unit * g + unit * r) → isWrong kind s ≡ false
     counts-right h = is-right kind s e (h ∙ sym asked ∙ sym f)
 
-  pub advertised : {v w : ℕ} {m : Bool} → v ≡ wordAt s (5 + (unit * g + unit * r)) → w ≡ wordAt s (7 + (unit * g + unit * r)) → m ≡ exceeds w v
+  pub advertised : {v w : ℕ} {m : Bool} → v ≡ wordAt s (5 + (unit * g + unit * r)) → w ≡ wordAt s (7 + (unit * g + unit * r))
+      → m ≡ exceeds w v
       → exceeds (wordAt s (capabilitiesAt unit s + 2)) (wordAt s (capabilitiesAt unit s)) ≡ m
   advertised ev ew em =
       let next : 5 + (unit * g + unit * r) + 2 ≡ 7 + (unit * g + unit * r) = omega arith in
       rw (em, ev, ew, capabilities-at, next)
 
-  pub phy-listed : (kind size : ℕ) → Listed kind size false false (ltb 0 r) ≡ Listed kind size false false (ltb 0 (rCount unit s))
+  pub phy-listed : (kind size : ℕ) → listedPhy kind size (ltb 0 r) ≡ listedPhy kind size (ltb 0 (rCount unit s))
   phy-listed kind size = rw r-count

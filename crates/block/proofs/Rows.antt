@@ -37,7 +37,8 @@ member : (p : ℕ → Bool) (x : ℕ) (xs : List ℕ) → T (every p xs) → T (
 unfolding isIn
 member p x [] t h = absurd h
 member p x (y ∷ ys) t h =
-    ⊎-elim (λ e. subst (λ (z : ℕ). T (p z)) (eqb→eq y x e) (both-left (p y) (every p ys) t)) (member p x ys (both-right (p y) (every p ys) t)) (either (eqb y x) (isIn x ys) h)
+    ⊎-elim (λ e. subst (λ (z : ℕ). T (p z)) (eqb→eq y x e) (both-left (p y) (every p ys) t))
+    (member p x ys (both-right (p y) (every p ys) t)) (either (eqb y x) (isIn x ys) h)
 
 abbrev pub every-row : (ℕ → Bool) → List (List ℕ) → Bool
 every-row p [] = true

@@ -13,7 +13,8 @@ use Rattle.block.specs.declared.Block.{Block}
 use Rattle.block.specs.declared.Block.the-variants.{Unknown, Refused}
 use Rattle.block.specs.Format.{row21041, kindCompact, kind21041, newestLevel, isPermitted}
 use Rattle.block.specs.Block.{is21041, isExtended, lengthOf, siaSize, sizeOf, kindOf, isKnown, causes, refusalOf}
-use Rattle.block.specs.Answer.{answered, blockOf, judged, judgedAs}
+use Rattle.block.specs.Inside.{judged, judgedAs}
+use Rattle.block.specs.Answer.{answered, blockOf}
 use Rattle.block.proofs.Chips.{permitted-type}
 
 -- whether a block is extended, its kind and its size, as its first bytes say
@@ -88,18 +89,25 @@ module _ (level row : ℕ) (s : List ℕ) {len : ℕ} (other : row ≡ row21041 
 
     module _ (some : len ≡ 0 → ⊥) (byte : byteAt s 1 < 256) where
       pub extended-unknown : level ≤ byteAt s 1 → Unknown (1 + len) ≡ blockOf row level s
-      extended-unknown h = rw e (unknown level (extended-form row s other high) (omega arith) (ne-eqb (lengthOf s) 0 (λ z. some (e ∙ z))) (unknown-type level _ byte h))
+      extended-unknown h =
+          rw e
+          (unknown level (extended-form row s other high) (omega arith) (ne-eqb (lengthOf s) 0 (λ z. some (e ∙ z)))
+          (unknown-type level _ byte h))
 
       module _ (h : byteAt s 1 < level) {p : Bool} (ep : p ≡ isPermitted row (byteAt s 1)) where
         pub extended-not-permitted : p ≡ false → Refused 14 ≡ blockOf row level s
-        extended-not-permitted g = not-permitted level (extended-form row s other high) (omega arith) (ne-eqb (lengthOf s) 0 (λ z. some (e ∙ z))) (known-type level _ byte h) (sym ep ∙ g)
+        extended-not-permitted g =
+            not-permitted level (extended-form row s other high) (omega arith) (ne-eqb (lengthOf s) 0 (λ z. some (e ∙ z)))
+            (known-type level _ byte h) (sym ep ∙ g)
 
         pub extended-type : p ≡ true → byteAt s 1 < newestLevel
         extended-type g = permitted-type row (byteAt s 1) (sym ep ∙ g) byte
 
         pub extended-fields : {b : Block} → p ≡ true → b ≡ judgedAs (byteAt s 1) (1 + len) s → b ≡ blockOf row level s
         extended-fields g eb =
-            rw e at eb ∙ by-fields level (extended-form row s other high) (omega arith) (ne-eqb (lengthOf s) 0 (λ z. some (e ∙ z))) (known-type level _ byte h) (sym ep ∙ g)
+            rw e at eb
+            ∙ by-fields level (extended-form row s other high) (omega arith) (ne-eqb (lengthOf s) 0 (λ z. some (e ∙ z)))
+            (known-type level _ byte h) (sym ep ∙ g)
 
 -- a block takes at least a byte
 pub size-positive : (row : ℕ) (s : List ℕ) → 1 ≤ sizeOf row s

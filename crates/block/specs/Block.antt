@@ -108,7 +108,14 @@ exceeds advertisement capabilities = beyond 0 || beyond 1 || beyond 2 || beyond 
 -- the 21041's form and type 2: the code byte at `at`
 unfoldable pub sia : Bool → ℕ → List ℕ → Facts
 sia wrong at s =
-    record { wrongLength = wrong; badCode = badSiaCode (byteAt s at); advertisesTooMuch = false; activeInvalid = false; isDefault = false; resetsPhy = false }
+    record {
+      wrongLength = wrong;
+      badCode = badSiaCode (byteAt s at);
+      advertisesTooMuch = false;
+      activeInvalid = false;
+      isDefault = false;
+      resetsPhy = false;
+    }
 
 -- compact and type 0: code byte, port data, command word from byte `at` on
 unfoldable pub port : Bool → ℕ → List ℕ → Facts
@@ -159,6 +166,25 @@ factsOf kind s =
     (pick (eqb kind 3) (phy (isWrong 3 s) 2 s)
     (pick (eqb kind 4) (symbol (isWrong 4 s) s)
     (reset (isWrong 5 s))))))))
+
+-- ## How a level sees a block
+
+-- known blocks but type 5 are listed
+unfoldable pub isListed : ℕ → ℕ → List ℕ → Bool
+isListed row level s = isKnown level (kindOf row s) && not (eqb (kindOf row s) 5)
+
+unfoldable pub isReset : ℕ → ℕ → List ℕ → Bool
+isReset row level s = isKnown level (kindOf row s) && eqb (kindOf row s) 5
+
+-- an unknown type is stepped over
+unfoldable pub isSkipped : ℕ → ℕ → List ℕ → Bool
+isSkipped row level s = not (isKnown level (kindOf row s))
+
+unfoldable pub isDefault : ℕ → ℕ → List ℕ → Bool
+isDefault row level s = isKnown level (kindOf row s) && factsOf (kindOf row s) s .isDefault
+
+unfoldable pub resetsPhy : ℕ → ℕ → List ℕ → Bool
+resetsPhy row level s = isKnown level (kindOf row s) && factsOf (kindOf row s) s .resetsPhy
 
 -- ## Why a reader of a level refuses the block (document 01, 'Why a call is refused', 13 to 17)
 

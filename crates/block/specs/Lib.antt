@@ -2,3 +2,4 @@ pub mod Format
 pub mod Block
 pub mod Answer
 pub mod Claims
+pub mod Inside

@@ -14,7 +14,8 @@ ghost use Prim.Native.Nat.{ℕ, _+_, _≤_, _<_};
 ghost use Rattle.rom.specs.Bytes.{byteAt, bit};
 ghost use Rattle.block.specs.Format.{row21041, newestLevel};
 ghost use Rattle.block.specs.Block.{lengthOf, siaSize, countsAsDefault, exceeds, lengthFor, isWrong, sia, port, symbol, phy, reset};
-ghost use Rattle.block.specs.Answer.{asMedium, judged, judgedAs, phyLength, blockOf, numberOf, sizeIn, listedIn};
+ghost use Rattle.block.specs.Inside.{asMedium, judged, judgedAs, phyLength};
+ghost use Rattle.block.specs.Answer.{blockOf, numberOf, sizeIn, listedIn};
 
 // The kind of a compact block. An extended block's kind is its type.
 pub const KIND_COMPACT: u16 = 256;
@@ -41,21 +42,20 @@ const SYM_CODES: [u16; 5] = [3, 5, 6, 7, 8];
 
 const NEVER_DEFAULT: [u16; 3] = [4, 5, 8];
 
+// What is said of a listed block, a medium or a PHY.
+pub struct Medium {
+    pub kind: u16,
+    pub size: usize,
+    pub active_invalid: bool,
+    pub is_default: bool,
+    pub resets_phy: bool,
+}
+
 // What a block is found to be. A size counts the first byte too.
 pub enum Block {
-    Listed {
-        kind: u16,
-        size: usize,
-        active_invalid: bool,
-        is_default: bool,
-        resets_phy: bool,
-    },
-    Reset {
-        size: usize,
-    },
-    Unknown {
-        size: usize,
-    },
+    Listed(Medium),
+    Reset { size: usize },
+    Unknown { size: usize },
     Refused(u8),
 }
 
@@ -64,13 +64,7 @@ pub fn number_of(block: Block) -> u8
     ensures { λ r. ⌜ r ≡ numberOf block ⌝ }
 {
     match block {
-        Block::Listed {
-            kind: _,
-            size: _,
-            active_invalid: _,
-            is_default: _,
-            resets_phy: _,
-        } => refusal::ACCEPTED,
+        Block::Listed(_) => refusal::ACCEPTED,
         Block::Reset { size: _ } => refusal::ACCEPTED,
         Block::Unknown { size: _ } => refusal::ACCEPTED,
         Block::Refused(number) => number,
@@ -82,13 +76,7 @@ pub fn size_of(block: Block) -> usize
     ensures { λ r. ⌜ r ≡ sizeIn block ⌝ }
 {
     match block {
-        Block::Listed {
-            kind: _,
-            size,
-            active_invalid: _,
-            is_default: _,
-            resets_phy: _,
-        } => size,
+        Block::Listed(medium) => medium.size,
         Block::Reset { size } => size,
         Block::Unknown { size } => size,
         Block::Refused(_) => 0,
@@ -100,13 +88,7 @@ pub fn listed_of(block: Block) -> usize
     ensures { λ r. ⌜ r ≡ listedIn block ⌝ }
 {
     match block {
-        Block::Listed {
-            kind: _,
-            size: _,
-            active_invalid: _,
-            is_default: _,
-            resets_phy: _,
-        } => 1,
+        Block::Listed(_) => 1,
         Block::Reset { size: _ } => 0,
         Block::Unknown { size: _ } => 0,
         Block::Refused(_) => 0,
@@ -175,13 +157,13 @@ fn judge_sia(rest: &[u8], at: usize, kind: u16, size: usize) -> Block
     if !fine {
         return Block::Refused(refusal::BLOCK_CODE);
     }
-    Block::Listed {
+    Block::Listed(Medium {
         kind,
         size,
         active_invalid: false,
         is_default: false,
         resets_phy: false,
-    }
+    })
 }
 
 // Compact and type 0: code byte, port data, command word from `at` on.
@@ -204,13 +186,13 @@ fn judge_port(rest: &[u8], at: usize, kind: u16, size: usize) -> Block
     }
     let active_invalid = has_bit(ACTIVE_INVALID, command);
     let is_default = counts_as_default(media_code, command);
-    Block::Listed {
+    Block::Listed(Medium {
         kind,
         size,
         active_invalid,
         is_default,
         resets_phy: false,
-    }
+    })
 }
 
 // Type 0, length 5: the compact form's four bytes.
@@ -256,13 +238,13 @@ fn judge_type_4(rest: &[u8], len: usize) -> Block
     let command = rom::word_at(rest, ByteOffset(7));
     let active_invalid = has_bit(ACTIVE_INVALID, command);
     let is_default = counts_as_default(media_code, command);
-    Block::Listed {
+    Block::Listed(Medium {
         kind: 4,
         size: 1 + len,
         active_invalid,
         is_default,
         resets_phy: false,
-    }
+    })
 }
 
 // Type 5, length 2r+2: r, r words.
@@ -296,13 +278,13 @@ fn judge_phy(rest: &[u8], len: usize, kind: u16, unit: usize) -> Block
     if more {
         return Block::Refused(refusal::ADVERTISEMENT);
     }
-    Block::Listed {
+    Block::Listed(Medium {
         kind,
         size: 1 + len,
         active_invalid: false,
         is_default: false,
         resets_phy: 0 < resets,
-    }
+    })
 }
 
 // An extended block of a known and permitted type, by its fields.

@@ -8,22 +8,22 @@ use borrow.Author.Tests.{eq-eqb, ne-eqb}
 use Rattle.rom.specs.Bytes.{pick}
 use Rattle.rom.specs.Refusal.{Numbered, firstMet}
 use Rattle.rom.proofs.First.{exact}
-use Rattle.crc.specs.Answer.{causes, answer, sromAnswer, idAnswer}
-use Rattle.crc.specs.Claims.{ExactRefusals}
+use Rattle.crc.specs.Answer.{crcCauses, answer, sromAnswer, idAnswer}
+use Rattle.crc.specs.Claims.{ExactCrcs}
 
 module _ (image : List ℕ) (crc : ℕ) where
-  pub refused : (length image ≡ 128 → ⊥) → record { number = 1; value = 0 } ≡ answer (firstMet (causes image)) crc
-  unfolding answer firstMet causes pick
+  pub refused : (length image ≡ 128 → ⊥) → record { number = 1; value = 0 } ≡ answer (firstMet (crcCauses image)) crc
+  unfolding answer firstMet crcCauses pick
   refused h = simp (ne-eqb (length image) 128 h)
 
-  pub accepted : length image ≡ 128 → record { number = 0; value = crc } ≡ answer (firstMet (causes image)) crc
-  unfolding answer firstMet causes pick
+  pub accepted : length image ≡ 128 → record { number = 0; value = crc } ≡ answer (firstMet (crcCauses image)) crc
+  unfolding answer firstMet crcCauses pick
   accepted h = simp (eq-eqb (length image) 128 h)
 
-numbered : (image : List ℕ) → Numbered (causes image)
-unfolding causes
+numbered : (image : List ℕ) → Numbered (crcCauses image)
+unfolding crcCauses
 numbered image = (lit< tt, tt)
 
-pub exact-refusals : ExactRefusals
+pub exact-crcs : ExactCrcs
 unfolding sromAnswer idAnswer answer
-exact-refusals image = let e = exact (causes image) (numbered image) .0 in (e, e)
+exact-crcs image = let e = exact (crcCauses image) (numbered image) .0 in (e, e)

@@ -6,8 +6,9 @@ use Prim.Native.Nat.{ℕ, zero, suc, _+_, _<_}
 use native.Mathlib.Nat.{add-zero, zero-add, add-suc, suc-add, le-of-suc-le-suc, not-suc-le-zero}
 use lib.ListN.{getD}
 use Rattle.crc.specs.Crc.{idBits}
-use Rattle.crc.specs.Reflected.{reflected, turns}
-use Rattle.crc.specs.Tables.{valuesFrom, sromTable, idTable}
+use Rattle.crc.specs.Inside.{reflected, turns}
+use Rattle.rom.specs.Bytes.{valuesFrom}
+use Rattle.crc.specs.Inside.{sromTable, idTable}
 
 from : (f : ℕ → ℕ) (n i k : ℕ) → k < n → getD (valuesFrom f i n) k 0 ≡ f (i + k)
 from f zero i k h = absurd (not-suc-le-zero h)

@@ -11,7 +11,7 @@ use lib.Bits.{bitXor, xor-shr, xor-mod, xor-comm, xor-self, xor-zero-l, xor-zero
 use lib.Pow.{pow-pos, shr-lt}
 use lib.Dec.{lit<}
 use Rattle.crc.specs.Crc.{xorIf, step}
-use Rattle.crc.specs.Reflected.{turn, turns, bitsIn}
+use Rattle.crc.specs.Inside.{turn, turns, bitsIn}
 
 digits-assoc : (x y z : ℕ) → x < 2 → y < 2 → z < 2 → bitXor (bitXor x y) z ≡ bitXor x (bitXor y z)
 digits-assoc zero y z hx hy hz = refl

@@ -10,15 +10,15 @@ use Rattle.rom.specs.Refusal.{Cause, _⇒_, firstMet}
 use Rattle.crc.specs.declared.Checksum.{Checksum}
 use Rattle.crc.specs.Crc.{sromCrc, idCrc}
 
-unfoldable pub causes : List ℕ → List Cause
-causes image = (1 ⇒ not (eqb (length image) imageLength)) ∷ []
+unfoldable pub crcCauses : List ℕ → List Cause
+crcCauses image = (1 ⇒ not (eqb (length image) imageLength)) ∷ []
 
 -- the CRC, or the refusal's number and 0
 unfoldable pub answer : ℕ → ℕ → Checksum
 answer number crc = record { number = number; value = pick (eqb number 0) crc 0 }
 
 unfoldable pub sromAnswer : List ℕ → Checksum
-sromAnswer image = answer (firstMet (causes image)) (sromCrc image)
+sromAnswer image = answer (firstMet (crcCauses image)) (sromCrc image)
 
 unfoldable pub idAnswer : List ℕ → Checksum
-idAnswer image = answer (firstMet (causes image)) (idCrc image)
+idAnswer image = answer (firstMet (crcCauses image)) (idCrc image)

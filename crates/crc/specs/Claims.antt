@@ -2,15 +2,14 @@
 use Prim.Native.Nat.{ℕ}
 use mathlib.Core.Path.{_≡_}
 use mathlib.Core.List.{List}
-use Rattle.rom.specs.Bytes.{byteAt}
+use Rattle.rom.specs.Bytes.{byteAt, valuesFrom}
 use Rattle.rom.specs.Refusal.{Exact}
 use Rattle.crc.specs.Crc.{ones, sromCrc, idBits, idWords, idCrc}
-use Rattle.crc.specs.Tables.{valuesFrom}
-use Rattle.crc.specs.Answer.{causes, sromAnswer, idAnswer}
+use Rattle.crc.specs.Answer.{crcCauses, sromAnswer, idAnswer}
 
 -- a number other than 0 means that its cause is met and none before it; 0 that none is met
-abbrev pub ExactRefusals : Type 0
-ExactRefusals = (image : List ℕ) → Exact (causes image) (sromAnswer image .number) × Exact (causes image) (idAnswer image .number)
+abbrev pub ExactCrcs : Type 0
+ExactCrcs = (image : List ℕ) → Exact (crcCauses image) (sromAnswer image .number) × Exact (crcCauses image) (idAnswer image .number)
 
 -- where byte 16 is the ID CRC, feeding it in leaves the register 0
 abbrev pub RegisterIsZero : Type 0
@@ -24,6 +23,6 @@ WordsLeaveZero = (image : List ℕ) → byteAt image 16 ≡ idCrc image → idWo
 abbrev pub counting : List ℕ
 counting = valuesFrom (λ i. i) 0 128
 
--- its CRCs, as worked out apart from this project's code
-abbrev pub Worked : Type 0
-Worked = (sromCrc counting ≡ 0x1FB5) × (idCrc counting ≡ 0x22)
+-- its CRCs, as the second implementation (tests/second) has them
+abbrev pub CrcsWorked : Type 0
+CrcsWorked = (sromCrc counting ≡ 0x1FB5) × (idCrc counting ≡ 0x22)

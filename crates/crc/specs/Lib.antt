@@ -1,5 +1,4 @@
 pub mod Crc
 pub mod Answer
 pub mod Claims
-pub mod Reflected
-pub mod Tables
+pub mod Inside

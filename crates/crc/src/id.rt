@@ -2,7 +2,7 @@
 use rom::WordNumber;
 ghost use mathlib.Core.Path.{_≡_};
 ghost use Rattle.crc.specs.Crc.{idBits, word, idCrc};
-ghost use Rattle.crc.specs.Tables.{idTable};
+ghost use Rattle.crc.specs.Inside.{idTable};
 
 // What eight steps make of each register.
 const TABLE: [u8; 256] = [

@@ -6,8 +6,7 @@ ghost use lib.Bits.{bitXor};
 ghost use lib.ListN.{length, take};
 ghost use Rattle.rom.specs.Geometry.{checkedLength};
 ghost use Rattle.crc.specs.Crc.{sromBytes, reversed, ones, sromCrc};
-ghost use Rattle.crc.specs.Reflected.{reflected, turns};
-ghost use Rattle.crc.specs.Tables.{sromTable};
+ghost use Rattle.crc.specs.Inside.{reflected, turns, sromTable};
 
 // What eight steps make of each value of the eight lowest bits.
 const TABLE: [u32; 256] = [

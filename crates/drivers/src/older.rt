@@ -121,7 +121,7 @@ const SKIPPED: u8 = 3;
 const DEFAULT: u8 = 4;
 
 fn default_cell(line: Line, number: u8, end: usize) -> Line {
-    if number == survey::NONE {
+    if number == rom::NONE {
         return line.right_text(b"none", end);
     }
     line.right(number as u64, end)

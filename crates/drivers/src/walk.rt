@@ -89,7 +89,7 @@ fn report_words(place: usize) -> Line {
 }
 
 fn selected_words(line: Line, image: &[u8], arguments: Arguments, selected: u8) -> Line {
-    if selected == survey::NONE {
+    if selected == rom::NONE {
         return line.text(b"none selected");
     }
     let place = library::block_place(image, arguments, selected);

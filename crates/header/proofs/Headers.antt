@@ -20,7 +20,8 @@ use Rattle.block.specs.Format.{chips, placeOf, rowOf}
 use Rattle.block.proofs.Lists.{in-place}
 use Rattle.header.specs.declared.Arguments.{Arguments}
 use Rattle.header.specs.declared.Header.{Header}
-use Rattle.header.specs.Image.{versions, controllerCount, reservedAt, baseAddress, addressOf, headerLength, controlByte, blocksAt, blockCount, badCount, imageCauses, argumentCauses, leafHeaderCauses}
+use Rattle.header.specs.Image.{versions, controllerCount, reservedAt, baseAddress, addressOf, headerLength, controlByte, blocksAt}
+use Rattle.header.specs.Image.{blockCount, badCount, imageCauses, argumentCauses, leafHeaderCauses}
 use Rattle.header.specs.Header.{rowFor, leafFor, startFor, countFor, headerCauses, noHeader, foundHeader, headerFor}
 
 -- ## The image alone
@@ -134,7 +135,8 @@ module _ (image : List ℕ) (a : Arguments) where
       past-arguments : firstMet (headerCauses image a) ≡ firstMet (leafHeaderCauses image (rowFor a) (leafFor image a))
       past-arguments = past-image ∙ after-accepted (argumentCauses image a) _ (argument-numbered image a) (sym g)
 
-      pub by-leaf : (n : ℕ) → (n ≡ 0 → ⊥) → n ≡ firstMet (leafHeaderCauses image (rowFor a) (leafFor image a)) → noHeader n ≡ headerFor image a
+      pub by-leaf : (n : ℕ) → (n ≡ 0 → ⊥) → n ≡ firstMet (leafHeaderCauses image (rowFor a) (leafFor image a))
+          → noHeader n ≡ headerFor image a
       by-leaf n h e = refused-by n h (past-arguments ∙ sym e)
 
       pub header-found : 0 ≡ firstMet (leafHeaderCauses image (rowFor a) (leafFor image a)) → foundHeader image a ≡ headerFor image a
@@ -145,7 +147,15 @@ module _ (image : List ℕ) (a : Arguments) where
 pub fields : (image : List ℕ) (a : Arguments) (row leaf header connection control base blocks : ℕ)
     → row ≡ rowFor a → leaf ≡ leafFor image a → header ≡ headerLength row → connection ≡ wordAt image leaf
     → control ≡ controlByte image row leaf → base ≡ baseAddress image → blocks ≡ byteAt image (leaf + header - 1)
-    → record { number = 0; row = row; start = leaf + header; connection = connection; control = control; address = base + a .controller; blocks = blocks } ≡ foundHeader image a
+    → record {
+      number = 0;
+      row = row;
+      start = leaf + header;
+      connection = connection;
+      control = control;
+      address = base + a .controller;
+      blocks = blocks;
+    } ≡ foundHeader image a
 unfolding foundHeader blocksAt blockCount addressOf
 fields image a row leaf header connection control base blocks er el eh ec eo eb en = rw (ec, eo, eb, en, eh, el, er)
 

@@ -23,6 +23,10 @@ startFor image a = blocksAt (rowFor a) (leafFor image a)
 abbrev pub countFor : List ℕ → Arguments → ℕ
 countFor image a = blockCount image (rowFor a) (leafFor image a)
 
+-- the same arguments for a reader of a level
+abbrev pub atLevel : Arguments → ℕ → Arguments
+atLevel a level = record { chip = a .chip; controller = a .controller; level = level }
+
 -- ## Why a header is refused
 
 -- 1 to 11

@@ -4,7 +4,8 @@ use mathlib.Core.List.{List, [], _∷_}
 use mathlib.Core.Bool.{Bool, _||_, not}
 use lib.Dec.{eqb, leb, ltb}
 use lib.ListN.{length, take, drop}
-use Rattle.rom.specs.Geometry.{imageLength, checkedLength, leavesEnd, idCrcAt, versionAt, controllerCountAt, addressAt, controllersAt, mostControllers}
+use Rattle.rom.specs.Geometry.{imageLength, checkedLength, leavesEnd, idCrcAt, versionAt, controllerCountAt, addressAt, controllersAt}
+use Rattle.rom.specs.Geometry.{mostControllers}
 use Rattle.rom.specs.Bytes.{pick, byteAt, wordAt, isIn}
 use Rattle.rom.specs.Refusal.{Cause, _⇒_}
 use Rattle.crc.specs.Crc.{sromCrc, idCrc}

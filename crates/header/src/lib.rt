@@ -11,7 +11,8 @@ ghost use Rattle.rom.specs.Geometry.{imageLength, checkedLength, idCrcAt, versi
 ghost use Rattle.rom.specs.Bytes.{byteAt, wordAt, isIn};
 ghost use Rattle.rom.specs.Refusal.{firstMet};
 ghost use Rattle.crc.specs.Crc.{sromCrc, idCrc};
-ghost use Rattle.header.specs.Image.{versions, controllerCount, reservedAt, baseAddress, headerLength, controlByte, badCount, imageCauses, argumentCauses, leafHeaderCauses};
+ghost use Rattle.header.specs.Image.{versions, controllerCount, reservedAt, baseAddress, headerLength, controlByte, badCount};
+ghost use Rattle.header.specs.Image.{imageCauses, argumentCauses, leafHeaderCauses};
 ghost use Rattle.header.specs.Header.{rowFor, leafFor, noHeader, foundHeader, headerFor};
 
 const FIRST_VERSION: u8 = 3;

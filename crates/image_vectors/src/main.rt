@@ -1,4 +1,5 @@
-// The reading of each record on standard input, one line a record: chip (word), controller, level, image.
+// The reading of each record on standard input, one line a record: chip (word), controller, level, image. Each entry of the
+// table is printed as kind@offset:block.
 use libc::STDIN_FILENO;
 use libc::STDOUT_FILENO;
 use reader::Answer;
@@ -40,12 +41,19 @@ fn print_entry(kind: u16, offset: u16) {
     io::print_decimal(STDOUT_FILENO, offset as u64);
 }
 
-fn print_table(kinds: &[u16], offsets: &[u16], listed: usize) {
+// The block of an entry, as the view hands it back.
+fn print_block(image: &[u8], arguments: Arguments, entry: usize) {
+    io::write_all(STDOUT_FILENO, b":");
+    vectors::print_bytes(reader::view(image, arguments, entry));
+}
+
+fn print_table(image: &[u8], arguments: Arguments, kinds: &[u16], offsets: &[u16], listed: usize) {
     let mut i = 0;
     while i < listed {
         if i < kinds.len() {
             if i < offsets.len() {
                 print_entry(kinds[i], offsets[i]);
+                print_block(image, arguments, i);
             }
         }
         i += 1;
@@ -60,7 +68,7 @@ fn print_reading(image: &[u8], arguments: Arguments) {
         print_refusal(answer.number);
     } else {
         print_answer(answer);
-        print_table(&kinds, &offsets, answer.listed as usize);
+        print_table(image, arguments, &kinds, &offsets, answer.listed as usize);
     }
     io::write_all(STDOUT_FILENO, b"\n");
 }

@@ -9,18 +9,20 @@ use mathlib.Core.Bool.{Bool, true, false, _||_, _&&_, not}
 use lib.Dec.{eqb, ltb, lit<, eqb·suc-zero}
 use lib.ListN.{length, take, drop}
 use borrow.Author.Tests.{ltb-false, eqb-true, ne-eqb}
-use Rattle.rom.specs.Bytes.{pick}
+use Rattle.rom.specs.Geometry.{none}
+use Rattle.rom.specs.Bytes.{pick, one}
 use Rattle.rom.specs.Refusal.{firstMet}
 use Rattle.rom.proofs.First.{none-here, after-accepted, after-refused}
 use Rattle.rom.proofs.Truth.{or-false}
 use Rattle.block.specs.declared.Block.{Block}
-use Rattle.block.specs.Block.{kindOf, isKnown, factsOf, reset, causes, refusalOf}
+use Rattle.block.specs.Block.{kindOf, isKnown, factsOf, reset, causes, refusalOf, isListed, isReset, isSkipped, isDefault, resetsPhy}
 use Rattle.block.specs.Answer.{blockOf, numberOf, sizeIn}
 use Rattle.block.proofs.Exact.{causes-numbered}
 use Rattle.block.proofs.Seen.{Seen, refused, unknown, a-reset, a-medium, seen, seen-number, seen-size}
 use Rattle.leaf.specs.declared.Tally.{Tally}
-use Rattle.leaf.specs.Leaf.{cut, isListed, isReset, isSkipped, isDefault, resetsPhy, one, countOf, firstFrom, clash, blockCauses, clashCause, leafCauses}
-use Rattle.leaf.specs.Tally.{noTally, startTally, counts, tallyOf, firstNumber, plus}
+use Rattle.leaf.specs.Leaf.{cut, countOf, firstFrom, clash, blockCauses, clashCause, leafCauses}
+use Rattle.leaf.specs.Inside.{startTally, firstNumber, plus}
+use Rattle.leaf.specs.Tally.{noTally, counts, tallyOf}
 use Rattle.leaf.specs.Claims.{SortsAddUp}
 use Rattle.leaf.proofs.Cuts.{cut-more, cut-none, cut-length, rest-part, leaf-accepted}
 use Rattle.leaf.proofs.Tables.{few-one}
@@ -35,7 +37,8 @@ tally-number row level bs = go (firstMet (leafCauses row level bs))
     go zero = refl
     go (suc n) = rw (eqb·suc-zero n)
 
-pub tally-accepted : (row level : ℕ) (bs : List (List ℕ)) → firstMet (leafCauses row level bs) ≡ 0 → tallyOf row level bs ≡ counts row level bs
+pub tally-accepted : (row level : ℕ) (bs : List (List ℕ)) → firstMet (leafCauses row level bs) ≡ 0
+    → tallyOf row level bs ≡ counts row level bs
 unfolding tallyOf pick
 tally-accepted row level bs e = rw e
 
@@ -43,7 +46,9 @@ tally-accepted row level bs e = rw e
 pub accepted-defaults : (row level : ℕ) (bs : List (List ℕ)) → firstMet (leafCauses row level bs) ≡ 0 → countOf (isDefault row level) bs ≤ 1
 unfolding clashCause clash
 accepted-defaults row level bs e =
-    ltb-false 1 _ (or-false (ltb 1 resets || ltb 0 resets && ltb 0 phys) (ltb 1 defaults) (none-here (clashCause row level bs) [] (lit< tt) (leaf-accepted row level bs e .1) .0) .1)
+    ltb-false 1 _
+    (or-false (ltb 1 resets || ltb 0 resets && ltb 0 phys) (ltb 1 defaults)
+    (none-here (clashCause row level bs) [] (lit< tt) (leaf-accepted row level bs e .1) .0) .1)
   where
     resets : ℕ
     resets = countOf (isReset row level) bs
@@ -66,7 +71,8 @@ one-sort row level s = go (isKnown level (kindOf row s)) (eqb (kindOf row s) 5)
     go true false = refl
     go false r = refl
 
-sorts-length : (row level : ℕ) (bs : List (List ℕ)) → countOf (isListed row level) bs + countOf (isReset row level) bs + countOf (isSkipped row level) bs ≡ length bs
+sorts-length : (row level : ℕ) (bs : List (List ℕ))
+    → countOf (isListed row level) bs + countOf (isReset row level) bs + countOf (isSkipped row level) bs ≡ length bs
 unfolding countOf
 sorts-length row level [] = refl
 sorts-length row level (s ∷ bs) = omega (arith, one-sort row level s, sorts-length row level bs)
@@ -87,13 +93,14 @@ pub record Grown (row level : ℕ) (s : List ℕ) (k : ℕ) (t u : Tally) : Type
 
 kept : (old k : ℕ) → old ≡ firstNumber old false k
 unfolding firstNumber pick
-kept old k = go (eqb old 255) (eqb-true old 255)
+kept old k = go (eqb old none) (eqb-true old none)
   where
-    go : (t : Bool) → (t ≡ true → old ≡ 255) → old ≡ pick t 255 old
+    go : (t : Bool) → (t ≡ true → old ≡ none) → old ≡ pick t none old
     go true h = h refl
     go false h = refl
 
-pub grown : {row level : ℕ} {s : List ℕ} {b : Block} (k : ℕ) (t : Tally) → Seen row level s b → numberOf b ≡ 0 → Grown row level s k t (plus t b k)
+pub grown : {row level : ℕ} {s : List ℕ} {b : Block} (k : ℕ) (t : Tally) → Seen row level s b → numberOf b ≡ 0
+    → Grown row level s k t (plus t b k)
 unfolding isListed isReset isSkipped isDefault resetsPhy factsOf reset pick
 grown k t (refused n e h) z = absurd (h z)
 grown k t (unknown e f) z = record {
@@ -127,12 +134,14 @@ grown {row} {level} {s} k t (a-medium e f g) z = record {
   few = (simp (f, g) (few-one (factsOf (kindOf row s) s .resetsPhy)), simp (f, g) (few-one (factsOf (kindOf row s) s .isDefault)));
 }
 
-default-more : (old k n w : ℕ) (d : Bool) → k < 255 → pick (eqb old 255) (pick d k n) old ≡ w → pick (eqb (firstNumber old d k) 255) n (firstNumber old d k) ≡ w
+default-more : (old k n w : ℕ) (d : Bool) → k < none → pick (eqb old none) (pick d k n) old ≡ w
+    → pick (eqb (firstNumber old d k) none) n (firstNumber old d k) ≡ w
 unfolding firstNumber pick
-default-more old k n w d h e = go (eqb old 255) d refl e
+default-more old k n w d h e = go (eqb old none) d refl e
   where
-    go : (t d : Bool) → eqb old 255 ≡ t → pick t (pick d k n) old ≡ w → pick (eqb (pick t (pick d k 255) old) 255) n (pick t (pick d k 255) old) ≡ w
-    go true true f e = rw (ne-eqb k 255 (λ z. omega arith)) e
+    go : (t d : Bool) → eqb old none ≡ t → pick t (pick d k n) old ≡ w
+        → pick (eqb (pick t (pick d k none) old) none) n (pick t (pick d k none) old) ≡ w
+    go true true f e = rw (ne-eqb k none (λ z. omega arith)) e
     go true false f e = e
     go false d f e = rw f e
 
@@ -145,21 +154,34 @@ pub record Counted (row level : ℕ) (whole bs : List (List ℕ)) (k : ℕ) (t :
   pub skipped : t .skipped + countOf (isSkipped row level) bs ≡ countOf (isSkipped row level) whole
   pub phys : t .phys + countOf (resetsPhy row level) bs ≡ countOf (resetsPhy row level) whole
   pub defaults : t .defaults + countOf (isDefault row level) bs ≡ countOf (isDefault row level) whole
-  pub «default» : pick (eqb (t .«default_number») 255) (firstFrom (isDefault row level) k bs) (t .«default_number») ≡ firstFrom (isDefault row level) 0 whole
+  pub «default» : pick (eqb (t .«default_number») none) (firstFrom (isDefault row level) k bs) (t .«default_number»)
+      ≡ firstFrom (isDefault row level) 0 whole
   pub sorts : t .listed + t .resets + t .skipped ≡ k
   pub few : (t .phys ≤ t .listed) × (t .defaults ≤ t .listed)
 
 pub counted-start : (row level : ℕ) (bs : List (List ℕ)) → Counted row level bs bs 0 startTally
 unfolding startTally leafCauses pick
 counted-start row level bs =
-    record { number = refl; first = refl; listed = omega arith; resets = omega arith; skipped = omega arith; phys = omega arith; defaults = omega arith; «default» = refl; sorts = refl; few = (zero-le, zero-le) }
+    record {
+      number = refl;
+      first = refl;
+      listed = omega arith;
+      resets = omega arith;
+      skipped = omega arith;
+      phys = omega arith;
+      defaults = omega arith;
+      «default» = refl;
+      sorts = refl;
+      few = (zero-le, zero-le);
+    }
 
 module _ {row level : ℕ} {whole bs : List (List ℕ)} {s : List ℕ} {k : ℕ} {t : Tally} (c : Counted row level whole (s ∷ bs) k t) where
-  pub counted-more : {u : Tally} → refusalOf row level s ≡ 0 → k < 255 → Grown row level s k t u → Counted row level whole bs (k + 1) u
+  pub counted-more : {u : Tally} → refusalOf row level s ≡ 0 → k < none → Grown row level s k t u → Counted row level whole bs (k + 1) u
   unfolding countOf blockCauses firstFrom refusalOf
   counted-more {u} e h g = record {
     number = g .number ∙ c .number;
-    first = sym (after-accepted (causes row level s) _ (causes-numbered row level s) e) ∙ sym (ap firstMet (append-assoc (causes row level s) (blockCauses row level bs) _)) ∙ c .first;
+    first = sym (after-accepted (causes row level s) _ (causes-numbered row level s) e)
+        ∙ sym (ap firstMet (append-assoc (causes row level s) (blockCauses row level bs) _)) ∙ c .first;
     listed = omega (arith, g .listed, c .listed);
     resets = omega (arith, g .resets, c .resets);
     skipped = omega (arith, g .skipped, c .skipped);
@@ -173,11 +195,13 @@ module _ {row level : ℕ} {whole bs : List (List ℕ)} {s : List ℕ} {k : ℕ}
   pub tally-refused : {n : ℕ} → refusalOf row level s ≡ n → (n ≡ 0 → ⊥) → noTally n ≡ tallyOf row level whole
   unfolding tallyOf blockCauses refusalOf pick
   tally-refused {n} e h =
-      let first : firstMet (leafCauses row level whole) ≡ n = sym (c .first) ∙ ap firstMet (append-assoc (causes row level s) (blockCauses row level bs) _) ∙ after-refused (causes row level s) _ n h e in
+      let first : firstMet (leafCauses row level whole) ≡ n = sym (c .first)
+      ∙ ap firstMet (append-assoc (causes row level s) (blockCauses row level bs) _) ∙ after-refused (causes row level s) _ n h e in
       rw (first, ne-eqb n 0 h)
 
 module _ {row level : ℕ} {whole : List (List ℕ)} {k : ℕ} {t : Tally} (c : Counted row level whole [] k t) where
-  at-end : (clash (t .resets) (t .phys) (t .defaults) ≡ clashCause row level whole .met) × (firstMet (leafCauses row level whole) ≡ pick (clashCause row level whole .met) 18 0)
+  at-end : (clash (t .resets) (t .phys) (t .defaults) ≡ clashCause row level whole .met)
+      × (firstMet (leafCauses row level whole) ≡ pick (clashCause row level whole .met) 18 0)
   unfolding clashCause blockCauses countOf firstMet
   at-end =
       let r : t .resets ≡ countOf (isReset row level) whole = omega (arith, c .resets) in
@@ -203,20 +227,24 @@ module _ {row level : ℕ} {whole : List (List ℕ)} {k : ℕ} {t : Tally} (c : 
 
 -- ## The steps of `judge` in its own terms: b is the block that was judged, n its number, z its size.
 
-module _ (row level count : ℕ) (rest : List ℕ) {whole : List (List ℕ)} {k : ℕ} {t : Tally} (inv : Counted row level whole (cut row (count - k) rest) k t) where
-  pub judge-refused : {b : Block} {n : ℕ} {u : Tally} → k < count → b ≡ blockOf row level rest → n ≡ numberOf b → (n ≡ 0 → ⊥) → u ≡ noTally n → u ≡ tallyOf row level whole
+module _ (row level count : ℕ) (rest : List ℕ) {whole : List (List ℕ)} {k : ℕ} {t : Tally}
+    (inv : Counted row level whole (cut row (count - k) rest) k t) where
+  pub judge-refused : {b : Block} {n : ℕ} {u : Tally} → k < count → b ≡ blockOf row level rest → n ≡ numberOf b → (n ≡ 0 → ⊥)
+      → u ≡ noTally n → u ≡ tallyOf row level whole
   judge-refused {b} {n} {u} h eb en z eu =
       let v : Seen row level rest b = rw eb (seen row level rest) in
       eu ∙ tally-refused (rw cut-more at inv) (sym (seen-number v) ∙ sym en) z
 
-  pub judge-more : {b : Block} {n z : ℕ} {u : Tally} → k < count → count < 256 → b ≡ blockOf row level rest → n ≡ numberOf b → n ≡ 0 → u ≡ plus t b k → z ≡ sizeIn b
+  pub judge-more : {b : Block} {n z : ℕ} {u : Tally} → k < count → count < 256 → b ≡ blockOf row level rest → n ≡ numberOf b → n ≡ 0
+      → u ≡ plus t b k → z ≡ sizeIn b
       → Counted row level whole (cut row (count - (k + 1)) (take (length rest - z) (drop z rest))) (k + 1) u
   judge-more {b} {n} {z} {u} h l eb en e eu ez =
       let v : Seen row level rest b = rw eb (seen row level rest) in
       let r : refusalOf row level rest ≡ 0 = sym (seen-number v) ∙ sym en ∙ e in
       rw (rest-part, ez, seen-size v (sym en ∙ e), eu) (counted-more (rw cut-more at inv) r (omega arith) (grown k t v (sym en ∙ e)))
 
-  pub judge-18 : {m : Bool} {u : Tally} → count ≤ k → m ≡ clash (t .resets) (t .phys) (t .defaults) → m ≡ true → u ≡ noTally 18 → u ≡ tallyOf row level whole
+  pub judge-18 : {m : Bool} {u : Tally} → count ≤ k → m ≡ clash (t .resets) (t .phys) (t .defaults) → m ≡ true → u ≡ noTally 18
+      → u ≡ tallyOf row level whole
   judge-18 h em e eu = eu ∙ tally-18 (rw cut-none at inv) (sym em ∙ e)
 
   pub judge-done : {m : Bool} → count ≤ k → m ≡ clash (t .resets) (t .phys) (t .defaults) → m ≡ false → t ≡ tallyOf row level whole

@@ -42,7 +42,8 @@ pub rest-part : (n : ℕ) (s : List ℕ) → take (length s - n) (drop n s) ≡ 
 rest-part n s = take-all (length s - n) (drop n s) (simp length-drop (le-refl _))
 
 -- and ends where the whole does
-pub part-ends : (s : List ℕ) (at n : ℕ) {end : ℕ} → n ≤ length s → at + length s ≤ end → (at + n) + length (take (length s - n) (drop n s)) ≤ end
+pub part-ends : (s : List ℕ) (at n : ℕ) {end : ℕ} → n ≤ length s → at + length s ≤ end
+    → (at + n) + length (take (length s - n) (drop n s)) ≤ end
 part-ends s at n h k = rw rest-part (omega (arith, length-drop n s))
 
 -- ## Causes
@@ -50,7 +51,8 @@ part-ends s at n h k = rw rest-part (omega (arith, length-drop n s))
 blocks-numbered : (row level : ℕ) (bs : List (List ℕ)) → Numbered (blockCauses row level bs)
 unfolding blockCauses
 blocks-numbered row level [] = tt
-blocks-numbered row level (s ∷ bs) = numbered-append (causes row level s) (blockCauses row level bs) (causes-numbered row level s) (blocks-numbered row level bs)
+blocks-numbered row level (s ∷ bs) =
+    numbered-append (causes row level s) (blockCauses row level bs) (causes-numbered row level s) (blocks-numbered row level bs)
 
 pub leaf-numbered : (row level : ℕ) (bs : List (List ℕ)) → Numbered (leafCauses row level bs)
 unfolding leafCauses clashCause
@@ -65,7 +67,8 @@ pub leaf-accepted : (row level : ℕ) (bs : List (List ℕ)) → firstMet (leafC
 unfolding leafCauses
 leaf-accepted row level bs = both-accepted (blockCauses row level bs) _ (blocks-numbered row level bs)
 
-pub accepted-blocks : (row level : ℕ) (bs : List (List ℕ)) → firstMet (leafCauses row level bs) ≡ 0 → firstMet (blockCauses row level bs) ≡ 0
+pub accepted-blocks : (row level : ℕ) (bs : List (List ℕ)) → firstMet (leafCauses row level bs) ≡ 0
+    → firstMet (blockCauses row level bs) ≡ 0
 accepted-blocks row level bs e = leaf-accepted row level bs e .0
 
 -- accepted blocks, one by one
@@ -75,7 +78,8 @@ unfolding blockCauses refusalOf
 first-accepted row level s bs = both-accepted (causes row level s) (blockCauses row level bs) (causes-numbered row level s)
 
 -- an accepted block lies in the rest, in the terms of the code: b is what it is found to be, n its number, z its size
-pub size-fits : (row level : ℕ) (s : List ℕ) {b : Block} {n z : ℕ} → b ≡ blockOf row level s → n ≡ numberOf b → n ≡ 0 → z ≡ sizeIn b → z ≤ length s
+pub size-fits : (row level : ℕ) (s : List ℕ) {b : Block} {n z : ℕ} → b ≡ blockOf row level s → n ≡ numberOf b → n ≡ 0 → z ≡ sizeIn b
+    → z ≤ length s
 size-fits row level s {b} {n} {z} eb en e ez =
     let v : Seen row level s b = rw eb (seen row level s) in
     let r : refusalOf row level s ≡ 0 = sym (seen-number v) ∙ sym en ∙ e in
@@ -83,8 +87,10 @@ size-fits row level s {b} {n} {z} eb en e ez =
 
 -- ## A pass over accepted blocks: i are passed, and b is what the next is found to be
 
-module _ (row level count : ℕ) (rest : List ℕ) {i : ℕ} {b : Block} (e : firstMet (blockCauses row level (cut row (count - i) rest)) ≡ 0) (h : i < count) (eb : b ≡ blockOf row level rest) where
-  next-accepted : (refusalOf row level rest ≡ 0) × (firstMet (blockCauses row level (cut row (count - (i + 1)) (drop (sizeOf row rest) rest))) ≡ 0)
+module _ (row level count : ℕ) (rest : List ℕ) {i : ℕ} {b : Block} (e : firstMet (blockCauses row level (cut row (count - i) rest)) ≡ 0)
+    (h : i < count) (eb : b ≡ blockOf row level rest) where
+  next-accepted : (refusalOf row level rest ≡ 0)
+      × (firstMet (blockCauses row level (cut row (count - (i + 1)) (drop (sizeOf row rest) rest))) ≡ 0)
   next-accepted = first-accepted row level rest _ (rw cut-more at e)
 
   pub next-seen : Seen row level rest b

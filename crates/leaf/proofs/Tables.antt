@@ -8,13 +8,13 @@ use mathlib.Core.Path.{_≡_, refl, ap, sym, _∙_}
 use mathlib.Core.Bool.{Bool, true, false}
 use lib.ListN.{length, drop, getD, length-append, length-drop}
 use lib.Seq.{drop-drop}
-use Rattle.rom.specs.Bytes.{pick}
+use Rattle.rom.specs.Bytes.{pick, one}
 use Rattle.rom.specs.Refusal.{firstMet}
 use Rattle.block.specs.declared.Block.{Block}
-use Rattle.block.specs.Block.{sizeOf}
+use Rattle.block.specs.Block.{sizeOf, isListed}
 use Rattle.block.specs.Answer.{numberOf, listedIn}
-use Rattle.block.proofs.Seen.{Seen, refused, unknown, a-reset, a-medium, fits}
-use Rattle.leaf.specs.Leaf.{cut, isListed, one, countOf, blockCauses, Place, placed, keep, table, tableOf}
+use Rattle.block.proofs.Seen.{Seen, seen-listed, fits}
+use Rattle.leaf.specs.Leaf.{cut, countOf, blockCauses, Place, placed, keep, table, tableOf}
 use Rattle.leaf.proofs.Cuts.{first-accepted}
 
 pub few-one : (t : Bool) → one t ≤ 1
@@ -34,14 +34,6 @@ entry-length row level p = go (isListed row level (p .rest))
     go true = refl
     go false = refl
 
--- what a block is found to be says whether it is listed
-pub seen-listed : {row level : ℕ} {s : List ℕ} {b : Block} → Seen row level s b → numberOf b ≡ 0 → one (isListed row level s) ≡ listedIn b
-unfolding isListed
-seen-listed (refused n e h) z = absurd (h z)
-seen-listed (unknown e f) z = simp f
-seen-listed (a-reset e f g) z = let h = rw g at f in simp (g, h)
-seen-listed (a-medium e f g) z = simp (f, g)
-
 -- ## One block more
 
 no-blocks : (row level : ℕ) → table row level [] ≡ []
@@ -57,9 +49,11 @@ table-cons row level p ps = go (isListed row level (p .rest))
     go true = reverse-cons p (keep (λ b. isListed row level (b .rest)) ps)
     go false = sym (append-nil _)
 
-table-length : (row level : ℕ) (p : Place) (ps : List Place) → length (table row level (p ∷ ps)) ≡ length (table row level ps) + one (isListed row level (p .rest))
+table-length : (row level : ℕ) (p : Place) (ps : List Place)
+    → length (table row level (p ∷ ps)) ≡ length (table row level ps) + one (isListed row level (p .rest))
 table-length row level p ps =
-    ap length (table-cons row level p ps) ∙ length-append (table row level ps) (entry row level p) ∙ ap (λ (n : ℕ). length (table row level ps) + n) (entry-length row level p)
+    ap length (table-cons row level p ps) ∙ length-append (table row level ps) (entry row level p)
+    ∙ ap (λ (n : ℕ). length (table row level ps) + n) (entry-length row level p)
 
 pub table-more : {row level : ℕ} {b : Block} (p : Place) (ps : List Place) → Seen row level (p .rest) b → numberOf b ≡ 0
     → length (table row level (p ∷ ps)) ≡ length (table row level ps) + listedIn b
@@ -70,9 +64,15 @@ table-more {row} {level} p ps v z = table-length row level p ps ∙ ap (λ (n : 
 placed-length : (row level at : ℕ) (bs : List (List ℕ)) → length (table row level (placed row at bs)) ≡ countOf (isListed row level) bs
 unfolding placed countOf
 placed-length row level at [] = rw no-blocks
-placed-length row level at (s ∷ bs) = omega (arith, table-length row level (record { start = at; rest = s }) (placed row (at + sizeOf row s) bs), placed-length row level (at + sizeOf row s) bs)
+placed-length row level at (s ∷ bs) =
+    omega (
+      arith,
+      table-length row level (record { start = at; rest = s }) (placed row (at + sizeOf row s) bs),
+      placed-length row level (at + sizeOf row s) bs,
+    )
 
-pub listed-length : (row level count at : ℕ) (s : List ℕ) → length (tableOf row level count at s) ≡ countOf (isListed row level) (cut row count s)
+pub listed-length : (row level count at : ℕ) (s : List ℕ)
+    → length (tableOf row level count at s) ≡ countOf (isListed row level) (cut row count s)
 unfolding tableOf
 listed-length row level count at s = placed-length row level at (cut row count s)
 
@@ -118,7 +118,8 @@ lies-later row at n s h p l =
       within = omega (arith, l .within, length-drop n s);
     }
 
-pub every-lies : (row level count at : ℕ) (s : List ℕ) → firstMet (blockCauses row level (cut row count s)) ≡ 0 → Every (Lies row at s) (tableOf row level count at s)
+pub every-lies : (row level count at : ℕ) (s : List ℕ) → firstMet (blockCauses row level (cut row count s)) ≡ 0
+    → Every (Lies row at s) (tableOf row level count at s)
 unfolding tableOf cut placed
 every-lies row level zero at s h = rw no-blocks tt
 every-lies row level (suc count) at s h =

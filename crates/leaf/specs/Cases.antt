@@ -1,6 +1,5 @@
 -- Cases a to j of document 01, 'Blocks to prove', and others on its rules, over the definitions.
 use Prim.Native.Nat.{ℕ, _-_}
-use mathlib.Core.Path.{_≡_}
 use mathlib.Core.List.{List, [], _∷_, _++_, map}
 use lib.Dec.{eqb}
 use lib.ListN.{take, drop, replicate}
@@ -11,7 +10,7 @@ use Rattle.leaf.specs.Tally.{tallyOf}
 
 -- a chip, a level, a leaf's bytes from byte 30 of the image on, and what is answered: the refusal's number, how many blocks
 -- are listed, resets and skipped, and the table's kinds and starts; 0 and empty where the leaf is refused
-pub record Case : Type 0 where
+pub record LeafCase : Type 0 where
   pub chip : ℕ
   pub level : ℕ
   pub leaf : List ℕ
@@ -25,25 +24,25 @@ pub record Case : Type 0 where
 -- ## How a case is run
 
 -- an image with the leaf at 30, and zeros elsewhere
-unfoldable pub imageWith : List ℕ → List ℕ
-imageWith leaf = take 128 (replicate 30 0 ++ leaf ++ replicate 98 0)
+unfoldable pub imageAround : List ℕ → List ℕ
+imageAround leaf = take 128 (replicate 30 0 ++ leaf ++ replicate 98 0)
 
 -- the first block stands behind the connection type, for the 21140 the control byte, and the block count
-unfoldable pub blocksAt : ℕ → ℕ
-blocksAt row = pick (eqb row row21140) 34 33
+unfoldable pub firstBlockAt : ℕ → ℕ
+firstBlockAt row = pick (eqb row row21140) 34 33
 
 -- the leaf's rest from its first block on, up to byte 123
 unfoldable pub blocksOf : ℕ → List ℕ → List ℕ
-blocksOf row image = take (124 - blocksAt row) (drop (blocksAt row) image)
+blocksOf row image = take (124 - firstBlockAt row) (drop (firstBlockAt row) image)
 
-unfoldable pub run : Case → Case
-run c =
+unfoldable pub runLeaf : LeafCase → LeafCase
+runLeaf c =
     let row = rowOf (c .chip) in
-    let image = imageWith (c .leaf) in
-    let count = byteAt image (blocksAt row - 1) in
+    let image = imageAround (c .leaf) in
+    let count = byteAt image (firstBlockAt row - 1) in
     let blocks = blocksOf row image in
     let tally = tallyOf row (c .level) (cut row count blocks) in
-    let table = pick (eqb (tally .number) 0) (tableOf row (c .level) count (blocksAt row) blocks) [] in
+    let table = pick (eqb (tally .number) 0) (tableOf row (c .level) count (firstBlockAt row) blocks) [] in
     record {
       chip = c .chip;
       level = c .level;
@@ -58,19 +57,34 @@ run c =
 
 -- ## The cases
 
-abbrev accepted : ℕ → ℕ → List ℕ → ℕ → ℕ → ℕ → List ℕ → List ℕ → Case
+abbrev accepted : ℕ → ℕ → List ℕ → ℕ → ℕ → ℕ → List ℕ → List ℕ → LeafCase
 accepted chip level leaf listed resets skipped kinds starts =
-    record { chip = chip; level = level; leaf = leaf; number = 0; listed = listed; resets = resets; skipped = skipped; kinds = kinds; starts = starts }
+    record {
+      chip = chip;
+      level = level;
+      leaf = leaf;
+      number = 0;
+      listed = listed;
+      resets = resets;
+      skipped = skipped;
+      kinds = kinds;
+      starts = starts;
+    }
 
-abbrev refused : ℕ → ℕ → List ℕ → ℕ → Case
+abbrev refused : ℕ → ℕ → List ℕ → ℕ → LeafCase
 refused chip level leaf number =
     record { chip = chip; level = level; leaf = leaf; number = number; listed = 0; resets = 0; skipped = 0; kinds = []; starts = [] }
 
 abbrev dots : ℕ → List ℕ
 dots n = replicate n 0
 
-abbrev leafB : List ℕ
-leafB = 0x00 ∷ 0x08 ∷ 0x03 ∷ 0x86 ∷ 0x02 ∷ 0x00 ∷ 0x01 ∷ 0x00 ∷ 0x02 ∷ 0x00 ∷ 0x81 ∷ 0x09 ∷ 0x86 ∷ 0x02 ∷ 0x01 ∷ 0x01 ∷ 0x00 ∷ 0x02 ∷ 0x00 ∷ []
+-- case b under a connection type with this high byte
+abbrev pub leafB : ℕ → List ℕ
+leafB high = 0x00 ∷ high ∷ 0x03 ∷ 0x86 ∷ 0x02 ∷ 0x00 ∷ 0x01 ∷ 0x00 ∷ 0x02 ∷ 0x00 ∷ 0x81 ∷ 0x09 ∷ 0x86 ∷ 0x02 ∷ 0x01 ∷ 0x01 ∷ 0x00 ∷ 0x02
+    ∷ 0x00 ∷ []
+
+abbrev pub caseB : ℕ → LeafCase
+caseB high = accepted 21143 6 (leafB high) 2 0 1 (2 ∷ 2 ∷ []) (42 ∷ 33 ∷ [])
 
 -- a type 1 block with capabilities 0x7800 and this advertisement, low byte first
 abbrev leafH : ℕ → ℕ → List ℕ
@@ -87,12 +101,13 @@ leafReset phy = 0x00 ∷ 0x08 ∷ 0x02 ∷ 0x82 ∷ 0x05 ∷ 0x00 ∷ phy
 abbrev leafPorts : ℕ → ℕ → List ℕ
 leafPorts first second = 0x00 ∷ 0x08 ∷ 0x00 ∷ 0x02 ∷ 0x00 ∷ 0x00 ∷ 0x00 ∷ first ∷ 0x03 ∷ 0x00 ∷ 0x00 ∷ second ∷ []
 
-unfoldable pub cases : List Case
-cases =
+-- cases a to j of document 01, 'Blocks to prove'; h and j twice
+unfoldable pub paperCases : List LeafCase
+paperCases =
     -- a, b, c
     accepted 21143 6 (0x00 ∷ 0x08 ∷ 0x01 ∷ 0x86 ∷ 0x02 ∷ 0x00 ∷ 0x01 ∷ 0x00 ∷ 0x02 ∷ 0x00 ∷ []) 1 0 0 (2 ∷ []) (33 ∷ [])
-    ∷ accepted 21143 6 leafB 2 0 1 (2 ∷ 2 ∷ []) (42 ∷ 33 ∷ [])
-    ∷ accepted 21143 2 leafB 0 0 3 [] []
+    ∷ caseB 0x08
+    ∷ accepted 21143 2 (leafB 0x08) 0 0 3 [] []
     -- d, e, f, g
     ∷ refused 21143 6 (0x00 ∷ 0x08 ∷ 0x01 ∷ 0x80 ∷ []) 14
     ∷ refused 21143 6 (0x00 ∷ 0x08 ∷ 0x01 ∷ 0x85 ∷ 0x02 ∷ dots 4) 15
@@ -104,9 +119,14 @@ cases =
     ∷ refused 21143 6 leafI 18
     ∷ accepted 21143 6 (0x00 ∷ 0x08 ∷ 0x01 ∷ 0xDA ∷ 0x09 ∷ dots 89) 0 0 1 [] []
     ∷ refused 21143 6 (0x00 ∷ 0x08 ∷ 0x01 ∷ 0xDB ∷ 0x09 ∷ dots 90) 13
+    ∷ []
+
+-- points that document 01 leaves to its rules (docs/DECISIONS.md, 'Reading')
+unfoldable pub furtherCases : List LeafCase
+furtherCases =
     -- no blocks, and no known type
-    ∷ accepted 21143 6 (0x00 ∷ 0x08 ∷ 0x00 ∷ []) 0 0 0 [] []
-    ∷ accepted 21143 0 leafB 0 0 3 [] []
+    accepted 21143 6 (0x00 ∷ 0x08 ∷ 0x00 ∷ []) 0 0 0 [] []
+    ∷ accepted 21143 0 (leafB 0x08) 0 0 3 [] []
     -- 13 comes before 14: a compact block at 121, and a type that the chip does not permit
     ∷ refused 21143 6 (0x00 ∷ 0x08 ∷ 0x02 ∷ 0xD7 ∷ 0x09 ∷ dots 86 ++ 0x00 ∷ 0x00 ∷ 0x00 ∷ []) 13
     ∷ refused 21143 6 (0x00 ∷ 0x08 ∷ 0x01 ∷ 0xDB ∷ 0x00 ∷ dots 90) 13
@@ -126,7 +146,3 @@ cases =
     ∷ accepted 21143 6 (leafReset (0x8D ∷ 0x03 ∷ 0x00 ∷ 0x00 ∷ 0x00 ∷ dots 9)) 1 1 0 (3 ∷ []) (36 ∷ [])
     ∷ accepted 21143 5 leafI 0 0 2 [] []
     ∷ []
-
--- each case is answered as it says
-abbrev pub Worked : Type 0
-Worked = map run cases ≡ cases

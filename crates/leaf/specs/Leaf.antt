@@ -2,51 +2,29 @@
 -- first byte on. No level changes where they are cut: the level only judges and lists.
 use Prim.Native.Nat.{ℕ, zero, suc, _+_}
 use mathlib.Core.List.{List, [], _∷_, _++_, reverse}
-use mathlib.Core.Bool.{Bool, true, false, _||_, _&&_, not}
+use mathlib.Core.Bool.{Bool, _||_, _&&_}
 use lib.ListN.{drop}
-use lib.Dec.{eqb, ltb}
-use Rattle.rom.specs.Bytes.{pick}
+use lib.Dec.{ltb}
+use Rattle.rom.specs.Geometry.{none}
+use Rattle.rom.specs.Bytes.{pick, one}
 use Rattle.rom.specs.Refusal.{Cause, _⇒_}
-use Rattle.block.specs.Block.{sizeOf, kindOf, isKnown, factsOf, causes}
+use Rattle.block.specs.Block.{sizeOf, kindOf, isListed, isReset, isDefault, resetsPhy, causes}
 
 -- so many blocks, numbered from 0 as they stand
 unfoldable pub cut : ℕ → ℕ → List ℕ → List (List ℕ)
 cut row zero s = []
 cut row (suc n) s = s ∷ cut row n (drop (sizeOf row s) s)
 
--- ## How a level sees a block
-
--- known blocks but type 5 are listed
-unfoldable pub isListed : ℕ → ℕ → List ℕ → Bool
-isListed row level s = isKnown level (kindOf row s) && not (eqb (kindOf row s) 5)
-
-unfoldable pub isReset : ℕ → ℕ → List ℕ → Bool
-isReset row level s = isKnown level (kindOf row s) && eqb (kindOf row s) 5
-
--- an unknown type is stepped over
-unfoldable pub isSkipped : ℕ → ℕ → List ℕ → Bool
-isSkipped row level s = not (isKnown level (kindOf row s))
-
-unfoldable pub isDefault : ℕ → ℕ → List ℕ → Bool
-isDefault row level s = isKnown level (kindOf row s) && factsOf (kindOf row s) s .isDefault
-
-unfoldable pub resetsPhy : ℕ → ℕ → List ℕ → Bool
-resetsPhy row level s = isKnown level (kindOf row s) && factsOf (kindOf row s) s .resetsPhy
-
 -- ## Counts
-
-abbrev pub one : Bool → ℕ
-one true = 1
-one false = 0
 
 -- how many blocks p takes
 unfoldable pub countOf : (List ℕ → Bool) → List (List ℕ) → ℕ
 countOf p [] = 0
 countOf p (s ∷ bs) = one (p s) + countOf p bs
 
--- the number of the first block that p takes, where the first of these blocks has number k; 255 if none
+-- the number of the first block that p takes, where the first of these blocks has number k; none if there is none
 unfoldable pub firstFrom : (List ℕ → Bool) → ℕ → List (List ℕ) → ℕ
-firstFrom p k [] = 255
+firstFrom p k [] = none
 firstFrom p k (s ∷ bs) = pick (p s) k (firstFrom p (k + 1) bs)
 
 -- ## Why a leaf's blocks are refused: one after another, 18 last

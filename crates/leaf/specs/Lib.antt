@@ -1,4 +1,5 @@
 pub mod Leaf
 pub mod Tally
-pub mod Claims
 pub mod Cases
+pub mod Claims
+pub mod Inside

@@ -1,9 +1,12 @@
 // The blocks of a leaf, judged one after another (document 01, 'Leaf and blocks').
 use block::Block;
+use rom::refusal;
 ghost use mathlib.Core.Path.{_≡_};
 ghost use Prim.Native.Nat.{_≤_, _<_};
-ghost use Rattle.leaf.specs.Leaf.{cut, clash, one};
-ghost use Rattle.leaf.specs.Tally.{noTally, startTally, tallyOf, firstNumber, plus};
+ghost use Rattle.rom.specs.Bytes.{one};
+ghost use Rattle.leaf.specs.Leaf.{cut, clash};
+ghost use Rattle.leaf.specs.Inside.{startTally, firstNumber, plus};
+ghost use Rattle.leaf.specs.Tally.{noTally, tallyOf};
 
 // The blocks of each sort, or a refusal's number and zeros.
 pub struct Tally {
@@ -50,13 +53,13 @@ fn start_tally() -> Tally
     ensures { λ r. ⌜ r ≡ startTally ⌝ }
 {
     Tally {
-        number: 0,
+        number: refusal::ACCEPTED,
         listed: 0,
         resets: 0,
         skipped: 0,
         phys: 0,
         defaults: 0,
-        default_number: 255,
+        default_number: rom::NONE,
     }
 }
 
@@ -69,17 +72,17 @@ fn one_of(x: bool) -> u8
     0
 }
 
-// The default's number, where `old` is that of the blocks before block `number`, or 255.
+// The default's number, where `old` is that of the blocks before block `number`, or none.
 fn first_number(old: u8, marked: bool, number: u8) -> u8
     ensures { λ r. ⌜ r ≡ firstNumber old marked number ⌝ }
 {
-    if old != 255 {
+    if old != rom::NONE {
         return old;
     }
     if marked {
         return number;
     }
-    255
+    rom::NONE
 }
 
 // A tally with block `number` more.
@@ -89,17 +92,11 @@ fn counted(t: Tally, b: Block, number: u8) -> Tally
 {
     let mut next = t;
     match b {
-        Block::Listed {
-            kind: _,
-            size: _,
-            active_invalid: _,
-            is_default,
-            resets_phy,
-        } => {
+        Block::Listed(medium) => {
             next.listed = t.listed + 1;
-            next.phys = t.phys + one_of(resets_phy);
-            next.defaults = t.defaults + one_of(is_default);
-            next.default_number = first_number(t.default_number, is_default, number);
+            next.phys = t.phys + one_of(medium.resets_phy);
+            next.defaults = t.defaults + one_of(medium.is_default);
+            next.default_number = first_number(t.default_number, medium.is_default, number);
         }
         Block::Reset { size: _ } => {
             next.resets = t.resets + 1;
@@ -122,7 +119,7 @@ pub fn judge(blocks: &[u8], count: u8, row: usize, level: u8) -> Tally
     while k < count {
         let b = block::judge_block(rest, row, level);
         let number = block::number_of(b);
-        if number != 0 {
+        if number != refusal::ACCEPTED {
             return refused_tally(number);
         }
         t = counted(t, b, k);
@@ -132,7 +129,7 @@ pub fn judge(blocks: &[u8], count: u8, row: usize, level: u8) -> Tally
     }
     let clash = clashes(t.resets, t.phys, t.defaults);
     if clash {
-        return refused_tally(rom::refusal::CLASH);
+        return refused_tally(refusal::CLASH);
     }
     t
 }

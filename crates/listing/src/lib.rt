@@ -44,7 +44,7 @@ fn show_counts(arguments: Arguments, answer: Answer) {
             answer.skipped as u64,
         ],
     ).print();
-    if answer.default_number == survey::NONE {
+    if answer.default_number == rom::NONE {
         say(b"  default medium   none");
     } else {
         line::of(
@@ -189,17 +189,11 @@ fn show_fields(bytes: &[u8], kind: u16) {
 
 fn marks(line: Line, b: Block) -> Line {
     match b {
-        Block::Listed {
-            kind: _,
-            size: _,
-            active_invalid,
-            is_default,
-            resets_phy: _,
-        } => {
-            if is_default {
+        Block::Listed(medium) => {
+            if medium.is_default {
                 return line.text(b", DEFAULT");
             }
-            if active_invalid {
+            if medium.active_invalid {
                 return line.text(b", Active_Invalid");
             }
             line
@@ -219,7 +213,7 @@ fn number_at(image: &[u8], arguments: Arguments, blocks: u8, start: u16) -> u8 {
         }
         k += 1;
     }
-    survey::NONE
+    rom::NONE
 }
 
 fn show_entry(image: &[u8], arguments: Arguments, entry: usize, number: u8) {
@@ -272,13 +266,7 @@ fn show_unknown(place: Place, number: u8, bytes: &[u8]) {
 // A block, where it is of the sort that is shown: a reset, or one that is stepped over.
 fn show_if(image: &[u8], place: Place, number: u8, b: Block, resets: bool) {
     match b {
-        Block::Listed {
-            kind: _,
-            size: _,
-            active_invalid: _,
-            is_default: _,
-            resets_phy: _,
-        } => {}
+        Block::Listed(_) => {}
         Block::Reset { size: _ } => {
             if resets {
                 show_reset(place, number, library::block_bytes(image, place));

@@ -17,8 +17,8 @@ use Rattle.block.specs.Block.{is21041, isExtended, lengthOf, siaSize, sizeOf, c
 use Rattle.block.proofs.Seen.{fits}
 use Rattle.block.proofs.Whole.{size-small}
 use Rattle.leaf.proofs.Cuts.{cut-more, cut-none, first-accepted}
-use Rattle.sheet.specs.Image.{openingLength, bodyOf, entryOf}
-use Rattle.maker.specs.Code.{AcceptedBlocks, entriesOf}
+use Rattle.sheet.specs.Image.{openingLength, bodyOf, entryFrom}
+use Rattle.maker.specs.Inside.{AcceptedBlocks, entriesOf}
 
 -- ## An accepted block
 
@@ -60,8 +60,12 @@ whole row s e =
       inside = f;
       opens = o;
       small = size-small row s;
-      body = sym (drop-take (openingLength row s) (sizeOf row s - openingLength row s) s) ∙ ap (λ (k : ℕ). drop (openingLength row s) (take k s)) n;
-      long = length-drop (openingLength row s) (take (sizeOf row s) s) ∙ ap (λ (k : ℕ). k - openingLength row s) (length-take-le (sizeOf row s) s f);
+      body =
+          sym (drop-take (openingLength row s) (sizeOf row s - openingLength row s) s)
+          ∙ ap (λ (k : ℕ). drop (openingLength row s) (take k s)) n;
+      long =
+          length-drop (openingLength row s) (take (sizeOf row s) s)
+          ∙ ap (λ (k : ℕ). k - openingLength row s) (length-take-le (sizeOf row s) s f);
     }
 
 -- ## The blocks that are left, k of `count` being passed
@@ -73,10 +77,10 @@ module _ (row : ℕ) (s : List ℕ) {count k : ℕ} where
   pub next-left : AcceptedBlocks row (count - k) s → k < count → AcceptedBlocks row (count - (k + 1)) (drop (sizeOf row s) s)
   next-left e h = first-accepted row newestLevel s _ (rw cut-more at e) .1
 
-  pub entries-more : k < count → entriesOf row (count - k) s ≡ entryOf row s ∷ entriesOf row (count - (k + 1)) (drop (sizeOf row s) s)
+  pub entries-more : k < count → entriesOf row (count - k) s ≡ entryFrom row s ∷ entriesOf row (count - (k + 1)) (drop (sizeOf row s) s)
   unfolding entriesOf
-  entries-more h = ap (map (entryOf row)) (cut-more row count k s h)
+  entries-more h = ap (map (entryFrom row)) (cut-more row count k s h)
 
   pub entries-none : count ≤ k → entriesOf row (count - k) s ≡ []
   unfolding entriesOf
-  entries-none h = ap (map (entryOf row)) (cut-none row count k s h)
+  entries-none h = ap (map (entryFrom row)) (cut-none row count k s h)

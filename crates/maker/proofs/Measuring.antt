@@ -11,7 +11,7 @@ use Rattle.leaf.proofs.Cuts.{cut-more, cut-none, rest-part}
 use Rattle.sheet.specs.Record.{Entry}
 use Rattle.sheet.specs.Sheet.{bodyBytes}
 use Rattle.sheet.specs.Image.{openingLength, bodyOf, sizes}
-use Rattle.maker.specs.Code.{AcceptedBlocks, entriesOf, measuredOf}
+use Rattle.maker.specs.Inside.{AcceptedBlocks, entriesOf, measuredOf}
 use Rattle.maker.specs.declared.parts.Measured.{Measured}
 use Rattle.maker.proofs.Blocks.{Whole, next-block, next-left, entries-more, entries-none}
 
@@ -23,14 +23,23 @@ pub record Measuring (row count : ℕ) (blocks : List ℕ) (k : ℕ) (rest : Lis
   pub less : total ≤ used
 
 pub measuring-start : {row count : ℕ} {blocks : List ℕ} → AcceptedBlocks row count blocks → Measuring row count blocks 0 blocks 0 0
-measuring-start e = record { accepted = rw sub-zero e; size = rw (sub-zero, zero-add); bodies = rw (sub-zero, zero-add); inside = omega arith; less = omega arith }
+measuring-start e =
+    record {
+      accepted = rw sub-zero e;
+      size = rw (sub-zero, zero-add);
+      bodies = rw (sub-zero, zero-add);
+      inside = omega arith;
+      less = omega arith;
+    }
 
 module _ (row count : ℕ) (rest : List ℕ) {blocks : List ℕ} {k used total : ℕ} (i : Measuring row count blocks k rest used total) where
-  pub measuring-end : count ≤ k → (_≡_ {A = Measured} (record { size = used; bodies = total }) (measuredOf row count blocks)) × ((used ≤ length blocks) × (total ≤ used))
+  pub measuring-end : count ≤ k → (_≡_ {A = Measured} (record { size = used; bodies = total }) (measuredOf row count blocks))
+      × ((used ≤ length blocks) × (total ≤ used))
   unfolding measuredOf sizes bodyBytes
   measuring-end h =
       let a : used ≡ sizes row (cut row count blocks) = omega (arith, i .size, ap (sizes row) (cut-none row count k rest h)) in
-      let b : total ≡ length (bodyBytes (entriesOf row count blocks)) = omega (arith, i .bodies, ap (λ (es : List Entry). length (bodyBytes es)) (entries-none row rest h)) in
+      let b : total ≡ length (bodyBytes (entriesOf row count blocks))
+      = omega (arith, i .bodies, ap (λ (es : List Entry). length (bodyBytes es)) (entries-none row rest h)) in
       (rw (a, b), (omega (arith, i .inside), i .less))
 
   -- a turn
@@ -49,7 +58,8 @@ module _ (row count : ℕ) (rest : List ℕ) {blocks : List ℕ} {k used total :
     turn-more =
         let s : sizes row (cut row (count - k) rest) ≡ sizeOf row rest + sizes row (cut row (count - (k + 1)) (drop (sizeOf row rest) rest))
         = ap (sizes row) (cut-more row count k rest h) in
-        let b : length (bodyBytes (entriesOf row (count - k) rest)) ≡ length (bodyOf row rest) + length (bodyBytes (entriesOf row (count - (k + 1)) (drop (sizeOf row rest) rest)))
+        let b : length (bodyBytes (entriesOf row (count - k) rest))
+        ≡ length (bodyOf row rest) + length (bodyBytes (entriesOf row (count - (k + 1)) (drop (sizeOf row rest) rest)))
         = ap (λ (es : List Entry). length (bodyBytes es)) (entries-more row rest h) ∙ length-append (bodyOf row rest) _ in
         rw (rest-part size rest, es, eo)
         (record {

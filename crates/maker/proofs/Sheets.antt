@@ -1,5 +1,5 @@
 -- What is laid in one behind the other, and that it is the sheet. Assumes nothing.
-use Prim.Native.Nat.{ℕ, _+_, _*_, _-_, _≤_}
+use Prim.Native.Nat.{ℕ, _+_, _*_, _≤_}
 use native.Mathlib.Omega.{arith}
 use mathlib.Core.Path.{_≡_, refl, sym, ap, ap₂, _∙_}
 use mathlib.Core.List.{List, [], _∷_, _++_, append-assoc}
@@ -7,13 +7,14 @@ use lib.ListN.{length, take, drop, length-append, length-drop}
 use lib.Seq.{length-take-le, take-suc, drop-cons, getD-drop}
 use Rattle.rom.specs.Geometry.{imageLength, leavesEnd, addressAt}
 use Rattle.rom.specs.Bytes.{byteAt}
+use Rattle.rom.specs.Store.{wordBytes, put, laid}
+use Rattle.rom.proofs.Put.{put-length, joined, laid-put}
 use Rattle.header.specs.Image.{restFrom}
 use Rattle.header.proofs.Headers.{whole-image}
 use Rattle.reader.specs.declared.Answer.{Answer}
 use Rattle.reader.specs.declared.Reading.{Reading}
 use Rattle.reader.specs.Reading.{acceptedAnswer, acceptedReading}
 use Rattle.reader.proofs.Readings.{Accepted, restOf}
-use Rattle.sheet.specs.Lists.{wordBytes, put}
 use Rattle.sheet.specs.Layout.{chipAt, headLength}
 use Rattle.sheet.specs.Record.{Entry}
 use Rattle.sheet.specs.Sheet.{headOf, kindBytes, sizeBytes, bodyBytes, partsOf, sheetOf}
@@ -21,8 +22,7 @@ use Rattle.sheet.specs.Image.{newest, imageFrom}
 use Rattle.sheet.specs.Make.{sheetFor}
 use Rattle.sheet.proofs.Blocks.{entries-length}
 use Rattle.sheet.proofs.Sheets.{kind-length, size-length}
-use Rattle.sheet.proofs.Put.{put-length, joined}
-use Rattle.maker.specs.Code.{entriesOf, frontBytes, fieldBytes}
+use Rattle.maker.specs.Inside.{entriesOf, frontBytes, fieldBytes}
 
 -- ## Three parts
 
@@ -52,6 +52,13 @@ module _ (sheet : List ℕ) (at : ℕ) (a b c : List ℕ) (room : at + length (a
 
 -- ## The head
 
+-- what is laid in and fits stands, and the length stays
+standing : (sheet : List ℕ) (at : ℕ) (a : List ℕ) {one : List ℕ} → one ≡ laid sheet at a → at + length a ≤ length sheet
+    → (one ≡ put sheet at a) × (length one ≡ length sheet)
+standing sheet at a e h =
+    let is = e ∙ laid-put sheet at a h in
+    (is, ap length is ∙ put-length sheet at a h)
+
 module _ (image : List ℕ) (whole : length image ≡ imageLength) where
   id-long : length (take 16 image) ≡ 16
   id-long = length-take-le 16 image (omega (arith, whole))
@@ -74,31 +81,36 @@ module _ (image : List ℕ) (whole : length image ≡ imageLength) where
   field-long chip answer = simp length-append (omega (arith, maker-long))
 
   module _ (sheet : List ℕ) (room : headLength ≤ length sheet) where
-    pub front-put : (count total : ℕ) {one two three four five : List ℕ} → one ≡ put sheet 0 (count ∷ []) → two ≡ put one 1 (total ∷ []) → three ≡ put two 2 (take 16 image)
-        → four ≡ put three 18 (take 2 (drop 17 image)) → five ≡ put four 20 (take 7 (drop addressAt image)) → five ≡ put sheet 0 (frontBytes count total image)
+    pub front-put : (count total : ℕ) {one two three four : List ℕ} → one ≡ laid sheet 0 (count ∷ total ∷ [])
+        → two ≡ laid one 2 (take 16 image)
+        → three ≡ laid two 18 (take 2 (drop 17 image)) → four ≡ laid three 20 (take 7 (drop addressAt image))
+        → four ≡ put sheet 0 (frontBytes count total image)
     unfolding frontBytes
-    front-put count total {one} {two} {three} {four} {five} e₁ e₂ e₃ e₄ e₅ =
-        let l₁ : length one ≡ length sheet = ap length e₁ ∙ put-length sheet 0 (count ∷ []) (omega (arith, room)) in
-        let l₂ : length two ≡ length one = ap length e₂ ∙ put-length one 1 (total ∷ []) (omega (arith, room)) in
-        let l₃ : length three ≡ length two = ap length e₃ ∙ put-length two 2 (take 16 image) (omega (arith, room, id-long)) in
-        joined sheet 0 (count ∷ []) _ e₁
-        (joined one 1 (total ∷ []) _ e₂
-        (joined two 2 (take 16 image) _ e₃
-        (joined three 18 (take 2 (drop 17 image)) _ e₄ e₅ (omega (arith, last-long)) (omega (arith, room, last-long)))
-        (omega (arith, id-long)) (omega (arith, room, id-long)))
-        refl (omega (arith, room)))
+    front-put count total {one} {two} {three} {four} e₁ e₂ e₃ e₄ =
+        let f₁ = standing sheet 0 (count ∷ total ∷ []) e₁ (omega (arith, room)) in
+        let f₂ = standing one 2 (take 16 image) e₂ (omega (arith, room, f₁ .1, id-long)) in
+        let f₃ = standing two 18 (take 2 (drop 17 image)) e₃ (omega (arith, room, f₁ .1, f₂ .1, last-long)) in
+        let f₄ = standing three 20 (take 7 (drop addressAt image)) e₄ (omega (arith, room, f₁ .1, f₂ .1, f₃ .1, address-long)) in
+        joined sheet 0 (count ∷ total ∷ []) _ (f₁ .0)
+        (joined one 2 (take 16 image) _ (f₂ .0)
+        (joined two 18 (take 2 (drop 17 image)) _ (f₃ .0) (f₄ .0) (omega (arith, last-long)) (omega (arith, room, f₁ .1, f₂ .1, last-long)))
+        (omega (arith, id-long)) (omega (arith, room, f₁ .1, id-long)))
         refl (omega (arith, room))
 
-    pub field-put : (chip : ℕ) (answer : Answer) {one two three four : List ℕ} → one ≡ put sheet 27 (wordBytes chip) → two ≡ put one 29 (wordBytes (answer .connection))
-        → three ≡ put two 31 (answer .control ∷ []) → four ≡ put three 32 (take 2 (drop leavesEnd image)) → four ≡ put sheet chipAt (fieldBytes chip answer image)
+    pub field-put : (chip : ℕ) (answer : Answer) {one two three four : List ℕ} → one ≡ laid sheet 27 (wordBytes chip)
+        → two ≡ laid one 29 (wordBytes (answer .connection))
+        → three ≡ laid two 31 (answer .control ∷ []) → four ≡ laid three 32 (take 2 (drop leavesEnd image))
+        → four ≡ put sheet chipAt (fieldBytes chip answer image)
     unfolding fieldBytes wordBytes
     field-put chip answer {one} {two} {three} {four} e₁ e₂ e₃ e₄ =
-        let l₁ : length one ≡ length sheet = ap length e₁ ∙ put-length sheet 27 (wordBytes chip) (omega (arith, room)) in
-        let l₂ : length two ≡ length one = ap length e₂ ∙ put-length one 29 (wordBytes (answer .connection)) (omega (arith, room)) in
-        joined sheet 27 (wordBytes chip) _ e₁
-        (joined one 29 (wordBytes (answer .connection)) _ e₂
-        (joined two 31 (answer .control ∷ []) _ e₃ e₄ refl (omega (arith, room)))
-        refl (omega (arith, room)))
+        let f₁ = standing sheet 27 (wordBytes chip) e₁ (omega (arith, room)) in
+        let f₂ = standing one 29 (wordBytes (answer .connection)) e₂ (omega (arith, room, f₁ .1)) in
+        let f₃ = standing two 31 (answer .control ∷ []) e₃ (omega (arith, room, f₁ .1, f₂ .1)) in
+        let f₄ = standing three 32 (take 2 (drop leavesEnd image)) e₄ (omega (arith, room, f₁ .1, f₂ .1, f₃ .1, maker-long)) in
+        joined sheet 27 (wordBytes chip) _ (f₁ .0)
+        (joined one 29 (wordBytes (answer .connection)) _ (f₂ .0)
+        (joined two 31 (answer .control ∷ []) _ (f₃ .0) (f₄ .0) refl (omega (arith, room, f₁ .1, f₂ .1)))
+        refl (omega (arith, room, f₁ .1)))
         refl (omega (arith, room))
 
   -- as the record has it
@@ -114,12 +126,15 @@ module _ (image : List ℕ) (whole : length image ≡ imageLength) where
       → (count ∷ total ∷ (a ++ (x ∷ y ∷ (b ++ (z ∷ []))))) ++ (c ++ parts) ≡ count ∷ total ∷ ((a ++ (x ∷ y ∷ (b ++ (z ∷ c)))) ++ parts)
   head-order count total a x y b z c parts = simp append-assoc
 
-  pub head-is : (chip count total : ℕ) (answer : Answer) (parts : List ℕ) → answer .connection ≡ imageFrom chip image .connection → answer .control ≡ imageFrom chip image .control
+  pub head-is : (chip count total : ℕ) (answer : Answer) (parts : List ℕ) → answer .connection ≡ imageFrom chip image .connection
+      → answer .control ≡ imageFrom chip image .control
       → frontBytes count total image ++ (fieldBytes chip answer image ++ parts) ≡ count ∷ total ∷ (headOf (imageFrom chip image) ++ parts)
   unfolding frontBytes fieldBytes headOf imageFrom wordBytes
   head-is chip count total answer parts ec eo =
       ap₂ (λ (l a : List ℕ). (count ∷ total ∷ (take 16 image ++ (l ++ a))) ++ (fieldBytes chip answer image ++ parts)) last-is address-is
-      ∙ ap₂ (λ (x y : ℕ). (count ∷ total ∷ (take 16 image ++ (byteAt image 17 ∷ byteAt image 18 ∷ (take 6 (drop addressAt image) ++ (byteAt image 26 ∷ []))))) ++ ((wordBytes chip ++ (wordBytes x ++ (y ∷ take 2 (drop leavesEnd image)))) ++ parts)) ec eo
+      ∙ ap₂ (λ (x y : ℕ). (count ∷ total ∷ (take 16 image
+      ++ (byteAt image 17 ∷ byteAt image 18 ∷ (take 6 (drop addressAt image) ++ (byteAt image 26 ∷ []))))) ++ ((wordBytes chip
+      ++ (wordBytes x ++ (y ∷ take 2 (drop leavesEnd image)))) ++ parts)) ec eo
       ∙ head-order count total (take 16 image) _ _ (take 6 (drop addressAt image)) _ _ parts
 
 -- ## The parts
@@ -162,12 +177,14 @@ module _ (chip : ℕ) {image : List ℕ} {r : Reading} (c : Accepted image (newe
   read-entries = rw (c .known)
 
   pub read-sheet : (total : ℕ) → total ≡ length (bodyBytes (imageFrom chip image .entries))
-      → frontBytes (r .answer .blocks) total image ++ (fieldBytes chip (r .answer) image ++ partsOf (entriesOf (r .row) (r .answer .blocks) (restOf image r))) ≡ sheetFor image chip
+      → frontBytes (r .answer .blocks) total image
+      ++ (fieldBytes chip (r .answer) image ++ partsOf (entriesOf (r .row) (r .answer .blocks) (restOf image r))) ≡ sheetFor image chip
   unfolding sheetOf
   read-sheet total et =
       head-is image read-whole chip (r .answer .blocks) total (r .answer) _ connection control
       ∙ ap₂ (λ (n : ℕ) (es : List Entry). n ∷ total ∷ (headOf (imageFrom chip image) ++ partsOf es)) count read-entries
-      ∙ ap (λ (n : ℕ). length (imageFrom chip image .entries) ∷ n ∷ (headOf (imageFrom chip image) ++ partsOf (imageFrom chip image .entries))) et
+      ∙ ap (λ (n : ℕ). length (imageFrom chip image .entries) ∷ n
+      ∷ (headOf (imageFrom chip image) ++ partsOf (imageFrom chip image .entries))) et
     where
       connection : r .answer .connection ≡ imageFrom chip image .connection
       connection = unfold imageFrom acceptedReading acceptedAnswer newest in rw (c .known)
@@ -185,6 +202,7 @@ module _ (chip : ℕ) {image : List ℕ} {r : Reading} (c : Accepted image (newe
       let f = front-long image read-whole (r .answer .blocks) t in
       let g = field-long image read-whole chip (r .answer) in
       let p = parts-long (entriesOf (r .row) (r .answer .blocks) (restOf image r)) in
-      let b : length (bodyBytes (entriesOf (r .row) (r .answer .blocks) (restOf image r))) ≡ length (bodyBytes (imageFrom chip image .entries)) = ap (λ (l : List Entry). length (bodyBytes l)) read-entries in
+      let b : length (bodyBytes (entriesOf (r .row) (r .answer .blocks) (restOf image r)))
+      ≡ length (bodyBytes (imageFrom chip image .entries)) = ap (λ (l : List Entry). length (bodyBytes l)) read-entries in
       let n = entries-long (r .row) (r .answer .blocks) (restOf image r) in
       ap length (sym (read-sheet t refl)) ∙ simp length-append (omega (arith, f, g, p, b, n))

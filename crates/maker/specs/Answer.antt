@@ -7,6 +7,3 @@ use Rattle.maker.specs.declared.Made.{Made}
 -- for a buffer of a length
 unfoldable pub madeFor : List ℕ → ℕ → ℕ → Made
 madeFor image chip room = record { number = makeNumber image chip room; length = makeLength image chip room }
-
-unfoldable pub refusedMade : ℕ → Made
-refusedMade n = record { number = n; length = 0 }

@@ -1,24 +1,24 @@
 // The sheet maker: the sheet of a tidy image (document 01, 'The sheet').
 mod parts;
-mod stores;
 
 use reader::Answer;
 use reader::Arguments;
 use reader::Reading;
 use rom::ByteOffset;
 use rom::refusal;
-use stores::put_byte;
-use stores::put_bytes;
-use stores::put_word;
+use rom::store::put_byte;
+use rom::store::put_bytes;
+use rom::store::put_word;
 ghost use mathlib.Core.Path.{_≡_};
 ghost use Prim.Native.Nat.{_≤_};
 ghost use lib.ListN.{length};
 ghost use Rattle.rom.specs.Geometry.{imageLength, leavesEnd};
-ghost use Rattle.sheet.specs.Lists.{allZero, put};
+ghost use Rattle.rom.specs.Store.{put};
+ghost use Rattle.sheet.specs.Lists.{allZero};
 ghost use Rattle.sheet.specs.Layout.{chipAt, headLength};
 ghost use Rattle.sheet.specs.Make.{sheetFor, made};
-ghost use Rattle.maker.specs.Answer.{madeFor, refusedMade};
-ghost use Rattle.maker.specs.Code.{frontBytes, fieldBytes, isTidyFrom, Sheetable};
+ghost use Rattle.maker.specs.Answer.{madeFor};
+ghost use Rattle.maker.specs.Inside.{refusedMade, frontBytes, fieldBytes, isTidyFrom, Sheetable};
 
 // The sheet's length, or a refusal's number and 0.
 #[repr(C)]
@@ -73,17 +73,16 @@ fn put_front(sheet: &mut [u8], image: &[u8], count: u8, total: u8)
     requires { ⌜ (length (now image) ≡ imageLength) × (headLength ≤ length (now sheet)) ⌝ }
     ensures { λ _. ⌜ now (sheet .exit) ≡ put (now (sheet .entry)) 0 (frontBytes count total (now (image .entry))) ⌝ }
 {
-    put_byte(sheet, sheet::COUNT_AT, count);
-    put_byte(sheet, sheet::TOTAL_AT, total);
-    put_bytes(sheet, sheet::ID_AT, &image[0..rom::ID_CRC_AT]);
+    put_bytes(sheet, ByteOffset(sheet::COUNT_AT), &[count, total]);
+    put_bytes(sheet, ByteOffset(sheet::ID_AT), &image[0..rom::ID_CRC_AT]);
     put_bytes(
         sheet,
-        sheet::LAST_ID_AT,
+        ByteOffset(sheet::LAST_ID_AT),
         &image[LAST_ID_BYTE..rom::CONTROLLER_COUNT_AT],
     );
     put_bytes(
         sheet,
-        sheet::ADDRESS_AT,
+        ByteOffset(sheet::ADDRESS_AT),
         &image[rom::ADDRESS_AT..LEAF_OFFSET_AT],
     );
 }
@@ -93,12 +92,12 @@ fn put_fields(sheet: &mut [u8], image: &[u8], chip: u16, answer: Answer)
     requires { ⌜ (length (now image) ≡ imageLength) × (headLength ≤ length (now sheet)) ⌝ }
     ensures { λ _. ⌜ now (sheet .exit) ≡ put (now (sheet .entry)) chipAt (fieldBytes chip answer (now (image .entry))) ⌝ }
 {
-    put_word(sheet, sheet::CHIP_AT, chip);
-    put_word(sheet, sheet::CONNECTION_AT, answer.connection);
-    put_byte(sheet, sheet::CONTROL_AT, answer.control);
+    put_word(sheet, ByteOffset(sheet::CHIP_AT), chip);
+    put_word(sheet, ByteOffset(sheet::CONNECTION_AT), answer.connection);
+    put_byte(sheet, ByteOffset(sheet::CONTROL_AT), answer.control);
     put_bytes(
         sheet,
-        sheet::MAKER_AT,
+        ByteOffset(sheet::MAKER_AT),
         &image[rom::LEAVES_END..rom::CHECKED_LENGTH],
     );
 }

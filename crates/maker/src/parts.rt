@@ -1,17 +1,18 @@
 // A sheet's parts that go by blocks: kinds, body sizes and bodies, each in a pass over an accepted leaf's blocks. Blocks of
 // unknown types are carried too.
-use super::stores::put_byte;
-use super::stores::put_bytes;
-use super::stores::put_word;
 use block::shape;
+use rom::ByteOffset;
+use rom::store::put_byte;
+use rom::store::put_bytes;
+use rom::store::put_word;
 ghost use mathlib.Core.Path.{_≡_};
 ghost use Prim.Native.Nat.{_+_, _≤_};
 ghost use lib.ListN.{length};
+ghost use Rattle.rom.specs.Store.{put};
 ghost use Rattle.sheet.specs.Layout.{headLength};
 ghost use Rattle.sheet.specs.Sheet.{kindBytes, sizeBytes, bodyBytes, partsOf};
 ghost use Rattle.sheet.specs.Image.{openingLength};
-ghost use Rattle.sheet.specs.Lists.{put};
-ghost use Rattle.maker.specs.Code.{AcceptedBlocks, entriesOf, measuredOf};
+ghost use Rattle.maker.specs.Inside.{AcceptedBlocks, entriesOf, measuredOf};
 
 // How many bytes a leaf's blocks take, and how many of those their bodies.
 pub(crate) struct Measured {
@@ -65,7 +66,7 @@ fn put_kinds(sheet: &mut [u8], at: usize, blocks: &[u8], count: u8, row: usize) 
     let mut to = at;
     while k < count {
         let kind = shape::kind_at(rest, row);
-        put_word(sheet, to, kind);
+        put_word(sheet, ByteOffset(to), kind);
         to += 2;
         let size = shape::size_at(rest, row);
         rest = &rest[size..];
@@ -86,8 +87,8 @@ fn put_sizes(sheet: &mut [u8], at: usize, blocks: &[u8], count: u8, row: usize) 
     while k < count {
         let size = shape::size_at(rest, row);
         let opening = opening_length(rest, row);
-        let body = size - opening;
-        put_byte(sheet, to, body as u8);
+        let body = (size - opening) as u8;
+        put_byte(sheet, ByteOffset(to), body);
         to += 1;
         rest = &rest[size..];
         k += 1;
@@ -107,7 +108,7 @@ fn put_bodies(sheet: &mut [u8], at: usize, blocks: &[u8], count: u8, row: usize)
         let size = shape::size_at(rest, row);
         let opening = opening_length(rest, row);
         let body = size - opening;
-        put_bytes(sheet, to, &rest[opening..size]);
+        put_bytes(sheet, ByteOffset(to), &rest[opening..size]);
         to += body;
         rest = &rest[size..];
         k += 1;

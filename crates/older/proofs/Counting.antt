@@ -7,14 +7,15 @@ use mathlib.Core.Path.{_≡_, refl}
 use mathlib.Core.Bool.{Bool, true, false, not}
 use lib.Dec.{eqb}
 use borrow.Author.Tests.{eqb-true, ne-eqb}
-use Rattle.rom.specs.Bytes.{pick}
+use Rattle.rom.specs.Bytes.{pick, one}
 use Rattle.rom.specs.Refusal.{firstMet}
 use Rattle.header.specs.declared.Arguments.{Arguments}
-use Rattle.leaf.specs.Leaf.{one}
 use Rattle.autosense.specs.declared.Walk.{Walk}
-use Rattle.autosense.specs.Walk.{freshWalk, loadedWalk, chosen, switched, stepped, lookCauses, loadCauses, walkedTo, loadFor, lookFor, clearFor}
+use Rattle.autosense.specs.Walk.{freshWalk, loadedWalk, chosen, switched, stepped, lookCauses, loadCauses, walkedTo, loadFor, lookFor}
+use Rattle.autosense.specs.Walk.{clearFor}
 use Rattle.autosense.proofs.Looks.{accepted-looks}
-use Rattle.older.specs.Claims.{Reached, fresh, load, look, clear, CountsExactly}
+use Rattle.older.specs.FromFresh.{FromFresh, fresh, load, look, clear}
+use Rattle.older.specs.Claims.{CountsExactly}
 
 record Counts (w : Walk) : Type 0 where
   fewer : w .switches ≤ w .looks
@@ -38,7 +39,9 @@ few true = omega arith
 few false = omega arith
 
 module _ (w : Walk) (c : Counts w) (report : List ℕ) where
-  stepped-exactly : firstMet (lookCauses w report) ≡ 0 → (stepped w report .looks ≡ w .looks + 1) × (stepped w report .switches ≡ w .switches + one (not (eqb (w .selected) (stepped w report .selected))))
+  stepped-exactly : firstMet (lookCauses w report) ≡ 0
+      → (stepped w report .looks ≡ w .looks + 1)
+      × (stepped w report .switches ≡ w .switches + one (not (eqb (w .selected) (stepped w report .selected))))
   unfolding stepped
   stepped-exactly e =
       let room = accepted-looks w report e in
@@ -68,11 +71,12 @@ module _ (w : Walk) (c : Counts w) (report : List ℕ) where
       go false = c
 
   look-exactly : lookFor w report .number ≡ 0
-      → (lookFor w report .walk .looks ≡ w .looks + 1) × (lookFor w report .walk .switches ≡ w .switches + one (not (eqb (w .selected) (lookFor w report .walk .selected))))
+      → (lookFor w report .walk .looks ≡ w .looks + 1)
+      × (lookFor w report .walk .switches ≡ w .switches + one (not (eqb (w .selected) (lookFor w report .walk .selected))))
   unfolding lookFor walkedTo pick
   look-exactly e = rw e (stepped-exactly e)
 
-counts : (w : Walk) → Reached w → Counts w
+counts : (w : Walk) → FromFresh w → Counts w
 unfolding clearFor
 counts u fresh = counts-fresh
 counts u (load {w} image a r) = counts-load w (counts w r) [] image a

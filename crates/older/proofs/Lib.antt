@@ -6,5 +6,6 @@ pub mod OlderReadings
 pub mod OlderReader
 pub mod Refusals
 pub mod Order
+pub mod RemovedNumbers
 pub mod Counting
 pub mod Standing

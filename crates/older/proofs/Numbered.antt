@@ -8,11 +8,12 @@ use mathlib.Core.Bool.{Bool, true, false, _&&_, not}
 use lib.Dec.{eqb}
 use lib.ListN.{length, getD, replicate}
 use borrow.Author.Tests.{eqb-true}
-use Rattle.rom.specs.Bytes.{pick}
+use Rattle.rom.specs.Geometry.{none}
+use Rattle.rom.specs.Bytes.{pick, one}
 use Rattle.rom.proofs.Truth.{true-false}
-use Rattle.block.specs.Block.{kindOf, isKnown, factsOf, reset}
+use Rattle.block.specs.Block.{kindOf, isKnown, factsOf, reset, isListed, isDefault}
 use Rattle.block.proofs.Levels.{known-up}
-use Rattle.leaf.specs.Leaf.{isListed, isDefault, one, firstFrom}
+use Rattle.leaf.specs.Leaf.{firstFrom}
 use Rattle.autosense.specs.Walk.{blockIs, flags, flagAt, isInvalid}
 use Rattle.older.specs.Levels.{isRemoved}
 
@@ -47,14 +48,16 @@ block-past p [] k h = refl
 block-past p (s ∷ bs) zero h = absurd (not-suc-le-zero h)
 block-past p (s ∷ bs) (suc k) h = block-past p bs k (le-of-suc-le-suc h)
 
-pub block-same : (p q r : List ℕ → Bool) → ((s : List ℕ) → r s ≡ false → p s ≡ q s) → (bs : List (List ℕ)) (k : ℕ) → blockIs r bs k ≡ false → blockIs p bs k ≡ blockIs q bs k
+pub block-same : (p q r : List ℕ → Bool) → ((s : List ℕ) → r s ≡ false → p s ≡ q s) → (bs : List (List ℕ)) (k : ℕ) → blockIs r bs k ≡ false
+    → blockIs p bs k ≡ blockIs q bs k
 unfolding blockIs
 block-same p q r h [] k e = refl
 block-same p q r h (s ∷ bs) zero e = h s e
 block-same p q r h (s ∷ bs) (suc k) e = block-same p q r h bs k e
 
 -- a block that p takes is the one of its number in the list
-pub block-at : (p q : List ℕ → Bool) (bs : List (List ℕ)) (k : ℕ) → blockIs p bs k ≡ true → (p (getD bs k []) ≡ true) × (blockIs q bs k ≡ q (getD bs k []))
+pub block-at : (p q : List ℕ → Bool) (bs : List (List ℕ)) (k : ℕ) → blockIs p bs k ≡ true
+    → (p (getD bs k []) ≡ true) × (blockIs q bs k ≡ q (getD bs k []))
 unfolding blockIs
 block-at p q [] k e = true-false (sym e)
 block-at p q (s ∷ bs) zero e = (e, refl)
@@ -63,9 +66,11 @@ block-at p q (s ∷ bs) (suc k) e = block-at p q bs k e
 -- ## Levels
 
 -- an entry that is not removed is listed at both levels or at neither
-listed-level : (row older newest : ℕ) → older ≤ newest → (s : List ℕ) → isRemoved row older newest s ≡ false → isListed row older s ≡ isListed row newest s
+listed-level : (row older newest : ℕ) → older ≤ newest → (s : List ℕ) → isRemoved row older newest s ≡ false
+    → isListed row older s ≡ isListed row newest s
 unfolding isListed
-listed-level row older newest h s = go (isKnown newest (kindOf row s)) (isKnown older (kindOf row s)) (not (eqb (kindOf row s) 5)) (known-up older newest (kindOf row s) h)
+listed-level row older newest h s =
+    go (isKnown newest (kindOf row s)) (isKnown older (kindOf row s)) (not (eqb (kindOf row s) 5)) (known-up older newest (kindOf row s) h)
   where
     go : (k l x : Bool) → (l ≡ true → k ≡ true) → ((k && x) && not l) ≡ false → (l && x) ≡ (k && x)
     go k true x u e = rw (u refl)
@@ -73,16 +78,20 @@ listed-level row older newest h s = go (isKnown newest (kindOf row s)) (isKnown 
     go true false false u e = refl
     go false false x u e = refl
 
-invalid-level : (row older newest : ℕ) → older ≤ newest → (s : List ℕ) → isRemoved row older newest s ≡ false → isInvalid row older s ≡ isInvalid row newest s
+invalid-level : (row older newest : ℕ) → older ≤ newest → (s : List ℕ) → isRemoved row older newest s ≡ false
+    → isInvalid row older s ≡ isInvalid row newest s
 unfolding isInvalid
 invalid-level row older newest h s r = rw (listed-level row older newest h s r)
 
-module _ (row older newest : ℕ) (h : older ≤ newest) (bs : List (List ℕ)) (k : ℕ) (e : blockIs (isRemoved row older newest) bs k ≡ false) where
+module _ (row older newest : ℕ) (h : older ≤ newest) (bs : List (List ℕ)) (k : ℕ)
+    (e : blockIs (isRemoved row older newest) bs k ≡ false) where
   pub listed-same : flagAt (flags (isListed row older) bs) k ≡ flagAt (flags (isListed row newest) bs) k
-  listed-same = flag-block _ bs k ∙ block-same _ _ (isRemoved row older newest) (listed-level row older newest h) bs k e ∙ sym (flag-block _ bs k)
+  listed-same = flag-block _ bs k ∙ block-same _ _ (isRemoved row older newest) (listed-level row older newest h) bs k e
+      ∙ sym (flag-block _ bs k)
 
   pub invalid-same : flagAt (flags (isInvalid row older) bs) k ≡ flagAt (flags (isInvalid row newest) bs) k
-  invalid-same = flag-block _ bs k ∙ block-same _ _ (isRemoved row older newest) (invalid-level row older newest h) bs k e ∙ sym (flag-block _ bs k)
+  invalid-same = flag-block _ bs k ∙ block-same _ _ (isRemoved row older newest) (invalid-level row older newest h) bs k e
+      ∙ sym (flag-block _ bs k)
 
 -- ## The default
 
@@ -99,9 +108,9 @@ default-listed row level s e = go (eqb (kindOf row s) 5) refl (isKnown level (ki
         let g′ : factsOf 5 s .isDefault ≡ true = rw five at g in
         true-false (sym g′)
 
--- the number that is found is that of a block that p takes, or 255
+-- the number that is found is that of a block that p takes, or none
 pub data Found (p : List ℕ → Bool) (k : ℕ) (bs : List (List ℕ)) : ℕ → Type 0 where
-  absent : Found p k bs 255
+  absent : Found p k bs none
   at : (j : ℕ) {n : ℕ} → n ≡ k + j → blockIs p bs j ≡ true → Found p k bs n
 
 pub found : (p : List ℕ → Bool) (k : ℕ) (bs : List (List ℕ)) → Found p k bs (firstFrom p k bs)
@@ -119,21 +128,22 @@ found p k (s ∷ bs) = go (p s) refl (found p (k + 1) bs)
 
 pub default-kept : (row older newest : ℕ) (bs : List (List ℕ)) →
     let d = firstFrom (isDefault row newest) 0 bs in
-    pick (isKnown older (kindOf row (getD bs d []))) d 255 ≡ pick (blockIs (isRemoved row older newest) bs d) 255 d
+    pick (isKnown older (kindOf row (getD bs d []))) d none ≡ pick (blockIs (isRemoved row older newest) bs d) none d
 unfolding pick
 default-kept row older newest bs = go (firstFrom (isDefault row newest) 0 bs) (found (isDefault row newest) 0 bs)
   where
-    same : (t : Bool) → _≡_ {A = ℕ} (pick t 255 255) 255
+    same : (t : Bool) → _≡_ {A = ℕ} (pick t none none) none
     same true = refl
     same false = refl
 
-    go : (d : ℕ) → Found (isDefault row newest) 0 bs d → pick (isKnown older (kindOf row (getD bs d []))) d 255 ≡ pick (blockIs (isRemoved row older newest) bs d) 255 d
-    go d absent = same (isKnown older (kindOf row (getD bs 255 []))) ∙ sym (same (blockIs (isRemoved row older newest) bs 255))
+    go : (d : ℕ) → Found (isDefault row newest) 0 bs d
+        → pick (isKnown older (kindOf row (getD bs d []))) d none ≡ pick (blockIs (isRemoved row older newest) bs d) none d
+    go d absent = same (isKnown older (kindOf row (getD bs none []))) ∙ sym (same (blockIs (isRemoved row older newest) bs none))
     go d (at j q b) =
         let e : d ≡ j = omega arith in
         let t = block-at (isDefault row newest) (isRemoved row older newest) bs j b in
         rw (e, t .1, default-listed row newest (getD bs j []) (t .0)) (turned (isKnown older (kindOf row (getD bs j []))))
       where
-        turned : (t : Bool) → pick t j 255 ≡ pick (not t) 255 j
+        turned : (t : Bool) → pick t j none ≡ pick (not t) none j
         turned true = refl
         turned false = refl

@@ -8,14 +8,15 @@ use mathlib.Core.Path.{_≡_, refl, ap, sym, _∙_}
 use mathlib.Core.Bool.{Bool, true, false, _||_, _&&_, not}
 use lib.Dec.{eqb, ltb}
 use borrow.Author.Tests.{ltb-false, le-ltb}
-use Rattle.rom.specs.Bytes.{pick}
+use Rattle.rom.specs.Bytes.{pick, one}
 use Rattle.rom.proofs.Fewer.{Fewer, end, and, fewer, fewer-append}
 use Rattle.rom.proofs.Truth.{true-false}
-use Rattle.block.specs.Block.{kindOf, isKnown, factsOf}
+use Rattle.block.specs.Block.{kindOf, isKnown, factsOf, isListed, isReset, isDefault, resetsPhy}
 use Rattle.block.proofs.Levels.{known-up, causes-down}
-use Rattle.leaf.specs.Leaf.{Place, keep, table, isListed, isReset, isDefault, resetsPhy, one, countOf, clash, blockCauses, clashCause, leafCauses}
+use Rattle.leaf.specs.Leaf.{Place, keep, table, countOf, clash, blockCauses, clashCause, leafCauses}
 use Rattle.leaf.proofs.Cuts.{leaf-numbered}
-use Rattle.older.specs.Levels.{stays, OlderTable, OlderAccepts}
+use Rattle.older.specs.Claims.{OlderTable, OlderAccepts}
+use Rattle.older.specs.Levels.{isKept}
 
 keep-keep : (p q r : Place → Bool) → ((b : Place) → p b ≡ (q b && r b)) → (bs : List Place) → keep p bs ≡ keep q (keep r bs)
 unfolding keep pick
@@ -54,8 +55,11 @@ both k false x h = refl
 pub older-table : OlderTable
 unfolding table isListed
 older-table row older newest bs h =
-    ap reverse (keep-keep _ (stays row older) _ (λ b. both (isKnown newest (kindOf row (b .rest))) (isKnown older (kindOf row (b .rest))) (not (eqb (kindOf row (b .rest)) 5)) (known-up older newest (kindOf row (b .rest)) h)) bs)
-    ∙ sym (keep-reverse (stays row older) _)
+    ap reverse
+    (keep-keep _ (isKept row older) _
+    (λ b. both (isKnown newest (kindOf row (b .rest))) (isKnown older (kindOf row (b .rest))) (not (eqb (kindOf row (b .rest)) 5))
+    (known-up older newest (kindOf row (b .rest)) h)) bs)
+    ∙ sym (keep-reverse (isKept row older) _)
 
 -- a count can only fall
 one-down : (k l x : Bool) → (l ≡ true → k ≡ true) → one (l && x) ≤ one (k && x)
@@ -81,7 +85,8 @@ clash-down : (a b c x y z : ℕ) → x ≤ a → y ≤ b → z ≤ c → clash a
 unfolding clash
 clash-down a b c x y z h g k =
     or-mono (ltb 1 a || ltb 0 a && ltb 0 b) (ltb 1 c) (ltb 1 x || ltb 0 x && ltb 0 y) (ltb 1 z)
-    (or-mono (ltb 1 a) (ltb 0 a && ltb 0 b) (ltb 1 x) (ltb 0 x && ltb 0 y) (low 1 a x h) (and-mono (ltb 0 a) (ltb 0 b) (ltb 0 x) (ltb 0 y) (low 0 a x h) (low 0 b y g)))
+    (or-mono (ltb 1 a) (ltb 0 a && ltb 0 b) (ltb 1 x) (ltb 0 x && ltb 0 y) (low 1 a x h)
+    (and-mono (ltb 0 a) (ltb 0 b) (ltb 0 x) (ltb 0 y) (low 0 a x h) (low 0 b y g)))
     (low 1 c z k)
   where
     low : (n a x : ℕ) → x ≤ a → ltb n a ≡ false → ltb n x ≡ false

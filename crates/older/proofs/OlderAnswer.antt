@@ -1,26 +1,30 @@
 -- The older answer's counts, block by block, and its default number. Assumes nothing.
 use Prim.Native.Nat.{ℕ, suc, _+_, _-_, _≤_}
 use native.Mathlib.Omega.{arith}
-use native.Mathlib.Nat.{le-refl, sub-zero}
+use native.Mathlib.Nat.{sub-zero}
 use mathlib.Core.List.{List, [], _∷_}
 use mathlib.Core.Path.{_≡_, refl, sym, _∙_}
 use mathlib.Core.Bool.{Bool, true, false, _&&_, not}
 use lib.Dec.{eqb, ltb}
 use lib.ListN.{getD}
 use borrow.Author.Tests.{eqb-true}
-use Rattle.rom.specs.Bytes.{pick}
+use Rattle.rom.specs.Geometry.{none}
+use Rattle.rom.specs.Bytes.{pick, one}
 use Rattle.rom.proofs.Truth.{true-false}
-use Rattle.block.specs.Block.{kindOf, isKnown, factsOf}
-use Rattle.block.proofs.Levels.{known-up}
-use Rattle.leaf.specs.Leaf.{isListed, isReset, isSkipped, isDefault, one, countOf, firstFrom}
-use Rattle.older.specs.Levels.{OlderCounts, OlderDefault}
+use Rattle.block.specs.Block.{kindOf, isKnown, factsOf, isListed, isReset, isSkipped, isDefault}
+use Rattle.block.proofs.Levels.{known-up, and-down}
+use Rattle.leaf.specs.Leaf.{countOf, firstFrom}
+use Rattle.older.specs.Claims.{OlderCounts, OlderDefault}
+use Rattle.older.proofs.Numbered.{Found, absent, at, found}
 
-count-sum : (p q r : List ℕ → Bool) → ((s : List ℕ) → one (p s) + one (q s) ≡ one (r s)) → (bs : List (List ℕ)) → countOf p bs + countOf q bs ≡ countOf r bs
+count-sum : (p q r : List ℕ → Bool) → ((s : List ℕ) → one (p s) + one (q s) ≡ one (r s)) → (bs : List (List ℕ))
+    → countOf p bs + countOf q bs ≡ countOf r bs
 unfolding countOf
 count-sum p q r h [] = refl
 count-sum p q r h (s ∷ bs) = omega (arith, h s, count-sum p q r h bs)
 
-count-if : (t : Bool) (p q : List ℕ → Bool) → ((s : List ℕ) → p s ≡ (t && q s)) → (bs : List (List ℕ)) → countOf p bs ≡ pick t (countOf q bs) 0
+count-if : (t : Bool) (p q : List ℕ → Bool) → ((s : List ℕ) → p s ≡ (t && q s)) → (bs : List (List ℕ))
+    → countOf p bs ≡ pick t (countOf q bs) 0
 unfolding countOf pick
 count-if true p q h [] = refl
 count-if false p q h [] = refl
@@ -43,7 +47,8 @@ skipped-more k true h = rw (h refl)
 skipped-more true false h = refl
 skipped-more false false h = refl
 
-type-5 : (older newest kind : ℕ) → older ≤ newest → (isKnown older kind && eqb kind 5) ≡ (ltb 5 older && (isKnown newest kind && eqb kind 5))
+type-5 : (older newest kind : ℕ) → older ≤ newest
+    → (isKnown older kind && eqb kind 5) ≡ (ltb 5 older && (isKnown newest kind && eqb kind 5))
 unfolding isKnown
 type-5 older newest kind h = go (eqb kind 5) (eqb-true kind 5)
   where
@@ -72,20 +77,21 @@ pub older-counts : OlderCounts
 unfolding isListed isReset isSkipped
 older-counts row older newest bs h = (
   count-if (ltb 5 older) _ _ (λ s. type-5 older newest (kindOf row s) h) bs,
-  count-sum _ _ _ (λ s. kept-removed (isKnown newest (kindOf row s)) (isKnown older (kindOf row s)) (not (eqb (kindOf row s) 5)) (known-up older newest (kindOf row s) h)) bs,
-  count-sum _ _ _ (λ s. skipped-more (isKnown newest (kindOf row s)) (isKnown older (kindOf row s)) (known-up older newest (kindOf row s) h)) bs,
+  count-sum _ _ _
+      (λ s. kept-removed (isKnown newest (kindOf row s)) (isKnown older (kindOf row s)) (not (eqb (kindOf row s) 5))
+      (known-up older newest (kindOf row s) h)) bs,
+  count-sum _ _ _
+      (λ s. skipped-more (isKnown newest (kindOf row s)) (isKnown older (kindOf row s)) (known-up older newest (kindOf row s) h)) bs,
 )
 
 -- ## The default number
 
 -- what is default at an older level is default at the newest
-and-false : (k l x : Bool) → (l ≡ true → k ≡ true) → (k && x) ≡ false → (l && x) ≡ false
-and-false k true x h e = rw (h refl) at e
-and-false k false x h e = refl
-
 default-less : (row older newest : ℕ) (s : List ℕ) → older ≤ newest → isDefault row newest s ≡ false → isDefault row older s ≡ false
 unfolding isDefault
-default-less row older newest s h = and-false (isKnown newest (kindOf row s)) (isKnown older (kindOf row s)) (factsOf (kindOf row s) s .isDefault) (known-up older newest (kindOf row s) h)
+default-less row older newest s h =
+    and-down (isKnown newest (kindOf row s)) (isKnown older (kindOf row s)) (factsOf (kindOf row s) s .isDefault)
+    (known-up older newest (kindOf row s) h)
 
 -- a default of the newest level is the older one's where that knows it
 default-known : (row older newest : ℕ) (s : List ℕ) → isDefault row newest s ≡ true → isDefault row older s ≡ isKnown older (kindOf row s)
@@ -97,66 +103,57 @@ default-known row older newest s = go (isKnown newest (kindOf row s)) (isKnown o
     go true false x e = refl
     go false l x e = true-false (sym e)
 
-no-default : (row older newest k : ℕ) (bs : List (List ℕ)) → older ≤ newest → countOf (isDefault row newest) bs ≡ 0 → firstFrom (isDefault row older) k bs ≡ 255
+no-default : (row older newest k : ℕ) (bs : List (List ℕ)) → older ≤ newest → countOf (isDefault row newest) bs ≡ 0
+    → firstFrom (isDefault row older) k bs ≡ none
 unfolding countOf firstFrom pick
 no-default row older newest k [] h e = refl
 no-default row older newest k (s ∷ bs) h e = go (isDefault row newest s) refl e (no-default row older newest (k + 1) bs h)
   where
-    go : (t : Bool) → isDefault row newest s ≡ t → one t + countOf (isDefault row newest) bs ≡ 0 → (countOf (isDefault row newest) bs ≡ 0 → firstFrom (isDefault row older) (k + 1) bs ≡ 255)
-        → pick (isDefault row older s) k (firstFrom (isDefault row older) (k + 1) bs) ≡ 255
+    go : (t : Bool) → isDefault row newest s ≡ t → one t + countOf (isDefault row newest) bs ≡ 0
+        → (countOf (isDefault row newest) bs ≡ 0 → firstFrom (isDefault row older) (k + 1) bs ≡ none)
+        → pick (isDefault row older s) k (firstFrom (isDefault row older) (k + 1) bs) ≡ none
     go true f e ih = absurd (omega arith)
     go false f e ih = rw (default-less row older newest s h f) (ih (omega arith))
 
--- a number that is found is not below the first
-data Found (k : ℕ) : ℕ → Type 0 where
-  none : Found k 255
-  some : {n : ℕ} → k ≤ n → Found k n
-
-found-from : (p : List ℕ → Bool) (k : ℕ) (bs : List (List ℕ)) → Found k (firstFrom p k bs)
-unfolding firstFrom pick
-found-from p k [] = none
-found-from p k (s ∷ bs) = go (p s) (found-from p (k + 1) bs)
-  where
-    up : {n : ℕ} → Found (k + 1) n → Found k n
-    up none = none
-    up (some {n} l) = let m : k ≤ n = omega arith in some m
-
-    go : (t : Bool) → Found (k + 1) (firstFrom p (k + 1) bs) → Found k (pick t k (firstFrom p (k + 1) bs))
-    go true f = some (le-refl _)
-    go false f = up f
-
 module _ (row older : ℕ) where
   kept-number : List (List ℕ) → ℕ → ℕ → ℕ
-  kept-number bs k n = pick (isKnown older (kindOf row (getD bs (n - k) []))) n 255
+  kept-number bs k n = pick (isKnown older (kindOf row (getD bs (n - k) []))) n none
 
-  past-first : (s : List ℕ) (bs : List (List ℕ)) (k n : ℕ) → Found (k + 1) n → kept-number bs (k + 1) n ≡ kept-number (s ∷ bs) k n
+  past-first : (p : List ℕ → Bool) (s : List ℕ) (bs : List (List ℕ)) (k n : ℕ) → Found p (k + 1) bs n
+      → kept-number bs (k + 1) n ≡ kept-number (s ∷ bs) k n
   unfolding kept-number pick
-  past-first s bs k n none = same (isKnown older (kindOf row (getD bs (255 - (k + 1)) []))) ∙ sym (same (isKnown older (kindOf row (getD (s ∷ bs) (255 - k) []))))
+  past-first p s bs k n absent = same (isKnown older (kindOf row (getD bs (none - (k + 1)) [])))
+      ∙ sym (same (isKnown older (kindOf row (getD (s ∷ bs) (none - k) []))))
     where
-      same : (t : Bool) → _≡_ {A = ℕ} (pick t 255 255) 255
+      same : (t : Bool) → _≡_ {A = ℕ} (pick t none none) none
       same true = refl
       same false = refl
-  past-first s bs k n (some l) =
+  past-first p s bs k n (at j q b) =
       let e : n - k ≡ suc (n - (k + 1)) = omega arith in
       rw e
 
-  default-from : (newest k : ℕ) (bs : List (List ℕ)) → older ≤ newest → countOf (isDefault row newest) bs ≤ 1 → firstFrom (isDefault row older) k bs ≡ kept-number bs k (firstFrom (isDefault row newest) k bs)
+  default-from : (newest k : ℕ) (bs : List (List ℕ)) → older ≤ newest → countOf (isDefault row newest) bs ≤ 1
+      → firstFrom (isDefault row older) k bs ≡ kept-number bs k (firstFrom (isDefault row newest) k bs)
   unfolding countOf firstFrom pick kept-number
-  default-from newest k [] h l = go (isKnown older (kindOf row (getD [] (255 - k) [])))
+  default-from newest k [] h l = go (isKnown older (kindOf row (getD [] (none - k) [])))
     where
-      go : (t : Bool) → _≡_ {A = ℕ} 255 (pick t 255 255)
+      go : (t : Bool) → _≡_ {A = ℕ} none (pick t none none)
       go true = refl
       go false = refl
   default-from newest k (s ∷ bs) h l = go (isDefault row newest s) refl l (default-from newest (k + 1) bs h)
     where
       go : (t : Bool) → isDefault row newest s ≡ t → one t + countOf (isDefault row newest) bs ≤ 1
-          → (countOf (isDefault row newest) bs ≤ 1 → firstFrom (isDefault row older) (k + 1) bs ≡ kept-number bs (k + 1) (firstFrom (isDefault row newest) (k + 1) bs))
-          → pick (isDefault row older s) k (firstFrom (isDefault row older) (k + 1) bs) ≡ kept-number (s ∷ bs) k (pick t k (firstFrom (isDefault row newest) (k + 1) bs))
+          → (countOf (isDefault row newest) bs ≤ 1
+          → firstFrom (isDefault row older) (k + 1) bs ≡ kept-number bs (k + 1) (firstFrom (isDefault row newest) (k + 1) bs))
+          → pick (isDefault row older s) k (firstFrom (isDefault row older) (k + 1) bs)
+          ≡ kept-number (s ∷ bs) k (pick t k (firstFrom (isDefault row newest) (k + 1) bs))
       go true f l ih =
           let z : countOf (isDefault row newest) bs ≡ 0 = omega arith in
           let e : k - k ≡ 0 = omega arith in
           rw (default-known row older newest s f, no-default row older newest (k + 1) bs h z, e)
-      go false f l ih = rw (default-less row older newest s h f) (ih (omega arith) ∙ past-first s bs k _ (found-from (isDefault row newest) (k + 1) bs))
+      go false f l ih =
+          rw (default-less row older newest s h f)
+          (ih (omega arith) ∙ past-first (isDefault row newest) s bs k _ (found (isDefault row newest) (k + 1) bs))
 
 pub older-default : OlderDefault
 unfolding kept-number

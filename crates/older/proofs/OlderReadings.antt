@@ -7,24 +7,26 @@ use mathlib.Core.Bool.{Bool, true, false, not}
 use lib.ListN.{length, take, drop, length-map}
 use lib.Seq.{take-at}
 use borrow.Author.Tests.{ltb-false, le-ltb}
+use Rattle.rom.specs.Geometry.{none}
 use Rattle.rom.specs.Bytes.{pick}
 use Rattle.rom.specs.Refusal.{Cause, firstMet}
 use Rattle.rom.proofs.First.{after-accepted, both-accepted}
 use Rattle.rom.proofs.Fewer.{Fewer, end, and, fewer, fewer-append}
 use Rattle.block.specs.Format.{newestLevel}
-use Rattle.block.specs.Block.{isKnown}
+use Rattle.block.specs.Block.{isKnown, isListed}
 use Rattle.header.specs.declared.Arguments.{Arguments}
 use Rattle.header.specs.Image.{restFrom, imageCauses, argumentCauses, leafHeaderCauses}
-use Rattle.header.specs.Header.{rowFor, leafFor, startFor, countFor, headerCauses}
+use Rattle.header.specs.Header.{rowFor, leafFor, startFor, countFor, headerCauses, atLevel}
 use Rattle.header.proofs.Headers.{header-numbered}
-use Rattle.leaf.specs.Leaf.{Place, keep, countOf, isListed, tableOf, kindAt, startAt}
+use Rattle.leaf.specs.Leaf.{Place, keep, countOf, tableOf, kindAt, startAt}
 use Rattle.leaf.proofs.Tables.{listed-length}
 use Rattle.leaf.proofs.Counts.{accepted-defaults}
-use Rattle.reader.specs.Table.{written}
-use Rattle.reader.specs.Reading.{blocksFor, tableFor, leafCausesFor, judgeCauses, readCauses, acceptedAnswer, answerFor, readAnswer, readInto, readKinds, readOffsets}
-use Rattle.older.specs.Levels.{stays}
-use Rattle.older.specs.Written.{Arrays, Room, Entry, entries, answerOf, tableIn, those}
-use Rattle.older.specs.OlderReader.{removed, kept, removedBlock, atLevel, ReadsAgree}
+use Rattle.reader.specs.Table.{tabled}
+use Rattle.reader.specs.Reading.{blocksFor, tableFor, leafCausesFor, judgeCauses, readCauses, acceptedAnswer, answerFor, readAnswer}
+use Rattle.reader.specs.Reading.{readInto, readKinds, readOffsets}
+use Rattle.older.specs.Levels.{isKept, removedBlock}
+use Rattle.older.specs.Written.{Arrays, Room, TableEntry, entries, answerOf, tableIn, those, removed, kept}
+use Rattle.older.specs.Claims.{ReadsAgree}
 use Rattle.older.proofs.Older.{older-accepts, older-table}
 use Rattle.older.proofs.OlderAnswer.{older-counts, older-default}
 use Rattle.older.proofs.Numbered.{default-kept}
@@ -35,19 +37,24 @@ same : (cs : List Cause) → Fewer cs cs
 same [] = end
 same (c ∷ cs) = and (λ e. e) (same cs)
 
-header-down : (image : List ℕ) (a : Arguments) (older newest : ℕ) → older ≤ newest → Fewer (headerCauses image (atLevel a newest)) (headerCauses image (atLevel a older))
+header-down : (image : List ℕ) (a : Arguments) (older newest : ℕ) → older ≤ newest
+    → Fewer (headerCauses image (atLevel a newest)) (headerCauses image (atLevel a older))
 unfolding headerCauses argumentCauses
 header-down image a older newest h =
     fewer-append (same (imageCauses image))
-    (fewer-append (and (λ e. e) (and (λ e. e) (and (λ e. le-ltb newestLevel older (omega (arith, ltb-false newestLevel newest e))) (and (λ e. e) end))))
+    (fewer-append
+    (and (λ e. e)
+    (and (λ e. e) (and (λ e. le-ltb newestLevel older (omega (arith, ltb-false newestLevel newest e))) (and (λ e. e) end))))
     (same (leafHeaderCauses image (rowFor a) (leafFor image a))))
 
 -- an accepted reading has an accepted header and an accepted leaf
-pub parts : (image : List ℕ) (a : Arguments) → firstMet (judgeCauses image a) ≡ 0 → (firstMet (headerCauses image a) ≡ 0) × (firstMet (leafCausesFor image a) ≡ 0)
+pub parts : (image : List ℕ) (a : Arguments) → firstMet (judgeCauses image a) ≡ 0
+    → (firstMet (headerCauses image a) ≡ 0) × (firstMet (leafCausesFor image a) ≡ 0)
 unfolding judgeCauses
 parts image a e = both-accepted (headerCauses image a) (leafCausesFor image a) (header-numbered image a) e
 
-pub judge-down : (image : List ℕ) (a : Arguments) (older newest : ℕ) → older ≤ newest → firstMet (judgeCauses image (atLevel a newest)) ≡ 0 → firstMet (judgeCauses image (atLevel a older)) ≡ 0
+pub judge-down : (image : List ℕ) (a : Arguments) (older newest : ℕ) → older ≤ newest → firstMet (judgeCauses image (atLevel a newest)) ≡ 0
+    → firstMet (judgeCauses image (atLevel a older)) ≡ 0
 unfolding judgeCauses leafCausesFor
 judge-down image a older newest h e =
     let b = parts image (atLevel a newest) e in
@@ -57,17 +64,17 @@ judge-down image a older newest h e =
 
 -- ## What an accepted reading answers and writes
 
-abbrev entry : ℕ → Place → Entry
+abbrev pub entry : ℕ → Place → TableEntry
 entry row p = record { kind = kindAt row p; start = startAt p }
 
 entries-map : (row : ℕ) (t : List Place) → entries (map (kindAt row) t) (map startAt t) ≡ map (entry row) t
 unfolding entries
 entries-map row [] = refl
-entries-map row (p ∷ t) = ap (λ (es : List Entry). entry row p ∷ es) (entries-map row t)
+entries-map row (p ∷ t) = ap (λ (es : List TableEntry). entry row p ∷ es) (entries-map row t)
 
-take-written : (f : Place → ℕ) (t : List Place) (array : List ℕ) (n : ℕ) → n ≡ length t → take n (written f t array) ≡ map f t
-unfolding written
-take-written f t array n e = take-at (map f t) (drop (length t) array) n (length-map t f ∙ sym e)
+take-tabled : (f : Place → ℕ) (t : List Place) (array : List ℕ) (n : ℕ) → n ≡ length t → take n (tabled f t array) ≡ map f t
+unfolding tabled
+take-tabled f t array n e = take-at (map f t) (drop (length t) array) n (length-map t f ∙ sym e)
 
 module _ (image : List ℕ) (a : Arguments) (e : firstMet (judgeCauses image a) ≡ 0) (arrays : Arrays) (room : Room image a arrays) where
   no-cause : firstMet (readCauses image a (length (arrays .kinds)) (length (arrays .offsets))) ≡ 0
@@ -75,45 +82,54 @@ module _ (image : List ℕ) (a : Arguments) (e : firstMet (judgeCauses image a) 
   no-cause =
       let b = parts image a e in
       after-accepted (headerCauses image a) _ (header-numbered image a) (b .0)
-      ∙ simp (le-ltb (length (arrays .kinds)) (countFor image a) (room .0), le-ltb (length (arrays .offsets)) (countFor image a) (room .1)) (b .1)
+      ∙ simp (le-ltb (length (arrays .kinds)) (countFor image a) (room .0), le-ltb (length (arrays .offsets)) (countFor image a) (room .1))
+      (b .1)
 
   answer-is : answerOf image a arrays ≡ acceptedAnswer image a
   unfolding answerOf readAnswer answerFor pick
   answer-is = rw no-cause
 
-  table-is : tableIn image a arrays ≡ map (entry (rowFor a)) (tableFor image a)
+  pub table-is : tableIn image a arrays ≡ map (entry (rowFor a)) (tableFor image a)
   unfolding tableIn readKinds readOffsets readInto pick acceptedAnswer
   table-is =
       let n : countOf (isListed (rowFor a) (a .level)) (blocksFor image a) ≡ length (tableFor image a) =
       sym (listed-length (rowFor a) (a .level) (countFor image a) (startFor image a) (restFrom image (startFor image a))) in
-      rw (answer-is, no-cause, take-written (kindAt (rowFor a)) (tableFor image a) (arrays .kinds) _ n, take-written startAt (tableFor image a) (arrays .offsets) _ n)
+      rw (
+        answer-is,
+        no-cause,
+        take-tabled (kindAt (rowFor a)) (tableFor image a) (arrays .kinds) _ n,
+        take-tabled startAt (tableFor image a) (arrays .offsets) _ n,
+      )
       (entries-map (rowFor a) (tableFor image a))
 
 -- ## The older table
 
-those-map : (row older : ℕ) (t : List Place) → map (entry row) (keep (stays row older) t) ≡ those (kept older) (map (entry row) t)
+those-map : (row older : ℕ) (t : List Place) → map (entry row) (keep (isKept row older) t) ≡ those (kept older) (map (entry row) t)
 unfolding keep those pick
 those-map row older [] = refl
-those-map row older (p ∷ t) = go (stays row older p) (those-map row older t)
+those-map row older (p ∷ t) = go (isKept row older p) (those-map row older t)
   where
-    go : (x : Bool) → map (entry row) (keep (stays row older) t) ≡ those (kept older) (map (entry row) t)
-        → map (entry row) (pick x (p ∷ keep (stays row older) t) (keep (stays row older) t)) ≡ pick x (entry row p ∷ those (kept older) (map (entry row) t)) (those (kept older) (map (entry row) t))
-    go true ih = ap (λ (es : List Entry). entry row p ∷ es) ih
+    go : (x : Bool) → map (entry row) (keep (isKept row older) t) ≡ those (kept older) (map (entry row) t)
+        → map (entry row) (pick x (p ∷ keep (isKept row older) t) (keep (isKept row older) t))
+        ≡ pick x (entry row p ∷ those (kept older) (map (entry row) t)) (those (kept older) (map (entry row) t))
+    go true ih = ap (λ (es : List TableEntry). entry row p ∷ es) ih
     go false ih = ih
 
-both-lengths : (older : ℕ) (es : List Entry) → length (those (kept older) es) + length (those (removed older) es) ≡ length es
+both-lengths : (older : ℕ) (es : List TableEntry) → length (those (kept older) es) + length (those (removed older) es) ≡ length es
 unfolding those pick
 both-lengths older [] = refl
 both-lengths older (e ∷ es) = go (isKnown older (e .kind)) (both-lengths older es)
   where
     go : (x : Bool) → length (those (kept older) es) + length (those (removed older) es) ≡ length es
-        → length (pick x (e ∷ those (kept older) es) (those (kept older) es)) + length (pick (not x) (e ∷ those (removed older) es) (those (removed older) es)) ≡ length (e ∷ es)
+        → length (pick x (e ∷ those (kept older) es) (those (kept older) es)) + length
+        (pick (not x) (e ∷ those (removed older) es) (those (removed older) es)) ≡ length (e ∷ es)
     go true ih = omega arith
     go false ih = omega arith
 
 -- ## The older reading
 
-module _ (image : List ℕ) (a : Arguments) (older : ℕ) (h : older < newestLevel) (e : firstMet (judgeCauses image (atLevel a newestLevel)) ≡ 0) where
+module _ (image : List ℕ) (a : Arguments) (older : ℕ) (h : older < newestLevel)
+    (e : firstMet (judgeCauses image (atLevel a newestLevel)) ≡ 0) where
   abbrev new : Arguments
   new = atLevel a newestLevel
 
@@ -123,10 +139,12 @@ module _ (image : List ℕ) (a : Arguments) (older : ℕ) (h : older < newestLev
   down : older ≤ newestLevel
   down = omega arith
 
-  pub default-number : acceptedAnswer image old .«default_number» ≡ pick (removedBlock image a older (acceptedAnswer image new .«default_number»)) 255 (acceptedAnswer image new .«default_number»)
+  pub default-number : acceptedAnswer image old .«default_number»
+      ≡ pick (removedBlock image a older (acceptedAnswer image new .«default_number»)) none (acceptedAnswer image new .«default_number»)
   unfolding acceptedAnswer leafCausesFor
   default-number =
-      older-default (rowFor a) older newestLevel (blocksFor image a) down (accepted-defaults (rowFor a) newestLevel (blocksFor image a) (parts image new e .1))
+      older-default (rowFor a) older newestLevel (blocksFor image a) down
+      (accepted-defaults (rowFor a) newestLevel (blocksFor image a) (parts image new e .1))
       ∙ default-kept (rowFor a) older newestLevel (blocksFor image a)
 
   filtered : map (entry (rowFor a)) (tableFor image old) ≡ those (kept older) (map (entry (rowFor a)) (tableFor image new))
@@ -135,7 +153,8 @@ module _ (image : List ℕ) (a : Arguments) (older : ℕ) (h : older < newestLev
 
   listed-table : (b : Arguments) → length (map (entry (rowFor b)) (tableFor image b)) ≡ acceptedAnswer image b .listed
   unfolding acceptedAnswer
-  listed-table b = length-map (tableFor image b) _ ∙ listed-length (rowFor b) (b .level) (countFor image b) (startFor image b) (restFrom image (startFor image b))
+  listed-table b = length-map (tableFor image b) _
+      ∙ listed-length (rowFor b) (b .level) (countFor image b) (startFor image b) (restFrom image (startFor image b))
 
   pub reads-agree : ReadsAgree image a older
   unfolding acceptedAnswer
@@ -151,7 +170,14 @@ module _ (image : List ℕ) (a : Arguments) (older : ℕ) (h : older < newestLev
         blocks = refl;
         «default» = default-number;
         resets = counts .0;
-        listed = omega (arith, listed-table old, ap length filtered, both-lengths older (map (entry (rowFor a)) (tableFor image new)), listed-table new);
+        listed =
+            omega (
+              arith,
+              listed-table old,
+              ap length filtered,
+              both-lengths older (map (entry (rowFor a)) (tableFor image new)),
+              listed-table new,
+            );
         skipped = sym (counts .2);
         table = filtered;
       })

@@ -6,14 +6,15 @@ use mathlib.Core.List.{List, [], _∷_, _++_, map, map-append, append-nil, rever
 use mathlib.Core.Path.{_≡_, refl, ap, sym, _∙_}
 use mathlib.Core.Bool.{Bool, true, false, _&&_, not}
 use lib.ListN.{length, getD, replicate, length-append, length-map, length-replicate}
-use Rattle.rom.specs.Bytes.{pick}
-use Rattle.block.specs.Block.{sizeOf}
+use Rattle.rom.specs.Bytes.{pick, one}
+use Rattle.block.specs.Block.{sizeOf, isListed}
 use Rattle.header.specs.Image.{restFrom}
 use Rattle.header.specs.Header.{rowFor, startFor, countFor}
-use Rattle.leaf.specs.Leaf.{Place, placed, keep, table, isListed, one, tableOf}
+use Rattle.leaf.specs.Leaf.{Place, placed, keep, table, tableOf}
 use Rattle.leaf.proofs.Cuts.{cut-length}
 use Rattle.reader.specs.Reading.{blocksFor, acceptedAnswer}
-use Rattle.autosense.specs.Walk.{none, rowLength, flags, blockIs, isInvalid, isUp, rowsOf, loadedWalk, lastBelow, isCandidate, firstUp}
+use Rattle.rom.specs.Geometry.{none}
+use Rattle.autosense.specs.Walk.{rowLength, flags, blockIs, isInvalid, isUp, rowsOf, loadedWalk, lastBelow, isCandidate, firstUp}
 use Rattle.autosense.proofs.Loads.{few-blocks}
 use Rattle.older.specs.Claims.{FlagForEach, RowsSay, numbersFrom, entryNumbers, firstOf, TableNumbers, FirstInOrder}
 use Rattle.older.proofs.Numbered.{flag-block}
@@ -29,24 +30,33 @@ rows-say image a k = (flag-block _ (blocksFor image a) k, flag-block _ (blocksFo
 flags-length : (p : List ℕ → Bool) (bs : List (List ℕ)) → length bs ≤ 128 → length (flags p bs) ≡ rowLength
 unfolding flags
 flags-length p bs h =
-    omega (arith, length-append (map (λ s. one (p s)) bs) (replicate (128 - length bs) 0), length-map bs (λ s. one (p s)), length-replicate {A = ℕ} (128 - length bs) 0)
+    omega (
+      arith,
+      length-append (map (λ s. one (p s)) bs) (replicate (128 - length bs) 0),
+      length-map bs (λ s. one (p s)),
+      length-replicate {A = ℕ} (128 - length bs) 0,
+    )
 
 pub flag-for-each : FlagForEach
 unfolding loadedWalk rowsOf acceptedAnswer
 flag-for-each image a e =
     let b = parts image a e in
     let few = few-blocks image a (b .0) (b .1) in
-    let short : length (blocksFor image a) ≤ 128 = omega (arith, few, cut-length (rowFor a) (countFor image a) (restFrom image (startFor image a))) in
+    let short : length (blocksFor image a) ≤ 128 =
+    omega (arith, few, cut-length (rowFor a) (countFor image a) (restFrom image (startFor image a))) in
     (few, flags-length _ (blocksFor image a) short, flags-length _ (blocksFor image a) short)
 
 -- ## Numbers
 
 -- the blocks that p takes, one by one from the first
-numbers-cons : (p : List ℕ → Bool) (k : ℕ) (s : List ℕ) (bs : List (List ℕ)) → reverse (numbersFrom p k (s ∷ bs)) ≡ reverse (numbersFrom p (k + 1) bs) ++ pick (p s) (k ∷ []) []
+numbers-cons : (p : List ℕ → Bool) (k : ℕ) (s : List ℕ) (bs : List (List ℕ))
+    → reverse (numbersFrom p k (s ∷ bs)) ≡ reverse (numbersFrom p (k + 1) bs) ++ pick (p s) (k ∷ []) []
 unfolding numbersFrom pick
 numbers-cons p k s bs = go (p s)
   where
-    go : (t : Bool) → reverse (pick t (k ∷ numbersFrom p (k + 1) bs) (numbersFrom p (k + 1) bs)) ≡ reverse (numbersFrom p (k + 1) bs) ++ pick t (k ∷ []) []
+    go : (t : Bool)
+        → reverse (pick t (k ∷ numbersFrom p (k + 1) bs) (numbersFrom p (k + 1) bs)) ≡ reverse (numbersFrom p (k + 1) bs)
+        ++ pick t (k ∷ []) []
     go true = reverse-cons k (numbersFrom p (k + 1) bs)
     go false = sym (append-nil (reverse (numbersFrom p (k + 1) bs)))
 
@@ -85,7 +95,8 @@ module _ (p : List ℕ → Bool) (q : ℕ → Bool) (whole : List (List ℕ)) wh
       ap (firstOr q (lastBelow taken k)) (numbers-cons p k s bs)
       ∙ or-append q (lastBelow taken k) (reverse (numbersFrom p (k + 1) bs)) (pick (p s) (k ∷ []) [])
       ∙ ap (λ (d : ℕ). firstOr q d (reverse (numbersFrom p (k + 1) bs)))
-      (one-number k (lastBelow taken k) (p s) ∙ ap (λ (t : Bool). pick (t && q k) k (lastBelow taken k)) (sym here) ∙ ap (lastBelow taken) (sym next))
+      (one-number k (lastBelow taken k) (p s) ∙ ap (λ (t : Bool). pick (t && q k) k (lastBelow taken k)) (sym here)
+      ∙ ap (lastBelow taken) (sym next))
       ∙ last-first (k + 1) bs (λ j. ap (blockIs p whole) (later j) ∙ h (suc j))
       ∙ ap (lastBelow taken) end
     where
@@ -103,9 +114,11 @@ first-in-order image a settled report =
     let p = isListed (rowFor a) (a .level) in
     let i = isInvalid (rowFor a) (a .level) in
     let q : ℕ → Bool = λ k. not (settled && blockIs i bs k) && isUp report k in
-    let all : countFor image a ≡ 0 + length bs = omega (arith, cut-length (rowFor a) (countFor image a) (restFrom image (startFor image a))) in
+    let all : countFor image a ≡ 0 + length bs =
+    omega (arith, cut-length (rowFor a) (countFor image a) (restFrom image (startFor image a))) in
     last-same _ (taken p q bs)
-    (λ k. rw (flag-block p bs k, flag-block i bs k) (and-assoc (blockIs p bs k) (not (settled && blockIs i bs k)) (isUp report k))) (countFor image a)
+    (λ k. rw (flag-block p bs k, flag-block i bs k) (and-assoc (blockIs p bs k) (not (settled && blockIs i bs k)) (isUp report k)))
+    (countFor image a)
     ∙ ap (lastBelow (taken p q bs)) all
     ∙ sym (last-first p q bs 0 bs (λ j. ap (blockIs p bs) (zero-add j)))
     ∙ or-none q (reverse (numbersFrom p 0 bs))
@@ -115,9 +128,11 @@ first-in-order image a settled report =
 map-reverse : (f : ℕ → Place) (ks : List ℕ) → map f (reverse ks) ≡ reverse (map f ks)
 map-reverse f [] = refl
 map-reverse f (k ∷ ks) =
-    ap (map f) (reverse-cons k ks) ∙ map-append f (reverse ks) (k ∷ []) ∙ ap (λ (t : List Place). t ++ f k ∷ []) (map-reverse f ks) ∙ sym (reverse-cons (f k) (map f ks))
+    ap (map f) (reverse-cons k ks) ∙ map-append f (reverse ks) (k ∷ []) ∙ ap (λ (t : List Place). t ++ f k ∷ []) (map-reverse f ks)
+    ∙ sym (reverse-cons (f k) (map f ks))
 
-keep-numbers : (p : List ℕ → Bool) (row k at : ℕ) (bs : List (List ℕ)) (whole : List Place) (d : Place) → ((j : ℕ) → getD whole (k + j) d ≡ getD (placed row at bs) j d)
+keep-numbers : (p : List ℕ → Bool) (row k at : ℕ) (bs : List (List ℕ)) (whole : List Place) (d : Place)
+    → ((j : ℕ) → getD whole (k + j) d ≡ getD (placed row at bs) j d)
     → keep (λ b. p (b .rest)) (placed row at bs) ≡ map (λ n. getD whole n d) (numbersFrom p k bs)
 unfolding keep placed numbersFrom pick
 keep-numbers p row k at [] whole d h = refl
@@ -128,8 +143,10 @@ keep-numbers p row k at (s ∷ bs) whole d h =
     later : (j : ℕ) → k + 1 + j ≡ k + suc j
     later j = omega arith
 
-    go : (t : Bool) → getD whole k d ≡ record { start = at; rest = s } → keep (λ b. p (b .rest)) (placed row (at + sizeOf row s) bs) ≡ map (λ n. getD whole n d) (numbersFrom p (k + 1) bs)
-        → pick t (record { start = at; rest = s } ∷ keep (λ b. p (b .rest)) (placed row (at + sizeOf row s) bs)) (keep (λ b. p (b .rest)) (placed row (at + sizeOf row s) bs))
+    go : (t : Bool) → getD whole k d ≡ record { start = at; rest = s }
+        → keep (λ b. p (b .rest)) (placed row (at + sizeOf row s) bs) ≡ map (λ n. getD whole n d) (numbersFrom p (k + 1) bs)
+        → pick t (record { start = at; rest = s } ∷ keep (λ b. p (b .rest)) (placed row (at + sizeOf row s) bs))
+        (keep (λ b. p (b .rest)) (placed row (at + sizeOf row s) bs))
         ≡ map (λ n. getD whole n d) (pick t (k ∷ numbersFrom p (k + 1) bs) (numbersFrom p (k + 1) bs))
     go true e ih = rw (e, ih)
     go false e ih = ih

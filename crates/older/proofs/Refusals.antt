@@ -18,8 +18,11 @@ use Rattle.older.specs.Claims.{ExactLoad, ExactLook, RefusedLoad, Refuse
 
 load-numbered : (w : Walk) (image : List ℕ) (a : Arguments) → Numbered (loadCauses w image a)
 unfolding loadCauses judgeCauses leafCausesFor
-load-numbered w image a =
-    (lit< tt, numbered-append (headerCauses image a) (leafCausesFor image a) (header-numbered image a) (leaf-numbered (rowFor a) (a .level) (blocksFor image a)))
+load-numbered w image a = (
+  lit< tt,
+  numbered-append (headerCauses image a) (leafCausesFor image a) (header-numbered image a)
+      (leaf-numbered (rowFor a) (a .level) (blocksFor image a)),
+)
 
 look-numbered : (w : Walk) (report : List ℕ) → Numbered (lookCauses w report)
 unfolding lookCauses

@@ -1,17 +1,23 @@
--- Two walks that share their state and differ in rows, where no removed block matters: by induction over the calls.
+-- Two walks that stand alike, where no removed block matters: one look by what it goes by, and lists of calls by induction.
 -- Assumes nothing.
-use Prim.Native.Nat.{ℕ, zero, suc, _+_}
+use Prim.Native.Nat.{ℕ, zero, suc}
 use mathlib.Core.List.{List, [], _∷_}
-use mathlib.Core.Path.{_≡_, refl, sym, _∙_}
-use mathlib.Core.Bool.{Bool, true, false, _&&_, not, true≢false}
+use mathlib.Core.Path.{_≡_, refl, ap, sym, _∙_}
+use mathlib.Core.Bool.{Bool, true, false, _&&_, true≢false}
 use lib.Dec.{eqb}
 use borrow.Author.Tests.{eqb-true}
+use Rattle.rom.specs.Geometry.{none}
 use Rattle.rom.specs.Bytes.{pick}
 use Rattle.rom.specs.Refusal.{firstMet}
+use Rattle.rom.proofs.Truth.{and-false}
 use Rattle.header.specs.declared.Arguments.{Arguments}
 use Rattle.autosense.specs.declared.Walk.{Walk}
-use Rattle.autosense.specs.Walk.{flagAt, isUp, freshWalk, lastBelow, stays, isCandidate, firstUp, upIn, choice, chosen, switched, stepped, lookCauses, loadCauses, walkedTo, loadFor, lookFor, clearFor}
-use Rattle.older.specs.Calls.{Call, load, look, clear, call, seen, after, run, DownAt, Down}
+use Rattle.autosense.specs.Walk.{isUp, freshWalk, lastBelow, stays, isCandidate, firstUp, upIn, choice, chosen, stepped}
+use Rattle.autosense.specs.Walk.{lookCauses, walkedTo, loadFor, lookFor, clearFor}
+use Rattle.autosense.proofs.Loads.{load-loaded}
+use Rattle.older.specs.Calls.{Call, load, look, clear, call, Seen, fresh, loaded, seen, after, run, DownAt, Down}
+use Rattle.older.specs.Alike.{Alike, DefaultKept, SameState, StandAlike}
+use Rattle.older.specs.Claims.{SeenTells, OneLook}
 
 -- ## Searches
 
@@ -21,7 +27,8 @@ last-same p q h zero = refl
 last-same p q h (suc n) = rw (h n, last-same p q h n)
 
 -- what a search finds is not removed
-last-kept : (removed p : ℕ → Bool) → removed 255 ≡ false → ((k : ℕ) → removed k ≡ true → p k ≡ false) → (n : ℕ) → removed (lastBelow p n) ≡ false
+last-kept : (removed p : ℕ → Bool) → removed none ≡ false → ((k : ℕ) → removed k ≡ true → p k ≡ false) → (n : ℕ)
+    → removed (lastBelow p n) ≡ false
 unfolding lastBelow pick
 last-kept removed p z h zero = z
 last-kept removed p z h (suc n) = go (p n) (removed n) refl refl (last-kept removed p z h n)
@@ -31,153 +38,171 @@ last-kept removed p z h (suc n) = go (p n) (removed n) refl refl (last-kept remo
     go true false e r ih = r
     go false y e r ih = ih
 
--- ## Two walks
+-- ## One look
+
+module _ (removed : ℕ → Bool) (new old : Walk) (report : List ℕ) (nowhere : removed none ≡ false)
+    (together : StandAlike removed new old) where
+  abbrev leaf : Alike removed new old
+  leaf = together .alike
+
+  abbrev state : SameState new old
+  state = together .state
+
+  causes-same : lookCauses old report ≡ lookCauses new report
+  unfolding lookCauses
+  causes-same = rw (state .loaded, state .looks, leaf .connection, leaf .blocks)
+
+  stays-same : stays old report ≡ stays new report
+  unfolding stays
+  stays-same = rw (state .settled, state .selected, leaf .connection, leaf .invalid (new .selected) (together .kept))
+
+  module _ (quiet : (k : ℕ) → removed k ≡ true → isUp report k ≡ false) (default : DefaultKept removed new old) where
+    candidate : Walk → ℕ → Bool
+    candidate w k = isCandidate (w .rows .listed) (w .rows .«active_invalid») (new .settled) k
+
+    up-same : upIn old report ≡ upIn new report
+    unfolding upIn firstUp isCandidate candidate
+    up-same = rw (leaf .blocks, state .settled) (last-same _ _ (λ k. go k (removed k) refl) (new .blocks))
+      where
+        go : (k : ℕ) (y : Bool) → removed k ≡ y → (candidate old k && isUp report k) ≡ (candidate new k && isUp report k)
+        go k true r = rw (quiet k r) (and-false (candidate old k) ∙ sym (and-false (candidate new k)))
+        go k false r = rw (leaf .listed k r, leaf .invalid k r)
+
+    up-kept : removed (upIn new report) ≡ false
+    unfolding upIn firstUp candidate
+    up-kept = last-kept removed _ nowhere (λ k r. rw (quiet k r) (and-false (candidate new k))) (new .blocks)
+
+    chosen-same : chosen old report ≡ chosen new report
+    unfolding chosen
+    chosen-same = rw (stays-same, up-same, default .same, state .settled, state .selected)
+
+    chosen-kept : removed (chosen new report .selected) ≡ false
+    unfolding chosen pick
+    chosen-kept = go (stays new report) (eqb (upIn new report) none)
+      where
+        go : (t u : Bool)
+            → removed
+            (pick t (choice (new .settled) (new .selected))
+            (pick u (choice (new .settled) (new .«default_number»)) (choice true (upIn new report))) .selected) ≡ false
+        go true u = together .kept
+        go false true = default .kept
+        go false false = up-kept
+
+    stepped-alike : StandAlike removed (stepped new report) (stepped old report)
+    unfolding stepped
+    stepped-alike = record {
+      alike = record { connection = leaf .connection; blocks = leaf .blocks; listed = leaf .listed; invalid = leaf .invalid };
+      state = record {
+        loaded = state .loaded;
+        settled = rw chosen-same;
+        selected = rw chosen-same;
+        looks = rw (state .looks);
+        switches = rw (chosen-same, state .switches, state .selected);
+      };
+      kept = chosen-kept;
+    }
+
+pub one-look : OneLook
+unfolding lookFor walkedTo pick
+one-look removed new old report nowhere together default h = go (eqb number 0) refl
+  where
+    number : ℕ
+    number = firstMet (lookCauses new report)
+
+    go : (b : Bool) → eqb number 0 ≡ b
+        → (lookFor old report .number ≡ lookFor new report .number)
+        × StandAlike removed (lookFor new report .walk) (lookFor old report .walk)
+    go true e =
+        rw (causes-same removed new old report nowhere together, e)
+        (refl, stepped-alike removed new old report nowhere together (h (eqb-true number 0 e)) default)
+    go false e = rw (causes-same removed new old report nowhere together, e) (refl, together)
+
+-- ## What is seen
+
+settledIn : Seen → Bool
+settledIn fresh = false
+settledIn (loaded s x l n) = s
+
+selectedIn : Seen → ℕ
+selectedIn fresh = 0
+selectedIn (loaded s x l n) = x
+
+looksIn : Seen → ℕ
+looksIn fresh = 0
+looksIn (loaded s x l n) = l
+
+switchesIn : Seen → ℕ
+switchesIn fresh = 0
+switchesIn (loaded s x l n) = n
+
+pub seen-tells : SeenTells
+unfolding seen pick settledIn selectedIn looksIn switchesIn
+seen-tells v w a b e =
+    let f : loaded (v .settled) (v .selected) (v .looks) (v .switches) ≡ loaded (w .settled) (w .selected) (w .looks) (w .switches) =
+    rw (a, b) at e in
+    (ap settledIn f, ap selectedIn f, ap looksIn f, ap switchesIn f)
+
+-- ## Lists of calls
+
+-- both fresh, or loaded and standing alike
+pub data Pair (removed : ℕ → Bool) : Walk → Walk → Type 0 where
+  idle : Pair removed freshWalk freshWalk
+  on : {new old : Walk} → new .loaded ≡ true → DefaultKept removed new old → StandAlike removed new old → Pair removed new old
+
+seen-same : {removed : ℕ → Bool} {new old : Walk} → Pair removed new old → seen old ≡ seen new
+unfolding seen
+seen-same idle = refl
+seen-same (on l d s) = rw (s .state .loaded, s .state .settled, s .state .selected, s .state .looks, s .state .switches)
 
 fresh-look : (report : List ℕ) → lookFor freshWalk report ≡ record { number = 20; walk = freshWalk }
 unfolding lookFor lookCauses firstMet walkedTo pick freshWalk
 fresh-look report = refl
 
--- a loaded walk with this state
-abbrev pub walkAt : Walk → Bool → ℕ → ℕ → ℕ → Walk
-walkAt w s x l n = record {
-  loaded = true;
-  connection = w .connection;
-  blocks = w .blocks;
-  listed = w .listed;
-  «active_invalid» = w .«active_invalid»;
-  «default_number» = w .«default_number»;
-  settled = s;
-  selected = x;
-  looks = l;
-  switches = n;
-}
+-- a look changes neither whether a walk is loaded nor its default
+look-keeps : (w : Walk) (report : List ℕ)
+    → (lookFor w report .walk .loaded ≡ w .loaded) × (lookFor w report .walk .«default_number» ≡ w .«default_number»)
+unfolding lookFor walkedTo stepped pick
+look-keeps w report = go (eqb (firstMet (lookCauses w report)) 0)
+  where
+    go : (t : Bool)
+        → (pick t (stepped w report) w .loaded ≡ w .loaded) × (pick t (stepped w report) w .«default_number» ≡ w .«default_number»)
+    go true = (refl, refl)
+    go false = (refl, refl)
 
--- loaded walks that are alike but for the flags of removed blocks; the default and none are not removed
-pub record Alike (removed : ℕ → Bool) (new old : Walk) : Type 0 where
-  pub connection : old .connection ≡ new .connection
-  pub blocks : old .blocks ≡ new .blocks
-  pub «default» : old .«default_number» ≡ new .«default_number»
-  pub listed : (k : ℕ) → removed k ≡ false → flagAt (old .listed) k ≡ flagAt (new .listed) k
-  pub invalid : (k : ℕ) → removed k ≡ false → flagAt (old .«active_invalid») k ≡ flagAt (new .«active_invalid») k
-  pub default-kept : removed (new .«default_number») ≡ false
-  pub none-kept : removed 255 ≡ false
+module _ (removed : ℕ → Bool) (nowhere : removed none ≡ false) (image : List ℕ) (newest older : Arguments) (new old : Walk)
+    (new-loads : loadFor freshWalk image newest ≡ record { number = 0; walk = new })
+    (old-loads : loadFor freshWalk image older ≡ record { number = 0; walk = old })
+    (loads : Pair removed new old) where
+  -- one call: the same number, and the walks after it
+  abbrev Step : Walk → Walk → Call → Type 0
+  Step v w c = (call image older w c .number ≡ call image newest v c .number)
+      × Pair removed (call image newest v c .walk) (call image older w c .walk)
 
--- what both share: fresh, or settled, selected, looks and switches
-data State : Type 0 where
-  idle : State
-  on : Bool → ℕ → ℕ → ℕ → State
+  load-step : {v w : Walk} → Pair removed v w → Step v w load
+  unfolding call
+  load-step idle = rw (new-loads, old-loads) (refl, loads)
+  load-step {v} {w} (on l d s) = rw (← load-loaded v image newest l, ← load-loaded w image older (s .state .loaded ∙ l)) (refl, on l d s)
 
-abbrev walkIn : Walk → State → Walk
-walkIn w idle = freshWalk
-walkIn w (on s x l n) = walkAt w s x l n
+  look-step : {v w : Walk} (report : List ℕ) → Pair removed v w → DownAt removed v (look report) → Step v w (look report)
+  unfolding call
+  look-step report idle h = rw (fresh-look report) (refl, idle)
+  look-step {v} {w} report (on l d s) h =
+      let r = one-look removed v w report nowhere s d h in
+      let n = look-keeps v report in
+      let o = look-keeps w report in
+      (r .0, on (n .0 ∙ l) (record { same = o .1 ∙ d .same ∙ sym (n .1); kept = ap removed (n .1) ∙ d .kept }) (r .1))
 
-abbrev Good : (ℕ → Bool) → State → Type 0
-Good removed idle = Unit {0}
-Good removed (on s x l n) = removed x ≡ false
+  step : {v w : Walk} (c : Call) → Pair removed v w → DownAt removed v c → Step v w c
+  unfolding call clearFor
+  step load p h = load-step p
+  step (look report) p h = look-step report p h
+  step clear p h = (refl, idle)
 
-never : (x : Bool) → (x && false) ≡ false
-never true = refl
-never false = refl
+  run-same : {v w : Walk} → Pair removed v w → (cs : List Call) → Down removed image newest v cs
+      → run image newest v cs ≡ run image older w cs
+  unfolding run after
+  run-same p [] h = refl
+  run-same p (c ∷ cs) h = let t = step c p (h .0) in rw (t .0, seen-same (t .1), run-same (t .1) cs (h .1))
 
-module _ (removed : ℕ → Bool) (new old : Walk) (a : Alike removed new old) where
-  seen-same : (st : State) → seen (walkIn old st) ≡ seen (walkIn new st)
-  unfolding seen pick
-  seen-same idle = refl
-  seen-same (on s x l n) = refl
-
-  module _ (s : Bool) (x l n : ℕ) (report : List ℕ) where
-    abbrev N : Walk
-    N = walkAt new s x l n
-
-    abbrev O : Walk
-    O = walkAt old s x l n
-
-    causes-same : lookCauses O report ≡ lookCauses N report
-    unfolding lookCauses
-    causes-same = rw (a .connection, a .blocks)
-
-    stays-same : removed x ≡ false → stays O report ≡ stays N report
-    unfolding stays
-    stays-same g = rw (a .connection, a .invalid x g)
-
-    module _ (quiet : (k : ℕ) → removed k ≡ true → isUp report k ≡ false) where
-      up-same : upIn O report ≡ upIn N report
-      unfolding upIn firstUp isCandidate
-      up-same = rw (a .blocks) (last-same _ _ (λ k. go k (removed k) refl) (new .blocks))
-        where
-          go : (k : ℕ) (y : Bool) → removed k ≡ y
-              → (isCandidate (old .listed) (old .«active_invalid») s k && isUp report k) ≡ (isCandidate (new .listed) (new .«active_invalid») s k && isUp report k)
-          go k true r = rw (quiet k r) (never (isCandidate (old .listed) (old .«active_invalid») s k) ∙ sym (never (isCandidate (new .listed) (new .«active_invalid») s k)))
-          go k false r = rw (a .listed k r, a .invalid k r)
-
-      up-kept : removed (upIn N report) ≡ false
-      unfolding upIn firstUp
-      up-kept = last-kept removed _ (a .none-kept) (λ k r. rw (quiet k r) (never (isCandidate (new .listed) (new .«active_invalid») s k))) (new .blocks)
-
-      chosen-same : removed x ≡ false → chosen O report ≡ chosen N report
-      unfolding chosen
-      chosen-same g = rw (stays-same g, up-same, a .«default»)
-
-      chosen-kept : removed x ≡ false → removed (chosen N report .selected) ≡ false
-      unfolding chosen pick
-      chosen-kept g = go (stays N report) (eqb (upIn N report) 255)
-        where
-          go : (t u : Bool) → removed (pick t (choice s x) (pick u (choice s (new .«default_number»)) (choice true (upIn N report))) .selected) ≡ false
-          go true u = g
-          go false true = a .default-kept
-          go false false = up-kept
-
-  -- ## One call, of an image that both load
-
-  module _ (image : List ℕ) (newest older : Arguments)
-      (new-loads : loadFor freshWalk image newest ≡ record { number = 0; walk = walkAt new false 255 0 0 })
-      (old-loads : loadFor freshWalk image older ≡ record { number = 0; walk = walkAt old false 255 0 0 }) where
-    record Step (st : State) (c : Call) : Type 0 where
-      number : ℕ
-      next : State
-      newer : call image newest (walkIn new st) c ≡ record { number = number; walk = walkIn new next }
-      elder : call image older (walkIn old st) c ≡ record { number = number; walk = walkIn old next }
-      good : Good removed next
-
-    load-step : (st : State) → Good removed st → Step st load
-    unfolding call loadFor loadCauses firstMet walkedTo pick
-    load-step idle g = record { number = 0; next = on false 255 0 0; newer = new-loads; elder = old-loads; good = a .none-kept }
-    load-step (on s x l n) g = record { number = 21; next = on s x l n; newer = refl; elder = refl; good = g }
-
-    look-step : (st : State) (report : List ℕ) → Good removed st → DownAt removed (walkIn new st) (look report) → Step st (look report)
-    unfolding call lookFor stepped walkedTo pick
-    look-step idle report g h = record { number = 20; next = idle; newer = fresh-look report; elder = fresh-look report; good = tt }
-    look-step (on s x l n) report g h = go (eqb number 0) refl
-      where
-        number : ℕ
-        number = firstMet (lookCauses (walkAt new s x l n) report)
-
-        go : (b : Bool) → eqb number 0 ≡ b → Step (on s x l n) (look report)
-        go true e =
-            let q = h (eqb-true number 0 e) in
-            let now = chosen (walkAt new s x l n) report in
-            record {
-              number = number;
-              next = on (now .settled) (now .selected) (l + 1) (switched n x (now .selected));
-              newer = rw e;
-              elder = rw (causes-same s x l n report, e, chosen-same s x l n report q g);
-              good = chosen-kept s x l n report q g;
-            }
-        go false e = record { number = number; next = on s x l n; newer = rw e; elder = rw (causes-same s x l n report, e); good = g }
-
-    step : (st : State) (c : Call) → Good removed st → DownAt removed (walkIn new st) c → Step st c
-    unfolding call clearFor
-    step st load g h = load-step st g
-    step st (look report) g h = look-step st report g h
-    step st clear g h = record { number = 0; next = idle; newer = refl; elder = refl; good = tt }
-
-    run-same : (st : State) (cs : List Call) → Good removed st → Down removed image newest (walkIn new st) cs → run image newest (walkIn new st) cs ≡ run image older (walkIn old st) cs
-    unfolding run after
-    run-same st [] g h = refl
-    run-same st (c ∷ cs) g h =
-        let t : Step st c = step st c g (h .0) in
-        let h′ : Down removed image newest (walkIn new (t .next)) cs = rw (t .newer) at (h .1) in
-        rw (t .newer, t .elder, seen-same (t .next), run-same (t .next) cs (t .good) h′)
-
-    pub runs-agree : (cs : List Call) → Down removed image newest freshWalk cs → run image newest freshWalk cs ≡ run image older freshWalk cs
-    runs-agree cs h = run-same idle cs tt h
+  pub runs-agree : (cs : List Call) → Down removed image newest freshWalk cs → run image newest freshWalk cs ≡ run image older freshWalk cs
+  runs-agree cs h = run-same idle cs h

@@ -11,11 +11,15 @@ use Rattle.rom.specs.Bytes.{pick}
 use Rattle.rom.specs.Refusal.{firstMet}
 use Rattle.header.specs.declared.Arguments.{Arguments}
 use Rattle.header.specs.Header.{rowFor}
-use Rattle.leaf.specs.Leaf.{isListed, isDefault, firstFrom}
+use Rattle.block.specs.Block.{isListed, isDefault}
+use Rattle.leaf.specs.Leaf.{firstFrom}
 use Rattle.reader.specs.Reading.{blocksFor, acceptedAnswer}
 use Rattle.autosense.specs.declared.Walk.{Walk}
-use Rattle.autosense.specs.Walk.{none, flags, flagAt, isUp, rowsOf, freshWalk, loadedWalk, lastBelow, stays, isCandidate, firstUp, upIn, choice, chosen, stepped, lookCauses, loadCauses, walkedTo, loadFor, lookFor, clearFor}
-use Rattle.older.specs.Claims.{Reached, fresh, load, look, clear, StandsOnEntry}
+use Rattle.rom.specs.Geometry.{none}
+use Rattle.autosense.specs.Walk.{flags, flagAt, isUp, rowsOf, freshWalk, loadedWalk, lastBelow, stays, isCandidate, firstUp, upIn, choice}
+use Rattle.autosense.specs.Walk.{chosen, stepped, lookCauses, loadCauses, walkedTo, loadFor, lookFor, clearFor}
+use Rattle.older.specs.FromFresh.{FromFresh, fresh, load, look, clear}
+use Rattle.older.specs.Claims.{StandsOnEntry}
 use Rattle.older.proofs.Numbered.{Found, found, absent, at, block-at, default-listed, flag-block}
 
 -- no block, or one that is listed
@@ -23,8 +27,8 @@ abbrev OnEntry : List ℕ → ℕ → Type 0
 OnEntry listed x = (x ≡ none) ⊎ (flagAt listed x ≡ true)
 
 record Stands (w : Walk) : Type 0 where
-  selected : OnEntry (w .listed) (w .selected)
-  «default» : OnEntry (w .listed) (w .«default_number»)
+  selected : OnEntry (w .rows .listed) (w .selected)
+  «default» : OnEntry (w .rows .listed) (w .«default_number»)
 
 -- ## A candidate is listed
 
@@ -41,11 +45,12 @@ last-on listed p h (suc n) = go (p n) refl (last-on listed p h n)
     go true e ih = inr (h n e)
     go false e ih = ih
 
-up-on : (w : Walk) (report : List ℕ) → OnEntry (w .listed) (upIn w report)
+up-on : (w : Walk) (report : List ℕ) → OnEntry (w .rows .listed) (upIn w report)
 unfolding upIn firstUp isCandidate
 up-on w report =
-    last-on (w .listed) _
-    (λ k e. both-true (flagAt (w .listed) k) _ (both-true (isCandidate (w .listed) (w .«active_invalid») (w .settled) k) (isUp report k) e)) (w .blocks)
+    last-on (w .rows .listed) _
+    (λ k e. both-true (flagAt (w .rows .listed) k) _
+    (both-true (isCandidate (w .rows .listed) (w .rows .«active_invalid») (w .settled) k) (isUp report k) e)) (w .blocks)
 
 -- ## A default is listed
 
@@ -74,11 +79,14 @@ module _ (w : Walk) (s : Stands w) where
       go true = record { selected = inl refl; «default» = default-on (rowFor a) (a .level) (blocksFor image a) }
       go false = s
 
-  chosen-on : (report : List ℕ) → OnEntry (w .listed) (chosen w report .selected)
+  chosen-on : (report : List ℕ) → OnEntry (w .rows .listed) (chosen w report .selected)
   unfolding chosen pick
   chosen-on report = go (stays w report) (eqb (upIn w report) none)
     where
-      go : (t u : Bool) → OnEntry (w .listed) (pick t (choice (w .settled) (w .selected)) (pick u (choice (w .settled) (w .«default_number»)) (choice true (upIn w report))) .selected)
+      go : (t u : Bool)
+          → OnEntry (w .rows .listed)
+          (pick t (choice (w .settled) (w .selected))
+          (pick u (choice (w .settled) (w .«default_number»)) (choice true (upIn w report))) .selected)
       go true u = s .selected
       go false true = s .«default»
       go false false = up-on w report
@@ -91,7 +99,7 @@ module _ (w : Walk) (s : Stands w) where
       go true = record { selected = chosen-on report; «default» = s .«default» }
       go false = s
 
-stands : (w : Walk) → Reached w → Stands w
+stands : (w : Walk) → FromFresh w → Stands w
 unfolding clearFor
 stands u fresh = stands-fresh
 stands u (load {w} image a r) = stands-load w (stands w r) image a

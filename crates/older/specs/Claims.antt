@@ -1,19 +1,107 @@
--- What is claimed of the walk's definitions.
-use Prim.Native.Nat.{ℕ, _+_, _≤_}
+-- What is claimed of readings and walks. DEMAND 3 is one statement, `OlderReader`.
+use Prim.Native.Nat.{ℕ, _+_, _≤_, _<_}
 use mathlib.Core.Path.{_≡_}
 use mathlib.Core.List.{List, [], _∷_, map, reverse}
-use mathlib.Core.Bool.{Bool, true, _&&_, not}
+use mathlib.Core.Bool.{Bool, true, false, _&&_, not}
 use mathlib.Core.Logic.{_⊎_}
-use lib.Dec.{eqb}
+use lib.Dec.{eqb, ltb}
 use lib.ListN.{length, getD}
-use Rattle.rom.specs.Bytes.{pick}
+use Rattle.rom.specs.Geometry.{none}
+use Rattle.rom.specs.Bytes.{pick, one, isIn}
 use Rattle.rom.specs.Refusal.{firstMet, Exact}
+use Rattle.block.specs.Format.{newestLevel}
+use Rattle.block.specs.Block.{kindOf, isKnown, isListed, isReset, isSkipped, isDefault}
 use Rattle.header.specs.declared.Arguments.{Arguments}
-use Rattle.header.specs.Header.{rowFor, startFor}
-use Rattle.leaf.specs.Leaf.{Place, placed, isListed, one}
-use Rattle.reader.specs.Reading.{blocksFor, tableFor, judgeCauses}
+use Rattle.header.specs.Header.{rowFor, startFor, atLevel}
+use Rattle.leaf.specs.Leaf.{Place, placed, keep, table, countOf, firstFrom, leafCauses}
+use Rattle.reader.specs.declared.Answer.{Answer}
+use Rattle.reader.specs.Reading.{blocksFor, tableFor, judgeCauses, judgeAnswer}
 use Rattle.autosense.specs.declared.Walk.{Walk}
-use Rattle.autosense.specs.Walk.{none, rowLength, blockIs, flagAt, isInvalid, isUp, freshWalk, loadedWalk, firstUp, lookCauses, loadCauses, loadFor, lookFor, clearFor}
+use Rattle.autosense.specs.Walk.{rowLength, blockIs, flagAt, isInvalid, isUp, freshWalk, loadedWalk, firstUp, lookCauses, loadCauses}
+use Rattle.autosense.specs.Walk.{loadFor, lookFor}
+use Rattle.older.specs.Levels.{isKept, onlyNewest, isRemoved, removedBlock}
+use Rattle.older.specs.Calls.{Call, look, DownAt, Down, seen, run}
+use Rattle.older.specs.Written.{Arrays, Room, answerOf, TableEntry, tableIn, those, removed, kept, numbersOf}
+use Rattle.older.specs.FromFresh.{FromFresh}
+use Rattle.older.specs.Alike.{DefaultKept, StandAlike}
+
+-- ## Demand 3: the older reader and the older walk against the newest (document 01, 'The walk')
+
+-- the older answer and table against the newest
+pub record OlderReads (image : List ℕ) (a : Arguments) (older : ℕ) (new old : Answer) (newTable oldTable : List TableEntry) : Type 0 where
+  pub accepts : old .number ≡ 0
+  pub connection : old .connection ≡ new .connection
+  pub control : old .control ≡ new .control
+  pub address : old .address ≡ new .address
+  pub blocks : old .blocks ≡ new .blocks
+  pub «default» : old .«default_number» ≡ pick (removedBlock image a older (new .«default_number»)) none (new .«default_number»)
+  pub resets : old .resets ≡ pick (ltb 5 older) (new .resets) 0
+  pub listed : old .listed + length (those (removed older) newTable) ≡ new .listed
+  pub skipped : old .skipped ≡ new .skipped + countOf (onlyNewest (rowFor a) older newestLevel) (blocksFor image a)
+  pub table : oldTable ≡ those (kept older) newTable
+
+-- as `read` answers and writes them, each into arrays no shorter than the block count
+abbrev pub ReadsAgree : List ℕ → Arguments → ℕ → Type 0
+ReadsAgree image a older =
+    (n o : Arrays) → Room image a n → Room image a o →
+    OlderReads image a older
+    (answerOf image (atLevel a newestLevel) n) (answerOf image (atLevel a older) o)
+    (tableIn image (atLevel a newestLevel) n) (tableIn image (atLevel a older) o)
+
+-- for every list of calls: if the default is no removed entry, and at no look that the newest walk accepts one is up, then the
+-- same is seen after each call
+abbrev pub WalksAgree : List ℕ → Arguments → ℕ → Type 0
+WalksAgree image a older =
+    (calls : List Call) →
+    removedBlock image a older (judgeAnswer image (atLevel a newestLevel) .«default_number») ≡ false →
+    Down (removedBlock image a older) image (atLevel a newestLevel) freshWalk calls →
+    run image (atLevel a newestLevel) freshWalk calls ≡ run image (atLevel a older) freshWalk calls
+
+-- for every image and arguments that the newest reader accepts, 12 apart, and every older level
+abbrev pub OlderReader : Type 0
+OlderReader =
+    (image : List ℕ) (a : Arguments) (older : ℕ) → older < newestLevel →
+    firstMet (judgeCauses image (atLevel a newestLevel)) ≡ 0 →
+    ReadsAgree image a older × WalksAgree image a older
+
+-- what is seen of loaded walks tells all that is compared of them
+abbrev pub SeenTells : Type 0
+SeenTells = (v w : Walk) → v .loaded ≡ true → w .loaded ≡ true → seen v ≡ seen w →
+    (v .settled ≡ w .settled) × (v .selected ≡ w .selected) × (v .looks ≡ w .looks) × (v .switches ≡ w .switches)
+
+-- ## What it rests on: a leaf at an older level. `bs` are its blocks as they stand, `row` is the chip's
+
+-- what the newest reader accepts an older one accepts
+abbrev pub OlderAccepts : Type 0
+OlderAccepts = (row older newest : ℕ) (bs : List (List ℕ)) → older ≤ newest → firstMet (leafCauses row newest bs) ≡ 0
+    → firstMet (leafCauses row older bs) ≡ 0
+
+-- the older table is the newest one without the removed entries, in the same order
+abbrev pub OlderTable : Type 0
+OlderTable = (row older newest : ℕ) (bs : List Place) → older ≤ newest → table row older bs ≡ keep (isKept row older) (table row newest bs)
+
+-- the older counts: the same resets if it knows type 5, else 0; listed lower by the removed entries; skipped higher by the
+-- blocks of types that only the newest knows
+abbrev pub OlderCounts : Type 0
+OlderCounts = (row older newest : ℕ) (bs : List (List ℕ)) → older ≤ newest →
+    (countOf (isReset row older) bs ≡ pick (ltb 5 older) (countOf (isReset row newest) bs) 0)
+    × (countOf (isListed row older) bs + countOf (isRemoved row older newest) bs ≡ countOf (isListed row newest) bs)
+    × (countOf (isSkipped row newest) bs + countOf (onlyNewest row older newest) bs ≡ countOf (isSkipped row older) bs)
+
+-- the older default number is the newest one's, or none if that is a removed entry's; at most one block is a default, as in a
+-- leaf that the newest accepts
+abbrev pub OlderDefault : Type 0
+OlderDefault = (row older newest : ℕ) (bs : List (List ℕ)) → older ≤ newest → countOf (isDefault row newest) bs ≤ 1 →
+    firstFrom (isDefault row older) 0 bs
+    ≡ pick (isKnown older (kindOf row (getD bs (firstFrom (isDefault row newest) 0 bs) []))) (firstFrom (isDefault row newest) 0 bs) none
+
+-- ## What it rests on: one look at two walks that stand alike
+
+-- with no removed block up or the default, both answer with the same number and stand alike again
+abbrev pub OneLook : Type 0
+OneLook = (removed : ℕ → Bool) (new old : Walk) (report : List ℕ) → removed none ≡ false →
+    StandAlike removed new old → DefaultKept removed new old → DownAt removed new (look report) →
+    (lookFor old report .number ≡ lookFor new report .number) × StandAlike removed (lookFor new report .walk) (lookFor old report .walk)
 
 -- ## Refusals (demand 1)
 
@@ -37,13 +125,13 @@ RefusedLook = (w : Walk) (report : List ℕ) → (lookFor w report .number ≡ 0
 abbrev pub FlagForEach : Type 0
 FlagForEach = (image : List ℕ) (a : Arguments) → firstMet (judgeCauses image a) ≡ 0 →
     (loadedWalk image a .blocks ≤ 91)
-    × (length (loadedWalk image a .listed) ≡ rowLength) × (length (loadedWalk image a .«active_invalid») ≡ rowLength)
+    × (length (loadedWalk image a .rows .listed) ≡ rowLength) × (length (loadedWalk image a .rows .«active_invalid») ≡ rowLength)
 
 -- a flag is 1 exactly if that block is listed, or is and has Active_Invalid
 abbrev pub RowsSay : Type 0
 RowsSay = (image : List ℕ) (a : Arguments) (k : ℕ) →
-    (flagAt (loadedWalk image a .listed) k ≡ blockIs (isListed (rowFor a) (a .level)) (blocksFor image a) k)
-    × (flagAt (loadedWalk image a .«active_invalid») k ≡ blockIs (isInvalid (rowFor a) (a .level)) (blocksFor image a) k)
+    (flagAt (loadedWalk image a .rows .listed) k ≡ blockIs (isListed (rowFor a) (a .level)) (blocksFor image a) k)
+    × (flagAt (loadedWalk image a .rows .«active_invalid») k ≡ blockIs (isInvalid (rowFor a) (a .level)) (blocksFor image a) k)
 
 -- ## Table order
 
@@ -73,21 +161,23 @@ TableNumbers = (image : List ℕ) (a : Arguments) →
 abbrev pub FirstInOrder : Type 0
 FirstInOrder = (image : List ℕ) (a : Arguments) (settled : Bool) (report : List ℕ) →
     let w = loadedWalk image a in
-    firstUp (w .listed) (w .«active_invalid») settled report (w .blocks)
-    ≡ firstOf (λ k. not (settled && blockIs (isInvalid (rowFor a) (a .level)) (blocksFor image a) k) && isUp report k) (entryNumbers image a)
+    firstUp (w .rows .listed) (w .rows .«active_invalid») settled report (w .blocks)
+    ≡ firstOf (λ k. not (settled && blockIs (isInvalid (rowFor a) (a .level)) (blocksFor image a) k) && isUp report k)
+    (entryNumbers image a)
+
+-- the blocks that demand 3 calls removed are those of the newest table's removed entries
+abbrev pub RemovedNumbers : Type 0
+RemovedNumbers =
+    (image : List ℕ) (a : Arguments) (older : ℕ) → firstMet (judgeCauses image (atLevel a newestLevel)) ≡ 0 →
+    (n : Arrays) → Room image a n → (k : ℕ) →
+    removedBlock image a older k
+    ≡ isIn k (numbersOf (removed older) (tableIn image (atLevel a newestLevel) n) (entryNumbers image (atLevel a newestLevel)))
 
 -- ## Counts
 
--- the walks that calls reach from a fresh one, with any images, arguments and reports
-pub data Reached : Walk → Type 0 where
-  fresh : Reached freshWalk
-  load : {w : Walk} (image : List ℕ) (a : Arguments) → Reached w → Reached (loadFor w image a .walk)
-  look : {w : Walk} (report : List ℕ) → Reached w → Reached (lookFor w report .walk)
-  clear : {w : Walk} → Reached w → Reached (clearFor w .walk)
-
--- their switches are no more than their looks, so that an accepted look counts exactly
+-- the switches of walks that calls reach are no more than their looks, so that an accepted look counts exactly
 abbrev pub CountsExactly : Type 0
-CountsExactly = (w : Walk) → Reached w →
+CountsExactly = (w : Walk) → FromFresh w →
     (w .switches ≤ w .looks) × (w .looks ≤ 65535)
     × ((report : List ℕ) → lookFor w report .number ≡ 0 →
     let next = lookFor w report .walk in
@@ -95,4 +185,4 @@ CountsExactly = (w : Walk) → Reached w →
 
 -- and they stand on no block or on an entry of their table
 abbrev pub StandsOnEntry : Type 0
-StandsOnEntry = (w : Walk) → Reached w → (w .selected ≡ none) ⊎ (flagAt (w .listed) (w .selected) ≡ true)
+StandsOnEntry = (w : Walk) → FromFresh w → (w .selected ≡ none) ⊎ (flagAt (w .rows .listed) (w .selected) ≡ true)

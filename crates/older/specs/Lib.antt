@@ -1,5 +1,6 @@
 pub mod Levels
 pub mod Calls
+pub mod FromFresh
 pub mod Written
-pub mod OlderReader
+pub mod Alike
 pub mod Claims

@@ -165,13 +165,8 @@ impl Cells {
 
 fn field_of(b: Block) -> u8 {
     match b {
-        Block::Listed {
-            kind,
-            size: _,
-            active_invalid: _,
-            is_default: _,
-            resets_phy: _,
-        } => {
+        Block::Listed(medium) => {
+            let kind = medium.kind;
             if kind == 1 {
                 return PHY;
             }

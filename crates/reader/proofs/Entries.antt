@@ -7,7 +7,7 @@ use lib.ListN.{length, take, drop, getD, length-map, List·getD-append, List·ge
 use lib.Seq.{getD-at}
 use Rattle.rom.specs.Refusal.{firstMet}
 use Rattle.block.specs.Block.{sizeOf}
-use Rattle.leaf.specs.Leaf.{cut, blockCauses, Place, table, tableOf}
+use Rattle.leaf.specs.Leaf.{cut, blockCauses, Place, tableOf}
 use Rattle.leaf.proofs.Tables.{Every, every-at, Lies, every-lies}
 use Rattle.reader.specs.Table.{noPart, partAt, entryPart}
 
@@ -46,14 +46,17 @@ entry-inside row level count at s e h = go (tableOf row level count at s) e (eve
     go (p ∷ t) (suc e) f = go t e (f .1)
 
 -- starts where they do, or later
-pub entry-after : (row level count at : ℕ) (s : List ℕ) (e : ℕ) → firstMet (blockCauses row level (cut row count s)) ≡ 0 → e < length (tableOf row level count at s)
+pub entry-after : (row level count at : ℕ) (s : List ℕ) (e : ℕ) → firstMet (blockCauses row level (cut row count s)) ≡ 0
+    → e < length (tableOf row level count at s)
     → at ≤ entryPart row (tableOf row level count at s) e .start
 entry-after row level count at s e h l =
     let d : Place = record { start = 0; rest = [] } in
-    rw (part-at row (tableOf row level count at s) e d l) (every-at (Lies row at s) (tableOf row level count at s) e d l (every-lies row level count at s h) .after)
+    rw (part-at row (tableOf row level count at s) e d l)
+    (every-at (Lies row at s) (tableOf row level count at s) e d l (every-lies row level count at s h) .after)
 
 -- and holds its block's bytes
-pub entry-bytes : (row level count at : ℕ) (s : List ℕ) (e : ℕ) (d : Place) → firstMet (blockCauses row level (cut row count s)) ≡ 0 → e < length (tableOf row level count at s)
+pub entry-bytes : (row level count at : ℕ) (s : List ℕ) (e : ℕ) (d : Place) → firstMet (blockCauses row level (cut row count s)) ≡ 0
+    → e < length (tableOf row level count at s)
     → take (entryPart row (tableOf row level count at s) e .length) (drop (entryPart row (tableOf row level count at s) e .start - at) s)
     ≡ take (sizeOf row (getD (tableOf row level count at s) e d .rest)) (getD (tableOf row level count at s) e d .rest)
 entry-bytes row level count at s e d h l =

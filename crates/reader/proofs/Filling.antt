@@ -1,4 +1,4 @@
--- The arrays, written by the table of the blocks that are left, are those that the whole table gives, which is what `fill` keeps.
+-- The arrays, tabled by the table of the blocks that are left, are those that the whole table gives, which is what `fill` keeps.
 -- Assumes nothing.
 use Prim.Native.Nat.{ℕ, suc, _+_, _-_, _≤_, _<_}
 use native.Mathlib.Omega.{arith}
@@ -12,60 +12,65 @@ use Rattle.rom.specs.Bytes.{pick}
 use Rattle.rom.specs.Refusal.{firstMet}
 use Rattle.block.specs.declared.Block.{Block}
 use Rattle.block.specs.declared.Block.the-variants.{Listed, Reset, Unknown, Refused}
-use Rattle.block.specs.Block.{sizeOf}
+use Rattle.block.specs.Block.{sizeOf, isListed}
 use Rattle.block.specs.Answer.{blockOf, numberOf, sizeIn, listedIn, kindIn}
 use Rattle.block.proofs.Seen.{Seen, refused, unknown, a-reset, a-medium, seen-size, seen-kind}
-use Rattle.leaf.specs.Leaf.{cut, isListed, blockCauses, Place, placed, keep, table, kindAt, startAt}
+use Rattle.leaf.specs.Leaf.{cut, blockCauses, Place, placed, keep, table, kindAt, startAt}
 use Rattle.leaf.proofs.Cuts.{cut-more, cut-none, rest-part, next-seen, next-fine, next-left}
 use Rattle.leaf.proofs.Tables.{entry, table-cons, table-more}
-use Rattle.reader.specs.Table.{written, stored}
+use Rattle.reader.specs.Inside.{stored}
+use Rattle.reader.specs.Table.{tabled}
 
 -- one entry more at the front of an array, by one store
-written-set : (f : Place → ℕ) (t : List Place) (x : Place) (a : List ℕ) → length t < length a → written f t (set a (length t) (f x)) ≡ written f (t ++ x ∷ []) a
-unfolding written
-written-set f t x a h =
+tabled-set : (f : Place → ℕ) (t : List Place) (x : Place) (a : List ℕ) → length t < length a
+    → tabled f t (set a (length t) (f x)) ≡ tabled f (t ++ x ∷ []) a
+unfolding tabled
+tabled-set f t x a h =
     let l : length t < length (set a (length t) (f x)) = lt-length-set a (length t) (f x) h in
     let k : length t < suc (length t) = le-refl _ in
     let front = drop-cons (set a (length t) (f x)) (length t) 0 l in
     let same = getD-set-same a (length t) (f x) 0 h in
     let after = drop-set-lt (suc (length t)) a (length t) (f x) k in
-    simp (written, map-append, length-append, append-assoc, add-one, front, same, after)
+    simp (tabled, map-append, length-append, append-assoc, add-one, front, same, after)
 
 pub stored-length : (v : ℕ) (b : Block) (free : ℕ) (a : List ℕ) → length (stored v b free a) ≡ length a
-stored-length v (Listed k s x d p) free a = length-set a _ _
+stored-length v (Listed m) free a = length-set a _ _
 stored-length v (Reset s) free a = refl
 stored-length v (Unknown s) free a = refl
 stored-length v (Refused n) free a = refl
 
 -- the store that `place` makes for a block brings an array from the table of the blocks after it to the table with it
-written-more : {row level : ℕ} {b : Block} (f : Place → ℕ) (v : ℕ) (p : Place) (ps : List Place) (free : ℕ) (a : List ℕ) → Seen row level (p .rest) b → numberOf b ≡ 0 → (0 < listedIn b → v ≡ f p)
-    → free ≡ length (table row level (p ∷ ps)) → free ≤ length a → written f (table row level ps) (stored v b free a) ≡ written f (table row level (p ∷ ps)) a
+tabled-more : {row level : ℕ} {b : Block} (f : Place → ℕ) (v : ℕ) (p : Place) (ps : List Place) (free : ℕ) (a : List ℕ)
+    → Seen row level (p .rest) b → numberOf b ≡ 0 → (0 < listedIn b → v ≡ f p)
+    → free ≡ length (table row level (p ∷ ps)) → free ≤ length a
+    → tabled f (table row level ps) (stored v b free a) ≡ tabled f (table row level (p ∷ ps)) a
 unfolding entry isListed pick
-written-more f v p ps free a (refused n e h) z w m l = absurd (h z)
-written-more {row} {level} f v p ps free a (unknown e g) z w m l = rw table-cons (simp (g, append-nil))
-written-more {row} {level} f v p ps free a (a-reset e g′ h) z w m l = let g = rw h at g′ in rw table-cons (simp (h, g, append-nil))
-written-more {row} {level} f v p ps free a (a-medium e g h) z w m l =
+tabled-more f v p ps free a (refused n e h) z w m l = absurd (h z)
+tabled-more {row} {level} f v p ps free a (unknown e g) z w m l = rw table-cons (simp (g, append-nil))
+tabled-more {row} {level} f v p ps free a (a-reset e g′ h) z w m l = let g = rw h at g′ in rw table-cons (simp (h, g, append-nil))
+tabled-more {row} {level} f v p ps free a (a-medium e g h) z w m l =
     let n : free ≡ length (table row level ps) + 1 = m ∙ table-more p ps (a-medium e g h) refl in
     let o : free - 1 ≡ length (table row level ps) = omega arith in
-    rw (o, w (omega arith), table-cons) (simp (g, h) (written-set f (table row level ps) p a (omega arith)))
+    rw (o, w (omega arith), table-cons) (simp (g, h) (tabled-set f (table row level ps) p a (omega arith)))
 
 pub record Filled (row level : ℕ) (whole ps : List Place) (free : ℕ) (k₀ o₀ k o : List ℕ) : Type 0 where
-  pub kinds : written (kindAt row) (table row level ps) k ≡ written (kindAt row) (table row level whole) k₀
-  pub offsets : written startAt (table row level ps) o ≡ written startAt (table row level whole) o₀
+  pub kinds : tabled (kindAt row) (table row level ps) k ≡ tabled (kindAt row) (table row level whole) k₀
+  pub offsets : tabled startAt (table row level ps) o ≡ tabled startAt (table row level whole) o₀
   pub places : free ≡ length (table row level ps)
   pub room-k : free ≤ length k
   pub room-o : free ≤ length o
   pub same-k : length k ≡ length k₀
   pub same-o : length o ≡ length o₀
 
-module _ {row level : ℕ} {whole ps : List Place} {p : Place} {b : Block} {free : ℕ} {k₀ o₀ k o : List ℕ} (inv : Filled row level whole (p ∷ ps) free k₀ o₀ k o) (v : Seen row level (p .rest) b) (z : numberOf b ≡ 0) where
+module _ {row level : ℕ} {whole ps : List Place} {p : Place} {b : Block} {free : ℕ} {k₀ o₀ k o : List ℕ}
+    (inv : Filled row level whole (p ∷ ps) free k₀ o₀ k o) (v : Seen row level (p .rest) b) (z : numberOf b ≡ 0) where
   filled-place : listedIn b ≤ free
   filled-place = omega (arith, inv .places, table-more p ps v z)
 
   filled-more : Filled row level whole ps (free - listedIn b) k₀ o₀ (stored (kindIn b) b free k) (stored (p .start) b free o)
   filled-more = record {
-    kinds = written-more (kindAt row) (kindIn b) p ps free k v z (seen-kind v) (inv .places) (inv .room-k) ∙ inv .kinds;
-    offsets = written-more startAt (p .start) p ps free o v z (λ l. refl) (inv .places) (inv .room-o) ∙ inv .offsets;
+    kinds = tabled-more (kindAt row) (kindIn b) p ps free k v z (seen-kind v) (inv .places) (inv .room-k) ∙ inv .kinds;
+    offsets = tabled-more startAt (p .start) p ps free o v z (λ l. refl) (inv .places) (inv .room-o) ∙ inv .offsets;
     places = omega (arith, inv .places, table-more p ps v z);
     room-k = omega (arith, inv .room-k, stored-length (kindIn b) b free k);
     room-o = omega (arith, inv .room-o, stored-length (p .start) b free o);
@@ -79,7 +84,9 @@ pub record Filling (row level : ℕ) (whole : List Place) (bs : List (List ℕ))
   pub filled : Filled row level whole (placed row at bs) free k₀ o₀ k o
 
 -- The steps of `fill` in its own terms.
-module _ (row level count : ℕ) (rest : List ℕ) {whole : List Place} {i at free : ℕ} {k₀ o₀ k o : List ℕ} (inv : Filling row level whole (cut row (count - i) rest) at free k₀ o₀ k o) {b : Block} (h : i < count) (eb : b ≡ blockOf row level rest) where
+module _ (row level count : ℕ) (rest : List ℕ) {whole : List Place} {i at free : ℕ} {k₀ o₀ k o : List ℕ}
+    (inv : Filling row level whole (cut row (count - i) rest) at free k₀ o₀ k o) {b : Block} (h : i < count)
+    (eb : b ≡ blockOf row level rest) where
   module _ where
     view : Seen row level rest b
     view = next-seen row level count rest (inv .accepted) h eb
@@ -87,20 +94,24 @@ module _ (row level count : ℕ) (rest : List ℕ) {whole : List Place} {i at fr
     fine : numberOf b ≡ 0
     fine = next-fine row level count rest (inv .accepted) h eb
 
-    opened : Filled row level whole (record { start = at; rest = rest } ∷ placed row (at + sizeOf row rest) (cut row (count - (i + 1)) (drop (sizeOf row rest) rest))) free k₀ o₀ k o
+    opened : Filled row level whole
+        (record { start = at; rest = rest }
+        ∷ placed row (at + sizeOf row rest) (cut row (count - (i + 1)) (drop (sizeOf row rest) rest))) free k₀ o₀ k o
     unfolding placed
     opened = let e = rw cut-more at inv in e .filled
 
   pub fill-place : listedIn b ≤ free
   fill-place = filled-place opened view fine
 
-  pub fill-more : {z u : ℕ} {k′ o′ : List ℕ} → z ≡ sizeIn b → u ≡ free - listedIn b → k′ ≡ stored (kindIn b) b free k → o′ ≡ stored at b free o
+  pub fill-more : {z u : ℕ} {k′ o′ : List ℕ} → z ≡ sizeIn b → u ≡ free - listedIn b → k′ ≡ stored (kindIn b) b free k
+      → o′ ≡ stored at b free o
       → Filling row level whole (cut row (count - (i + 1)) (take (length rest - z) (drop z rest))) (at + z) u k₀ o₀ k′ o′
   fill-more ez eu ek eo =
       rw (rest-part, ez, seen-size view fine, eu, ek, eo)
       (record { accepted = next-left row level count rest (inv .accepted) h eb; filled = filled-more opened view fine })
 
-module _ (row level count : ℕ) (rest : List ℕ) {whole : List Place} {i at free : ℕ} {k₀ o₀ k o : List ℕ} (inv : Filling row level whole (cut row (count - i) rest) at free k₀ o₀ k o) where
-  pub fill-done : count ≤ i → (k ≡ written (kindAt row) (table row level whole) k₀) × (o ≡ written startAt (table row level whole) o₀)
-  unfolding placed table keep written
+module _ (row level count : ℕ) (rest : List ℕ) {whole : List Place} {i at free : ℕ} {k₀ o₀ k o : List ℕ}
+    (inv : Filling row level whole (cut row (count - i) rest) at free k₀ o₀ k o) where
+  pub fill-done : count ≤ i → (k ≡ tabled (kindAt row) (table row level whole) k₀) × (o ≡ tabled startAt (table row level whole) o₀)
+  unfolding placed table keep tabled
   fill-done h = let e = rw cut-none at inv in (e .filled .kinds, e .filled .offsets)

@@ -9,12 +9,12 @@ use lib.ListN.{length, take, drop}
 use Rattle.rom.specs.Bytes.{pick}
 use Rattle.rom.specs.Refusal.{firstMet}
 use Rattle.block.specs.declared.Block.{Block}
-use Rattle.block.specs.Block.{sizeOf}
+use Rattle.block.specs.Block.{sizeOf, isListed}
 use Rattle.block.specs.Answer.{blockOf, numberOf, sizeIn, listedIn}
-use Rattle.block.proofs.Seen.{Seen, seen-size}
-use Rattle.leaf.specs.Leaf.{cut, isListed, blockCauses, Place, placed, keep, table}
+use Rattle.block.proofs.Seen.{Seen, seen-size, seen-listed}
+use Rattle.leaf.specs.Leaf.{cut, blockCauses, Place, placed, keep, table}
 use Rattle.leaf.proofs.Cuts.{cut-more, cut-none, rest-part, next-seen, next-fine, next-left}
-use Rattle.leaf.proofs.Tables.{few-one, entry, seen-listed, table-cons, table-more}
+use Rattle.leaf.proofs.Tables.{few-one, entry, table-cons, table-more}
 use Rattle.reader.specs.declared.Part.{Part}
 use Rattle.reader.specs.Table.{partAt, entryPart}
 use Rattle.reader.proofs.Entries.{part-front, part-last}
@@ -25,7 +25,8 @@ pub record Kept (row level : ℕ) (whole : List Place) (ps : List Place) (behind
   pub there : wanted < behind
   pub same : entryPart row (table row level ps) wanted ≡ entryPart row whole wanted
 
-module _ {row level : ℕ} {whole ps : List Place} {p : Place} {b : Block} {behind wanted : ℕ} (inv : Kept row level whole (p ∷ ps) behind wanted) (v : Seen row level (p .rest) b) (z : numberOf b ≡ 0) where
+module _ {row level : ℕ} {whole ps : List Place} {p : Place} {b : Block} {behind wanted : ℕ}
+    (inv : Kept row level whole (p ∷ ps) behind wanted) (v : Seen row level (p .rest) b) (z : numberOf b ≡ 0) where
   kept-behind : listedIn b ≤ behind
   kept-behind = omega (arith, inv .counted, table-more p ps v z)
 
@@ -57,7 +58,9 @@ pub record Finding (row level : ℕ) (whole : List Place) (bs : List (List ℕ))
   pub kept : Kept row level whole (placed row at bs) behind wanted
 
 -- The steps of `find` in its own terms.
-module _ (row level count : ℕ) (rest : List ℕ) {whole : List Place} {i at behind wanted : ℕ} (inv : Finding row level whole (cut row (count - i) rest) at behind wanted) {b : Block} (h : i < count) (eb : b ≡ blockOf row level rest) where
+module _ (row level count : ℕ) (rest : List ℕ) {whole : List Place} {i at behind wanted : ℕ}
+    (inv : Finding row level whole (cut row (count - i) rest) at behind wanted) {b : Block} (h : i < count)
+    (eb : b ≡ blockOf row level rest) where
   module _ where
     view : Seen row level rest b
     view = next-seen row level count rest (inv .accepted) h eb
@@ -65,14 +68,17 @@ module _ (row level count : ℕ) (rest : List ℕ) {whole : List Place} {i at be
     fine : numberOf b ≡ 0
     fine = next-fine row level count rest (inv .accepted) h eb
 
-    opened : Kept row level whole (record { start = at; rest = rest } ∷ placed row (at + sizeOf row rest) (cut row (count - (i + 1)) (drop (sizeOf row rest) rest))) behind wanted
+    opened : Kept row level whole
+        (record { start = at; rest = rest }
+        ∷ placed row (at + sizeOf row rest) (cut row (count - (i + 1)) (drop (sizeOf row rest) rest))) behind wanted
     unfolding placed
     opened = let e = rw cut-more at inv in e .kept
 
   pub find-behind : {n : ℕ} → n ≡ listedIn b → n ≤ behind
   find-behind en = rw en (kept-behind opened view fine)
 
-  pub find-here : {z n : ℕ} → z ≡ sizeIn b → n ≡ listedIn b → behind - n ≡ wanted → _≡_ {A = Part} (record { start = at; length = z }) (entryPart row whole wanted)
+  pub find-here : {z n : ℕ} → z ≡ sizeIn b → n ≡ listedIn b → behind - n ≡ wanted
+      → _≡_ {A = Part} (record { start = at; length = z }) (entryPart row whole wanted)
   find-here ez en e = rw (ez, seen-size view fine) (kept-here opened view fine (rw en at e))
 
   pub find-more : {z n : ℕ} → z ≡ sizeIn b → n ≡ listedIn b → (behind - n ≡ wanted → ⊥)
@@ -82,7 +88,8 @@ module _ (row level count : ℕ) (rest : List ℕ) {whole : List Place} {i at be
       (record { accepted = next-left row level count rest (inv .accepted) h eb; kept = kept-more opened view fine (rw en at ne) })
 
 -- the blocks do not end before the entry
-module _ (row level count : ℕ) (rest : List ℕ) {whole : List Place} {i at behind wanted : ℕ} (inv : Finding row level whole (cut row (count - i) rest) at behind wanted) where
+module _ (row level count : ℕ) (rest : List ℕ) {whole : List Place} {i at behind wanted : ℕ}
+    (inv : Finding row level whole (cut row (count - i) rest) at behind wanted) where
   pub find-never : count ≤ i → ⊥
   unfolding placed table keep
   find-never h = let e = rw cut-none at inv in omega (arith, e .kept .counted, e .kept .there)

@@ -8,7 +8,7 @@ use lib.ListN.{length, take, drop, length-take}
 use lib.Seq.{take-take, drop-drop}
 use Rattle.rom.specs.Geometry.{leavesEnd}
 use Rattle.rom.specs.Bytes.{pick}
-use Rattle.rom.specs.Refusal.{Exact, Numbered, firstMet}
+use Rattle.rom.specs.Refusal.{Numbered, firstMet}
 use Rattle.rom.proofs.First.{exact, numbered-append, both-accepted}
 use Rattle.header.specs.declared.Arguments.{Arguments}
 use Rattle.header.specs.Image.{restFrom}
@@ -18,8 +18,9 @@ use Rattle.leaf.proofs.Cuts.{leaf-numbered, accepted-blocks}
 use Rattle.leaf.proofs.Counts.{sorts-add-up}
 use Rattle.reader.specs.declared.Part.{Part}
 use Rattle.reader.specs.Table.{entryPart}
-use Rattle.reader.specs.Reading.{blocksFor, tableFor, leafCausesFor, judgeCauses, readCauses, acceptedAnswer, judgeAnswer, readAnswer, partFor, viewFor}
-use Rattle.reader.specs.Promises.{ExactReading, CountsAddUp, ViewIsBlock}
+use Rattle.reader.specs.Reading.{blocksFor, tableFor, leafCausesFor, judgeCauses, readCauses, acceptedAnswer, judgeAnswer, readAnswer}
+use Rattle.reader.specs.Reading.{partFor, viewFor}
+use Rattle.reader.specs.Claims.{ExactReading, CountsAddUp, ViewIsBlock}
 use Rattle.reader.proofs.Entries.{entry-inside, entry-bytes, entry-after}
 use Rattle.reader.proofs.Readings.{answer-number}
 

@@ -26,8 +26,11 @@ use Rattle.leaf.proofs.Tables.{listed-length}
 use Rattle.reader.specs.declared.Answer.{Answer}
 use Rattle.reader.specs.declared.Part.{Part}
 use Rattle.reader.specs.declared.Reading.{Reading}
-use Rattle.reader.specs.Table.{written, noPart, entryPart}
-use Rattle.reader.specs.Reading.{blocksFor, tableFor, leafCausesFor, judgeCauses, readCauses, refusedAnswer, acceptedAnswer, answerFor, judgeAnswer, readAnswer, readInto, partFor, viewFor, answerFrom, refusedReading, acceptedReading, readingWith, readingFor, judgedReading}
+use Rattle.reader.specs.Table.{tabled, noPart, entryPart}
+use Rattle.reader.specs.Inside.{answerFrom, readingFor}
+use Rattle.reader.specs.Reading.{blocksFor, tableFor, leafCausesFor, judgeCauses, readCauses, refusedAnswer, acceptedAnswer}
+use Rattle.reader.specs.Reading.{answerFor, judgeAnswer, readAnswer, readInto, partFor, viewFor, refusedReading, acceptedReading}
+use Rattle.reader.specs.Reading.{readingWith, judgedReading}
 use Rattle.reader.proofs.Entries.{entry-inside}
 
 -- ## The number of a reading
@@ -77,14 +80,17 @@ module _ (image : List ℕ) (a : Arguments) (k o : ℕ) (h : Header) (eh : h ≡
     count = read-count image a h eh z
 
     pub assess-kinds : k < h .blocks → refusedReading 12 ≡ readingFor image a k o
-    assess-kinds l = refused-reading image a k o 12 (λ e. omega arith) (no-room image a k o accepted (simp (lt-ltb k (countFor image a) (rw count at l))))
+    assess-kinds l =
+        refused-reading image a k o 12 (λ e. omega arith)
+        (no-room image a k o accepted (simp (lt-ltb k (countFor image a) (rw count at l))))
 
     pub assess-offsets : h .blocks ≤ k → o < h .blocks → refusedReading 12 ≡ readingFor image a k o
     assess-offsets g l =
         refused-reading image a k o 12 (λ e. omega arith)
         (no-room image a k o accepted (simp (le-ltb k (countFor image a) (rw count at g), lt-ltb o (countFor image a) (rw count at l))))
 
-    module _ (hk : h .blocks ≤ k) (ho : h .blocks ≤ o) (t : Tally) (et : t ≡ tallyOf (h .row) (a .level) (cut (h .row) (h .blocks) (take (leavesEnd - h .start) (drop (h .start) image)))) where
+    module _ (hk : h .blocks ≤ k) (ho : h .blocks ≤ o) (t : Tally)
+        (et : t ≡ tallyOf (h .row) (a .level) (cut (h .row) (h .blocks) (take (leavesEnd - h .start) (drop (h .start) image)))) where
       tally : t ≡ tallyOf (rowFor a) (a .level) (blocksFor image a)
       unfolding foundHeader restFrom
       tally = rw found at et
@@ -107,7 +113,8 @@ module _ (image : List ℕ) (a : Arguments) (k o : ℕ) (h : Header) (eh : h ≡
       unfolding answerFrom acceptedAnswer foundHeader counts
       both e = rw (found, all e)
 
-      pub assess-done : t .number ≡ 0 → (r : Answer) → r ≡ answerFrom h t → record { answer = r; row = h .row; start = h .start } ≡ readingFor image a k o
+      pub assess-done : t .number ≡ 0 → (r : Answer) → r ≡ answerFrom h t
+          → record { answer = r; row = h .row; start = h .start } ≡ readingFor image a k o
       unfolding foundHeader acceptedReading
       assess-done e r er = rw (er ∙ both e, found) (accepted-reading image a k o (all-causes ∙ e))
 
@@ -123,7 +130,8 @@ module _ (n : ℕ) (image : List ℕ) (a : Arguments) (r : Reading) (er : r ≡ 
   unfolding readingWith acceptedReading refusedReading answerFor pick
   reading-answer = rw er (go n)
     where
-      go : (n : ℕ) → pick (eqb n 0) (acceptedReading image a) (refusedReading n) .answer ≡ pick (eqb n 0) (acceptedAnswer image a) (refusedAnswer n)
+      go : (n : ℕ)
+          → pick (eqb n 0) (acceptedReading image a) (refusedReading n) .answer ≡ pick (eqb n 0) (acceptedAnswer image a) (refusedAnswer n)
       go zero = refl
       go (suc n) = rw (eqb·suc-zero n)
 
@@ -159,7 +167,8 @@ module _ {image : List ℕ} {a : Arguments} {r : Reading} (c : Accepted image a 
 
   pub reading-listed : r .answer .listed ≡ length (tableOf (r .row) (a .level) (r .answer .blocks) (r .start) (restOf image r))
   unfolding acceptedReading acceptedAnswer restFrom
-  reading-listed = rw (c .known) (sym (listed-length (rowFor a) (a .level) (countFor image a) (startFor image a) (restFrom image (startFor image a))))
+  reading-listed =
+      rw (c .known) (sym (listed-length (rowFor a) (a .level) (countFor image a) (startFor image a) (restFrom image (startFor image a))))
 
   pub reading-few : r .answer .listed ≤ countFor image a
   unfolding acceptedReading acceptedAnswer
@@ -183,7 +192,9 @@ module _ (image : List ℕ) (a : Arguments) where
   unfolding judgedReading judgeCauses
   accepted-judged r er z =
       let n = firstMet (judgeCauses image a) in
-      let b = both-accepted (headerCauses image a) (leafCausesFor image a) (header-numbered image a) (sym (reading-number n image a r er) ∙ z) in
+      let b =
+      both-accepted (headerCauses image a) (leafCausesFor image a) (header-numbered image a)
+      (sym (reading-number n image a r er) ∙ z) in
       record { known = is-accepted n image a r er z; header = b .0; leaf = b .1 }
 
   pub judged-answer : (r : Reading) → r ≡ judgedReading image a → r .answer ≡ judgeAnswer image a
@@ -226,12 +237,14 @@ module _ (image : List ℕ) (a : Arguments) (k o : ℕ) (r : Reading) (er : r �
   unfolding readingFor readAnswer
   answer-read = reading-answer (firstMet (readCauses image a k o)) image a r er
 
-  pub unchanged : (f : Place → ℕ) (array : List ℕ) → (r .answer .number ≡ 0 → ⊥) → array ≡ readInto f (firstMet (readCauses image a k o)) image a array
+  pub unchanged : (f : Place → ℕ) (array : List ℕ) → (r .answer .number ≡ 0 → ⊥)
+      → array ≡ readInto f (firstMet (readCauses image a k o)) image a array
   unfolding readInto pick
   unchanged f array n = simp (ne-eqb (firstMet (readCauses image a k o)) 0 (λ e. n (number-read ∙ e)))
 
   module _ (z : r .answer .number ≡ 0) where
-    behind-met : (firstMet (headerCauses image a) ≡ 0) × (countFor image a ≤ k) × (countFor image a ≤ o) × (firstMet (leafCausesFor image a) ≡ 0)
+    behind-met : (firstMet (headerCauses image a) ≡ 0) × (countFor image a ≤ k) × (countFor image a ≤ o)
+        × (firstMet (leafCausesFor image a) ≡ 0)
     unfolding readCauses
     behind-met =
         let b = both-accepted (headerCauses image a) _ (header-numbered image a) (sym number-read ∙ z) in
@@ -241,7 +254,8 @@ module _ (image : List ℕ) (a : Arguments) (k o : ℕ) (r : Reading) (er : r �
 
     pub accepted-read : Accepted image a r
     unfolding readingFor
-    accepted-read = record { known = is-accepted (firstMet (readCauses image a k o)) image a r er z; header = behind-met .0; leaf = behind-met .3 }
+    accepted-read =
+        record { known = is-accepted (firstMet (readCauses image a k o)) image a r er z; header = behind-met .0; leaf = behind-met .3 }
 
     pub room-kinds : r .answer .listed ≤ k
     room-kinds = omega (arith, reading-few accepted-read, behind-met .1)
@@ -250,7 +264,7 @@ module _ (image : List ℕ) (a : Arguments) (k o : ℕ) (r : Reading) (er : r �
     room-offsets = omega (arith, reading-few accepted-read, behind-met .2)
 
     pub filled-in : (f : ℕ → Place → ℕ) (array : List ℕ)
-        → written (f (r .row)) (tableOf (r .row) (a .level) (r .answer .blocks) (r .start) (restOf image r)) array
+        → tabled (f (r .row)) (tableOf (r .row) (a .level) (r .answer .blocks) (r .start) (restOf image r)) array
         ≡ readInto (f (rowFor a)) (firstMet (readCauses image a k o)) image a array
     unfolding readInto pick
     filled-in f array = rw (sym number-read ∙ z, reading-table accepted-read, reading-row accepted-read)
@@ -262,7 +276,8 @@ module _ (image : List ℕ) (a : Arguments) (e : ℕ) where
   unfolding partFor judgeCauses leafCausesFor restFrom pick entryPart
   inside-image = go (firstMet (judgeCauses image a)) refl
     where
-      inside : firstMet (judgeCauses image a) ≡ 0 → entryPart (rowFor a) (tableFor image a) e .start + entryPart (rowFor a) (tableFor image a) e .length ≤ length image
+      inside : firstMet (judgeCauses image a) ≡ 0
+          → entryPart (rowFor a) (tableFor image a) e .start + entryPart (rowFor a) (tableFor image a) e .length ≤ length image
       inside z =
           let b = both-accepted (headerCauses image a) (leafCausesFor image a) (header-numbered image a) z in
           omega (
@@ -270,11 +285,13 @@ module _ (image : List ℕ) (a : Arguments) (e : ℕ) where
             start-fits image a (b .0),
             whole-image image a (b .0),
             length-take (leavesEnd - startFor image a) (drop (startFor image a) image),
-            entry-inside (rowFor a) (a .level) (countFor image a) (startFor image a) (restFrom image (startFor image a)) e (accepted-blocks (rowFor a) (a .level) (blocksFor image a) (b .1)),
+            entry-inside (rowFor a) (a .level) (countFor image a) (startFor image a) (restFrom image (startFor image a)) e
+                (accepted-blocks (rowFor a) (a .level) (blocksFor image a) (b .1)),
           )
 
       go : (n : ℕ) → firstMet (judgeCauses image a) ≡ n
-          → pick (eqb n 0) (entryPart (rowFor a) (tableFor image a) e) noPart .start + pick (eqb n 0) (entryPart (rowFor a) (tableFor image a) e) noPart .length ≤ length image
+          → pick (eqb n 0) (entryPart (rowFor a) (tableFor image a) e) noPart .start + pick (eqb n 0)
+          (entryPart (rowFor a) (tableFor image a) e) noPart .length ≤ length image
       go zero z = inside z
       go (suc n) z = rw (eqb·suc-zero n) zero-le
 

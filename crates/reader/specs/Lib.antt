@@ -1,3 +1,4 @@
 pub mod Table
 pub mod Reading
-pub mod Promises
+pub mod Claims
+pub mod Inside

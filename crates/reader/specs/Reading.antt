@@ -8,15 +8,14 @@ use lib.ListN.{length, take, drop}
 use Rattle.rom.specs.Bytes.{pick, wordAt}
 use Rattle.rom.specs.Refusal.{Cause, _⇒_, firstMet}
 use Rattle.header.specs.declared.Arguments.{Arguments}
-use Rattle.header.specs.declared.Header.{Header}
 use Rattle.header.specs.Image.{addressOf, controlByte, restFrom}
 use Rattle.header.specs.Header.{rowFor, leafFor, startFor, countFor, headerCauses}
-use Rattle.leaf.specs.declared.Tally.{Tally}
-use Rattle.leaf.specs.Leaf.{Place, cut, isListed, isReset, isSkipped, isDefault, countOf, firstFrom, leafCauses, kindAt, startAt, tableOf}
+use Rattle.block.specs.Block.{isListed, isReset, isSkipped, isDefault}
+use Rattle.leaf.specs.Leaf.{Place, cut, countOf, firstFrom, leafCauses, kindAt, startAt, tableOf}
 use Rattle.reader.specs.declared.Answer.{Answer}
 use Rattle.reader.specs.declared.Reading.{Reading}
 use Rattle.reader.specs.declared.Part.{Part}
-use Rattle.reader.specs.Table.{written, noPart, entryPart}
+use Rattle.reader.specs.Table.{tabled, noPart, entryPart}
 
 -- ## The leaf that the arguments name
 
@@ -47,7 +46,8 @@ readCauses image a kinds offsets =
 
 -- a refusal's other fields are 0
 unfoldable pub refusedAnswer : ℕ → Answer
-refusedAnswer n = record { number = n; connection = 0; control = 0; address = 0; blocks = 0; listed = 0; resets = 0; skipped = 0; «default_number» = 0 }
+refusedAnswer n =
+    record { number = n; connection = 0; control = 0; address = 0; blocks = 0; listed = 0; resets = 0; skipped = 0; «default_number» = 0 }
 
 unfoldable pub acceptedAnswer : List ℕ → Arguments → Answer
 acceptedAnswer image a = record {
@@ -75,7 +75,7 @@ readAnswer image a kinds offsets = answerFor (firstMet (readCauses image a kinds
 
 -- an array after the reading: the table's numbers at its front, or unchanged on a refusal
 unfoldable pub readInto : (Place → ℕ) → ℕ → List ℕ → Arguments → List ℕ → List ℕ
-readInto f n image a array = pick (eqb n 0) (written f (tableFor image a) array) array
+readInto f n image a array = pick (eqb n 0) (tabled f (tableFor image a) array) array
 
 unfoldable pub readKinds : List ℕ → Arguments → List ℕ → List ℕ → List ℕ
 readKinds image a kinds offsets = readInto (kindAt (rowFor a)) (firstMet (readCauses image a (length kinds) (length offsets))) image a kinds
@@ -97,20 +97,6 @@ viewFor image a entry = bytesOf image (partFor image a entry)
 
 -- ## What the code keeps of a reading: the chip's row and where the blocks start, beside the answer
 
--- the answer that an accepted header and the tally of its leaf make
-unfoldable pub answerFrom : Header → Tally → Answer
-answerFrom h t = record {
-  number = 0;
-  connection = h .connection;
-  control = h .control;
-  address = h .address;
-  blocks = h .blocks;
-  listed = t .listed;
-  resets = t .resets;
-  skipped = t .skipped;
-  «default_number» = t .«default_number»;
-}
-
 unfoldable pub refusedReading : ℕ → Reading
 refusedReading n = record { answer = refusedAnswer n; row = 0; start = 0 }
 
@@ -120,9 +106,6 @@ acceptedReading image a = record { answer = acceptedAnswer image a; row = rowFor
 -- with the number n
 unfoldable pub readingWith : ℕ → List ℕ → Arguments → Reading
 readingWith n image a = pick (eqb n 0) (acceptedReading image a) (refusedReading n)
-
-unfoldable pub readingFor : List ℕ → Arguments → ℕ → ℕ → Reading
-readingFor image a kinds offsets = readingWith (firstMet (readCauses image a kinds offsets)) image a
 
 -- without arrays
 unfoldable pub judgedReading : List ℕ → Arguments → Reading

@@ -1,23 +1,14 @@
 -- The media table in the two lent arrays, and an entry of it as a part of the image.
-use Prim.Native.Nat.{ℕ, _-_}
+use Prim.Native.Nat.{ℕ}
 use mathlib.Core.List.{List, _++_, map}
-use lib.ListN.{length, drop, set, getD}
-use Rattle.block.specs.declared.Block.{Block}
-use Rattle.block.specs.declared.Block.the-variants.{Listed, Reset, Unknown, Refused}
+use lib.ListN.{length, drop, getD}
 use Rattle.block.specs.Block.{sizeOf}
-use Rattle.leaf.specs.Leaf.{Place, table}
+use Rattle.leaf.specs.Leaf.{Place}
 use Rattle.reader.specs.declared.Part.{Part}
 
 -- an array with the table's numbers at its front, and its other elements unchanged
-unfoldable pub written : (Place → ℕ) → List Place → List ℕ → List ℕ
-written f t a = map f t ++ drop (length t) a
-
--- the store that one block makes before place `free`, if it is listed
-abbrev pub stored : ℕ → Block → ℕ → List ℕ → List ℕ
-stored v (Listed kind size invalid marked resets) free a = set a (free - 1) v
-stored v (Reset size) free a = a
-stored v (Unknown size) free a = a
-stored v (Refused n) free a = a
+unfoldable pub tabled : (Place → ℕ) → List Place → List ℕ → List ℕ
+tabled f t a = map f t ++ drop (length t) a
 
 -- ## An entry's block as a part of the image
 

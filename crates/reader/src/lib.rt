@@ -6,10 +6,13 @@ use header::Header;
 use leaf::Tally;
 use rom::refusal;
 ghost use mathlib.Core.Path.{_≡_};
+ghost use Prim.Native.Nat.{_+_};
 ghost use lib.ListN.{length};
-ghost use Rattle.reader.specs.Reading.{refusedAnswer, judgeAnswer, readAnswer, readKinds, readOffsets, partFor, viewFor, answerFrom, refusedReading, readingFor, judgedReading};
+ghost use Rattle.reader.specs.Inside.{answerFrom, readingFor};
+ghost use Rattle.reader.specs.Reading.{refusedAnswer, judgeAnswer, readAnswer, readKinds, readOffsets, partFor, viewFor};
+ghost use Rattle.reader.specs.Reading.{refusedReading, judgedReading};
 
-// What is read, or a refusal's number and zeros. The default's number is 255 where there is none.
+// What is read, or a refusal's number and zeros. The default's number is `rom::NONE` where there is none.
 #[repr(C)]
 pub struct Answer {
     pub number: u8,
@@ -180,9 +183,10 @@ pub fn view_part(image: &[u8], arguments: Arguments, entry: usize) -> Part
     )
 }
 
-// The block of an entry, as part of the image.
+// The block of an entry, as part of the image: its bytes, and that they are the image's own, from where the part starts.
 pub fn view(image: &[u8], arguments: Arguments, entry: usize) -> &[u8]
     ensures { λ r. ⌜ now r ≡ viewFor (now (image .entry)) arguments entry ⌝ }
+    ensures { λ r. ⌜ r .ptr ≡ (image .entry .ptr .0, partFor (now (image .entry)) arguments entry .start + image .entry .ptr .1) ⌝ }
 {
     let p = view_part(image, arguments, entry);
     let start = p.start;

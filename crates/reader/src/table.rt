@@ -7,7 +7,8 @@ ghost use lib.ListN.{length};
 ghost use Rattle.rom.specs.Refusal.{firstMet};
 ghost use Rattle.block.specs.Answer.{listedIn, kindIn};
 ghost use Rattle.leaf.specs.Leaf.{cut, blockCauses, kindAt, startAt, tableOf};
-ghost use Rattle.reader.specs.Table.{written, stored, entryPart};
+ghost use Rattle.reader.specs.Table.{tabled, entryPart};
+ghost use Rattle.reader.specs.Inside.{stored};
 
 // Writes the entry of a block at an offset, if it has one, before the place free, and answers the next free place.
 fn place(b: Block, at: usize, free: usize, kinds: &mut [u16], offsets: &mut [u16]) -> usize
@@ -17,15 +18,9 @@ fn place(b: Block, at: usize, free: usize, kinds: &mut [u16], offsets: &mut [u16
     ensures { λ r. ⌜ now (offsets .exit) ≡ stored at b free (now (offsets .entry)) ⌝ }
 {
     match b {
-        Block::Listed {
-            kind,
-            size: _,
-            active_invalid: _,
-            is_default: _,
-            resets_phy: _,
-        } => {
+        Block::Listed(medium) => {
             let next = free - 1;
-            kinds[next] = kind;
+            kinds[next] = medium.kind;
             offsets[next] = at as u16;
             next
         }
@@ -49,8 +44,8 @@ pub(crate) fn fill(
     requires { ⌜ firstMet (blockCauses row level (cut row count (now blocks))) ≡ 0 ⌝ }
     requires { ⌜ listed ≡ length (tableOf row level count start (now blocks)) ⌝ }
     requires { ⌜ (listed ≤ length (now kinds)) × (listed ≤ length (now offsets)) × (start + length (now blocks) < 65536) ⌝ }
-    ensures { λ r. ⌜ now (kinds .exit) ≡ written (kindAt row) (tableOf row level count start (now (blocks .entry))) (now (kinds .entry)) ⌝ }
-    ensures { λ r. ⌜ now (offsets .exit) ≡ written startAt (tableOf row level count start (now (blocks .entry))) (now (offsets .entry)) ⌝ }
+    ensures { λ r. ⌜ now (kinds .exit) ≡ tabled (kindAt row) (tableOf row level count start (now (blocks .entry))) (now (kinds .entry)) ⌝ }
+    ensures { λ r. ⌜ now (offsets .exit) ≡ tabled startAt (tableOf row level count start (now (blocks .entry))) (now (offsets .entry)) ⌝ }
 {
     let mut rest = blocks;
     let mut k = 0u8;

@@ -89,16 +89,10 @@ fn show_refused_block(image: &[u8], arguments: Arguments) {
 // What part a block has in a clash; nothing is shown where it has none.
 fn show_clashing(b: Block, line: Line) {
     match b {
-        Block::Listed {
-            kind: _,
-            size: _,
-            active_invalid: _,
-            is_default,
-            resets_phy,
-        } => {
-            if is_default {
+        Block::Listed(medium) => {
+            if medium.is_default {
                 line.text(b", a default medium").print();
-            } else if resets_phy {
+            } else if medium.resets_phy {
                 line.text(b", a PHY with its own reset").print();
             }
         }

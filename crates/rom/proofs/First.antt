@@ -8,7 +8,8 @@ use mathlib.Core.Bool.{Bool, true, false}
 use mathlib.Core.List.{List, [], _∷_, _++_}
 use lib.ListN.{length}
 use Rattle.rom.specs.Bytes.{pick}
-use Rattle.rom.specs.Refusal.{Cause, firstMet, causeAt, First, Numbered, Exact, FirstIsExact}
+use Rattle.rom.specs.Claims.{FirstIsExact}
+use Rattle.rom.specs.Refusal.{Cause, firstMet, causeAt, First, Numbered, Exact}
 
 later : (c : Cause) (cs : List Cause) (n : ℕ) → c .met ≡ false → First cs n → First (c ∷ cs) n
 later c cs n e f = record {
@@ -29,10 +30,12 @@ there [] n h e = absurd (omega arith)
 there (c ∷ cs) n h e = go (c .met) refl (there cs n h) e
   where
     go : (t : Bool) → c .met ≡ t → (firstMet cs ≡ n → First cs n) → pick t (c .number) (firstMet cs) ≡ n → First (c ∷ cs) n
-    go true g ih e = record { place = 0; within = zero-lt-suc (length cs); number = e; met = g; earlier = λ j l. absurd (not-suc-le-zero l) }
+    go true g ih e =
+        record { place = 0; within = zero-lt-suc (length cs); number = e; met = g; earlier = λ j l. absurd (not-suc-le-zero l) }
     go false g ih e = later c cs n g (ih e)
 
-back : (cs : List Cause) (k : ℕ) → k < length cs → causeAt cs k .met ≡ true → ((j : ℕ) → j < k → causeAt cs j .met ≡ false) → firstMet cs ≡ causeAt cs k .number
+back : (cs : List Cause) (k : ℕ) → k < length cs → causeAt cs k .met ≡ true → ((j : ℕ) → j < k → causeAt cs j .met ≡ false)
+    → firstMet cs ≡ causeAt cs k .number
 unfolding firstMet pick
 back [] k l e h = absurd (not-suc-le-zero l)
 back (c ∷ cs) zero l e h = rw e
@@ -81,7 +84,8 @@ unfolding firstMet pick
 after-refused [] ds n h e = absurd (h (sym e))
 after-refused (c ∷ cs) ds n h e = go (c .met) (after-refused cs ds n h) e
   where
-    go : (t : Bool) → (firstMet cs ≡ n → firstMet (cs ++ ds) ≡ n) → pick t (c .number) (firstMet cs) ≡ n → pick t (c .number) (firstMet (cs ++ ds)) ≡ n
+    go : (t : Bool) → (firstMet cs ≡ n → firstMet (cs ++ ds) ≡ n) → pick t (c .number) (firstMet cs) ≡ n
+        → pick t (c .number) (firstMet (cs ++ ds)) ≡ n
     go true ih e = e
     go false ih e = ih e
 

@@ -3,3 +3,4 @@ pub mod First
 pub mod Fewer
 pub mod Past
 pub mod Reached
+pub mod Put

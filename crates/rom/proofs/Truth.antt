@@ -22,6 +22,10 @@ pub and-true : (a b : Bool) → (a && b) ≡ true → (a ≡ true) × (b ≡ tru
 and-true true b e = (refl, e)
 and-true false b e = true-false (sym e)
 
+pub and-false : (x : Bool) → (x && false) ≡ false
+and-false true = refl
+and-false false = refl
+
 pub or-false : (a b : Bool) → (a || b) ≡ false → (a ≡ false) × (b ≡ false)
 or-false true b e = true-false e
 or-false false b e = (refl, e)

@@ -31,3 +31,7 @@ controllersAt = 26
 
 abbrev pub mostControllers : ℕ
 mostControllers = 32
+
+-- no block, where a block's number is asked for
+abbrev pub none : ℕ
+none = 255

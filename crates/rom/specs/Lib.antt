@@ -1,3 +1,5 @@
 pub mod Geometry
 pub mod Bytes
+pub mod Store
 pub mod Refusal
+pub mod Claims

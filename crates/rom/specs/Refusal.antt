@@ -42,7 +42,3 @@ Numbered (c ∷ cs) = (0 < c .number) × Numbered cs
 pub record Exact (cs : List Cause) (n : ℕ) : Type 0 where
   pub refused : 0 < n → First cs n
   pub accepted : n ≡ 0 → (j : ℕ) → causeAt cs j .met ≡ false
-
--- one number alone does so, and the first cause that is met has it
-abbrev pub FirstIsExact : Type 0
-FirstIsExact = (cs : List Cause) → Numbered cs → Exact cs (firstMet cs) × ((n : ℕ) → Exact cs n → n ≡ firstMet cs)

@@ -1,5 +1,6 @@
 // The serial ROM as every layer names it: its geometry, its bytes and words, and document 01's refusal numbers.
 pub mod refusal;
+pub mod store;
 
 ghost use mathlib.Core.Path.{_≡_};
 ghost use Prim.Native.Nat.{_+_, _*_};
@@ -29,6 +30,9 @@ pub const ADDRESS_AT: usize = 20;
 pub const CONTROLLERS_AT: usize = 26;
 
 pub const MOST_CONTROLLERS: u8 = 32;
+
+// No block, where a block's number is asked for: a leaf has fewer blocks.
+pub const NONE: u8 = 255;
 
 // ## Bytes and words
 

@@ -1,5 +1,5 @@
 -- Laws of words, zeros and parts of lists. Assumes nothing.
-use Prim.Native.Nat.{ℕ, zero, suc, _+_, _*_, _-_, _/_, _%_, _≤_, _<_}
+use Prim.Native.Nat.{ℕ, zero, suc, _+_, _*_, _/_, _%_, _≤_, _<_}
 use mathlib.Core.Path.{_≡_, refl, sym, ap, ap₂, _∙_}
 use mathlib.Core.Bool.{true}
 use mathlib.Core.List.{List, [], _∷_}
@@ -7,9 +7,10 @@ use native.Mathlib.Omega.{arith}
 use lib.ListN.{length, take, drop, replicate, length-append, length-replicate}
 use lib.Seq.{drop-cons, getD-drop, take-all}
 use borrow.Author.Tests.{eqb-true}
-use Rattle.rom.specs.Bytes.{byteAt}
+use Rattle.rom.specs.Bytes.{byteAt, Bytes}
 use Rattle.rom.proofs.Truth.{and-true}
-use Rattle.sheet.specs.Lists.{Bytes, wordBytes, allZero, padded}
+use Rattle.rom.specs.Store.{wordBytes}
+use Rattle.sheet.specs.Lists.{allZero, padded}
 
 -- ## Words
 
@@ -63,7 +64,8 @@ spell k (suc n) s = byteAt s k ∷ spell (suc k) n s
 pub spelled : (k n : ℕ) (s : List ℕ) → k + n ≤ length s → take n (drop k s) ≡ spell k n s
 unfolding spell
 spelled k zero s h = refl
-spelled k (suc n) s h = ap (take (suc n)) (drop-cons s k 0 (omega arith)) ∙ ap (λ (l : List ℕ). byteAt s k ∷ l) (spelled (suc k) n s (omega arith))
+spelled k (suc n) s h =
+    ap (take (suc n)) (drop-cons s k 0 (omega arith)) ∙ ap (λ (l : List ℕ). byteAt s k ∷ l) (spelled (suc k) n s (omega arith))
 
 pub spelled-whole : (n : ℕ) (s : List ℕ) → length s ≡ n → s ≡ spell 0 n s
 spelled-whole n s h = sym (take-all n s (omega arith)) ∙ spelled 0 n s (omega arith)

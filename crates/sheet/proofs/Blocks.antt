@@ -8,7 +8,7 @@ use lib.ListN.{length, take, drop, length-append, length-take, length-drop, List
 use lib.Seq.{take-at, drop-at, take-add, take-append-seam, length-take-le, getD-take}
 use lib.Dec.{eqb, leb, ltb, lit<}
 use borrow.Author.Tests.{eqb-true, eqb-false, leb-true, leb-false, ltb-false, eq-eqb, ne-eqb, lt-leb, le-ltb, not-false}
-use Rattle.rom.specs.Bytes.{pick, byteAt, bit}
+use Rattle.rom.specs.Bytes.{pick, byteAt, bit, Bytes}
 use Rattle.rom.specs.Refusal.{firstMet}
 use Rattle.rom.proofs.First.{none-here}
 use Rattle.rom.proofs.Truth.{true-false, or-false}
@@ -17,10 +17,9 @@ use Rattle.block.specs.Block.{isExtended, lengthOf, siaSize, sizeOf, kindOf, ca
 use Rattle.block.proofs.Whole.{Form, extended-form, compact-form, form-21041, size-positive}
 use Rattle.leaf.specs.Leaf.{cut, blockCauses}
 use Rattle.leaf.proofs.Cuts.{first-accepted}
-use Rattle.sheet.specs.Lists.{Bytes}
 use Rattle.sheet.specs.Record.{Entry}
 use Rattle.sheet.specs.Sheet.{bodyBytes}
-use Rattle.sheet.specs.Image.{isWhole, openingOf, encode, encodes, openingLength, bodyOf, entryOf, sizes}
+use Rattle.sheet.specs.Image.{isWhole, openingOf, encode, encodes, openingLength, bodyOf, entryFrom, sizes}
 use Rattle.sheet.specs.Write.{isOtherFamily, isBadBody, isBad, anyBad}
 use Rattle.sheet.proofs.Basics.{bytes-drop}
 
@@ -34,11 +33,30 @@ pub data Good (row : ℕ) (e : Entry) : Type 0 where
 pub so-good : (row : ℕ) (e : Entry) → Good row e → isBad row e ≡ false
 unfolding isBad isOtherFamily isBadBody pick
 so-good row e (good-compact k c l b) =
-    simp (le-ltb 257 (e .kind) (omega arith), ne-eqb row 0 c, eq-eqb (e .kind) 256 k, ne-eqb (e .kind) 257 (omega arith), eq-eqb (length (e .body)) 4 l, lt-leb 128 (byteAt (e .body) 0) b)
+    simp (
+      le-ltb 257 (e .kind) (omega arith),
+      ne-eqb row 0 c,
+      eq-eqb (e .kind) 256 k,
+      ne-eqb (e .kind) 257 (omega arith),
+      eq-eqb (length (e .body)) 4 l,
+      lt-leb 128 (byteAt (e .body) 0) b,
+    )
 so-good row e (good-21041 k c l) =
-    simp (le-ltb 257 (e .kind) (omega arith), eq-eqb row 0 c, ne-eqb (e .kind) 256 (omega arith), eq-eqb (e .kind) 257 k, eq-eqb (length (e .body)) (siaSize (byteAt (e .body) 0)) l)
+    simp (
+      le-ltb 257 (e .kind) (omega arith),
+      eq-eqb row 0 c,
+      ne-eqb (e .kind) 256 (omega arith),
+      eq-eqb (e .kind) 257 k,
+      eq-eqb (length (e .body)) (siaSize (byteAt (e .body) 0)) l,
+    )
 so-good row e (good-extended k c l) =
-    simp (le-ltb 257 (e .kind) (omega arith), ne-eqb row 0 c, ne-eqb (e .kind) 256 (omega arith), ne-eqb (e .kind) 257 (omega arith), le-ltb 126 (length (e .body)) l)
+    simp (
+      le-ltb 257 (e .kind) (omega arith),
+      ne-eqb row 0 c,
+      ne-eqb (e .kind) 256 (omega arith),
+      ne-eqb (e .kind) 257 (omega arith),
+      le-ltb 126 (length (e .body)) l,
+    )
 
 pub good-so : (row : ℕ) (e : Entry) → isBad row e ≡ false → Good row e
 unfolding isBad isOtherFamily isBadBody pick
@@ -49,13 +67,15 @@ good-so row e h =
   where
     go : (r : Bool) → eqb row 0 ≡ r → (a : Bool) → eqb (e .kind) 256 ≡ a → (b : Bool) → eqb (e .kind) 257 ≡ b → e .kind ≤ 257
         → pick r (not b) b ≡ false
-        → pick a (not (eqb (length (e .body)) 4) || leb 128 (byteAt (e .body) 0)) (pick b (not (eqb (length (e .body)) (siaSize (byteAt (e .body) 0)))) (ltb 126 (length (e .body)))) ≡ false
+        → pick a (not (eqb (length (e .body)) 4) || leb 128 (byteAt (e .body) 0))
+        (pick b (not (eqb (length (e .body)) (siaSize (byteAt (e .body) 0)))) (ltb 126 (length (e .body)))) ≡ false
         → Good row e
     go true er true ea true eb m f g = absurd (omega (arith, eqb-true (e .kind) 256 ea, eqb-true (e .kind) 257 eb))
     go false er true ea true eb m f g = absurd (omega (arith, eqb-true (e .kind) 256 ea, eqb-true (e .kind) 257 eb))
     go true er false ea true eb m f g = good-21041 (eqb-true _ _ eb) (eqb-true _ _ er) (eqb-true _ _ (not-false _ g))
     go false er true ea false eb m f g =
-        let y = or-false _ _ g in good-compact (eqb-true _ _ ea) (eqb-false _ _ er) (eqb-true _ _ (not-false _ (y .0))) (leb-false _ _ (y .1))
+        let y = or-false _ _ g in
+        good-compact (eqb-true _ _ ea) (eqb-false _ _ er) (eqb-true _ _ (not-false _ (y .0))) (leb-false _ _ (y .1))
     go false er false ea false eb m f g =
         let x = eqb-false (e .kind) 256 ea in
         let y = eqb-false (e .kind) 257 eb in
@@ -104,7 +124,8 @@ first-of : (b r : List ℕ) → 0 < length b → byteAt (b ++ r) 0 ≡ byteAt b 
 first-of b r h = List·getD-append b r 0 0 h
 
 -- a form without an opening: the body is the whole block
-cut-whole : (row : ℕ) (e : Entry) (r : List ℕ) (size : ℕ) → Form row (e .body ++ r) false (e .kind) size → openingOf e ≡ [] → size ≡ length (e .body) → CutAs row (encode e ++ r) e
+cut-whole : (row : ℕ) (e : Entry) (r : List ℕ) (size : ℕ) → Form row (e .body ++ r) false (e .kind) size → openingOf e ≡ []
+    → size ≡ length (e .body) → CutAs row (encode e ++ r) e
 cut-whole row e r size f o l =
     rw o
     (record {
@@ -134,12 +155,15 @@ cut-one row e r (good-21041 k c l) =
 cut-one row e r (good-extended k c l) =
     let o = opening-extended e k in
     let f = extended-form row ((128 + (1 + length (e .body))) ∷ e .kind ∷ (e .body ++ r)) c (omega arith) in
-    let z : 1 + lengthOf ((128 + (1 + length (e .body))) ∷ e .kind ∷ (e .body ++ r)) ≡ suc (suc (length (e .body))) = unfold lengthOf in omega arith in
+    let z : 1 + lengthOf ((128 + (1 + length (e .body))) ∷ e .kind ∷ (e .body ++ r)) ≡ suc (suc (length (e .body)))
+    = unfold lengthOf in omega arith in
     rw o
     (record {
       size = f .is-size ∙ z ∙ ap (λ (x : List ℕ). length (x ++ e .body)) (sym o);
       kind = f .is-kind;
-      body = extended-body f ∙ ap (λ (m : ℕ). drop 2 (take m ((128 + (1 + length (e .body))) ∷ e .kind ∷ (e .body ++ r)))) z ∙ take-append-seam (e .body) r;
+      body =
+          extended-body f ∙ ap (λ (m : ℕ). drop 2 (take m ((128 + (1 + length (e .body))) ∷ e .kind ∷ (e .body ++ r)))) z
+          ∙ take-append-seam (e .body) r;
     })
 
 -- ## The encoding of one cut
@@ -147,8 +171,8 @@ cut-one row e r (good-extended k c l) =
 -- what acceptance says of the block that starts s
 pub record Whole (row : ℕ) (s : List ℕ) : Type 0 where
   pub fits : sizeOf row s ≤ length s
-  pub good : isBad row (entryOf row s) ≡ false
-  pub back : encode (entryOf row s) ≡ take (sizeOf row s) s
+  pub good : isBad row (entryFrom row s) ≡ false
+  pub back : encode (entryFrom row s) ≡ take (sizeOf row s) s
 
 first-take : (n : ℕ) (s : List ℕ) → 0 < n → byteAt (take n s) 0 ≡ byteAt s 0
 first-take n s h = getD-take n s 0 0 h
@@ -163,8 +187,10 @@ module _ (row : ℕ) (s : List ℕ) (fits : sizeOf row s ≤ length s) where
       let first : byteAt (bodyOf row s) 0 ≡ byteAt s 0 = ap (λ (x : List ℕ). byteAt x 0) body ∙ first-take 4 s (omega arith) in
       record {
         fits = fits;
-        good = so-good row (entryOf row s) (good-compact (f .is-kind) c l (omega (arith, first)));
-        back = ap (λ (x : List ℕ). x ++ bodyOf row s) (opening-compact (entryOf row s) (f .is-kind)) ∙ body ∙ ap (λ (x : ℕ). take x s) (sym n);
+        good = so-good row (entryFrom row s) (good-compact (f .is-kind) c l (omega (arith, first)));
+        back =
+            ap (λ (x : List ℕ). x ++ bodyOf row s) (opening-compact (entryFrom row s) (f .is-kind)) ∙ body
+            ∙ ap (λ (x : ℕ). take x s) (sym n);
       }
 
   whole-21041 : row ≡ row21041 → Whole row s
@@ -174,14 +200,17 @@ module _ (row : ℕ) (s : List ℕ) (fits : sizeOf row s ≤ length s) where
       let body = whole-body f in
       let some = sia-some (byteAt s 0) in
       let first : byteAt (bodyOf row s) 0 ≡ byteAt s 0 = ap (λ (x : List ℕ). byteAt x 0) body ∙ first-take _ s some in
-      let l : length (bodyOf row s) ≡ siaSize (byteAt (bodyOf row s) 0) = ap length body ∙ length-take-le _ s (omega (arith, n)) ∙ ap siaSize (sym first) in
+      let l : length (bodyOf row s) ≡ siaSize (byteAt (bodyOf row s) 0)
+      = ap length body ∙ length-take-le _ s (omega (arith, n)) ∙ ap siaSize (sym first) in
       record {
         fits = fits;
-        good = so-good row (entryOf row s) (good-21041 (f .is-kind) c l);
-        back = ap (λ (x : List ℕ). x ++ bodyOf row s) (opening-21041 (entryOf row s) (f .is-kind)) ∙ body ∙ ap (λ (x : ℕ). take x s) (sym n);
+        good = so-good row (entryFrom row s) (good-21041 (f .is-kind) c l);
+        back =
+            ap (λ (x : List ℕ). x ++ bodyOf row s) (opening-21041 (entryFrom row s) (f .is-kind)) ∙ body ∙ ap (λ (x : ℕ). take x s) (sym n);
       }
 
-whole-extended : (row : ℕ) (s : List ℕ) → Bytes s → sizeOf row s ≤ length s → (row ≡ row21041 → ⊥) → 128 ≤ byteAt s 0 → (byteAt s 0 % 128 ≡ 0 → ⊥) → Whole row s
+whole-extended : (row : ℕ) (s : List ℕ) → Bytes s → sizeOf row s ≤ length s → (row ≡ row21041 → ⊥) → 128 ≤ byteAt s 0
+    → (byteAt s 0 % 128 ≡ 0 → ⊥) → Whole row s
 unfolding lengthOf
 whole-extended row [] by fits c b z = absurd (omega arith)
 whole-extended row (x ∷ []) by fits c b z =
@@ -192,14 +221,16 @@ whole-extended row (x ∷ y ∷ s) by fits c b z =
     let n : sizeOf row (x ∷ y ∷ s) ≡ suc (suc (x % 128 - 1)) = f .is-size ∙ omega (arith, z) in
     let k = f .is-kind in
     let small : kindOf row (x ∷ y ∷ s) < 256 = rw k (by 1) in
-    let body : bodyOf row (x ∷ y ∷ s) ≡ take (x % 128 - 1) s = extended-body f ∙ ap (λ (m : ℕ). drop 2 (take m (x ∷ y ∷ s))) (sym (f .is-size) ∙ n) in
+    let body : bodyOf row (x ∷ y ∷ s) ≡ take (x % 128 - 1) s
+    = extended-body f ∙ ap (λ (m : ℕ). drop 2 (take m (x ∷ y ∷ s))) (sym (f .is-size) ∙ n) in
     let l : length (bodyOf row (x ∷ y ∷ s)) ≡ x % 128 - 1 = ap length body ∙ length-take-le (x % 128 - 1) s (omega (arith, n)) in
     let first : 128 + (1 + length (bodyOf row (x ∷ y ∷ s))) ≡ x = omega (arith, z, l) in
     record {
       fits = fits;
-      good = so-good row (entryOf row (x ∷ y ∷ s)) (good-extended small c (omega (arith, l)));
-      back = ap (λ (w : List ℕ). w ++ bodyOf row (x ∷ y ∷ s)) (opening-extended (entryOf row (x ∷ y ∷ s)) small)
-          ∙ ap₂ (λ (u v : ℕ). u ∷ v ∷ bodyOf row (x ∷ y ∷ s)) first k ∙ ap (λ (w : List ℕ). x ∷ y ∷ w) body ∙ ap (λ (m : ℕ). take m (x ∷ y ∷ s)) (sym n);
+      good = so-good row (entryFrom row (x ∷ y ∷ s)) (good-extended small c (omega (arith, l)));
+      back = ap (λ (w : List ℕ). w ++ bodyOf row (x ∷ y ∷ s)) (opening-extended (entryFrom row (x ∷ y ∷ s)) small)
+          ∙ ap₂ (λ (u v : ℕ). u ∷ v ∷ bodyOf row (x ∷ y ∷ s)) first k ∙ ap (λ (w : List ℕ). x ∷ y ∷ w) body
+          ∙ ap (λ (m : ℕ). take m (x ∷ y ∷ s)) (sym n);
     }
 
 pub whole : (row level : ℕ) (s : List ℕ) → Bytes s → refusalOf row level s ≡ 0 → Whole row s
@@ -209,19 +240,21 @@ whole row level s by h =
     let b = none-here _ _ (lit< tt) (a .1) in
     go (eqb row 0) refl (leb 128 (byteAt s 0)) refl (ltb-false _ _ (a .0)) (or-false _ _ (b .0) .0)
   where
-    go : (r : Bool) → eqb row 0 ≡ r → (t : Bool) → leb 128 (byteAt s 0) ≡ t → sizeOf row s ≤ length s → ((not r && t) && eqb (byteAt s 0 % 128) 0) ≡ false → Whole row s
+    go : (r : Bool) → eqb row 0 ≡ r → (t : Bool) → leb 128 (byteAt s 0) ≡ t → sizeOf row s ≤ length s
+        → ((not r && t) && eqb (byteAt s 0 % 128) 0) ≡ false → Whole row s
     go true er t et f z = whole-21041 row s f (eqb-true _ _ er)
     go false er true et f z = whole-extended row s by f (eqb-false _ _ er) (leb-true _ _ et) (eqb-false _ _ z)
     go false er false et f z = whole-compact row s f (eqb-false _ _ er) (leb-false _ _ et)
 
 -- ## Many blocks
 
-pub same-entry : (row : ℕ) (s : List ℕ) (e : Entry) → CutAs row s e → entryOf row s ≡ e
+pub same-entry : (row : ℕ) (s : List ℕ) (e : Entry) → CutAs row s e → entryFrom row s ≡ e
 same-entry row s e c = λ i. record { kind = c .kind i; body = c .body i }
 
 -- the cut of encodings gives the entries back
 pub cut-encodes : (row : ℕ) (es : List Entry) (r : List ℕ) → anyBad row es ≡ false
-    → (map (entryOf row) (cut row (length es) (encodes es ++ r)) ≡ es) × (sizes row (cut row (length es) (encodes es ++ r)) ≡ length (encodes es))
+    → (map (entryFrom row) (cut row (length es) (encodes es ++ r)) ≡ es)
+    × (sizes row (cut row (length es) (encodes es ++ r)) ≡ length (encodes es))
 unfolding cut sizes encodes anyBad
 cut-encodes row [] r h = (refl, refl)
 cut-encodes row (e ∷ es) r h =
@@ -235,7 +268,7 @@ cut-encodes row (e ∷ es) r h =
       ap₂ (λ (x y : ℕ). x + y) (c .size) (ih .1) ∙ sym (length-append (encode e) (encodes es)),
     )
 
-pub entries-length : (row n : ℕ) (s : List ℕ) → length (map (entryOf row) (cut row n s)) ≡ n
+pub entries-length : (row n : ℕ) (s : List ℕ) → length (map (entryFrom row) (cut row n s)) ≡ n
 unfolding cut
 entries-length row zero s = refl
 entries-length row (suc n) s = ap suc (entries-length row n (drop (sizeOf row s) s))
@@ -250,17 +283,22 @@ body-short : (row : ℕ) (s : List ℕ) → length (bodyOf row s) ≤ sizeOf row
 unfolding bodyOf
 body-short row s = omega (arith, length-drop (openingLength row s) (take (sizeOf row s) s), length-take (sizeOf row s) s)
 
-pub bodies-short : (row n : ℕ) (s : List ℕ) → length (bodyBytes (map (entryOf row) (cut row n s))) ≤ sizes row (cut row n s)
+pub bodies-short : (row n : ℕ) (s : List ℕ) → length (bodyBytes (map (entryFrom row) (cut row n s))) ≤ sizes row (cut row n s)
 unfolding cut sizes bodyBytes
 bodies-short row zero s = omega arith
 bodies-short row (suc n) s =
-    omega (arith, length-append (bodyOf row s) (bodyBytes (map (entryOf row) (cut row n (drop (sizeOf row s) s)))), body-short row s, bodies-short row n (drop (sizeOf row s) s))
+    omega (
+      arith,
+      length-append (bodyOf row s) (bodyBytes (map (entryFrom row) (cut row n (drop (sizeOf row s) s)))),
+      body-short row s,
+      bodies-short row n (drop (sizeOf row s) s),
+    )
 
 -- the encodings of accepted blocks are the bytes that were cut
 pub record Encoded (row n : ℕ) (s : List ℕ) : Type 0 where
   pub fits : sizes row (cut row n s) ≤ length s
-  pub good : anyBad row (map (entryOf row) (cut row n s)) ≡ false
-  pub back : encodes (map (entryOf row) (cut row n s)) ≡ take (sizes row (cut row n s)) s
+  pub good : anyBad row (map (entryFrom row) (cut row n s)) ≡ false
+  pub back : encodes (map (entryFrom row) (cut row n s)) ≡ take (sizes row (cut row n s)) s
 
 pub encodes-cut : (row level n : ℕ) (s : List ℕ) → Bytes s → firstMet (blockCauses row level (cut row n s)) ≡ 0 → Encoded row n s
 unfolding cut sizes encodes anyBad

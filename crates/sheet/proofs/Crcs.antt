@@ -7,9 +7,9 @@ use lib.ListN.{length, take}
 use lib.Seq.{take-take, take-append-le}
 use Rattle.rom.specs.Geometry.{checkedLength}
 use Rattle.rom.specs.Bytes.{wordAt}
+use Rattle.rom.specs.Store.{wordBytes}
 use Rattle.crc.specs.Crc.{sromCrc, idCrc, idWords, word}
 use Rattle.sheet.specs.Record.{Plain}
-use Rattle.sheet.specs.Lists.{wordBytes}
 use Rattle.sheet.specs.Image.{frontWith}
 use Rattle.sheet.proofs.Basics.{spell}
 use Rattle.sheet.proofs.Sheets.{Sized, spelledOut, spelled-out}

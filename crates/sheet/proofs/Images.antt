@@ -10,22 +10,25 @@ use lib.Seq.{take-at, drop-at, take-take, take-add, drop-drop, getD-drop, drop-c
 use lib.Dec.{eqb, ltb, lit<}
 use borrow.Author.Tests.{eqb-true, eq-eqb, not-false}
 use Rattle.rom.specs.Geometry.{leavesEnd, checkedLength, imageLength, mostControllers}
-use Rattle.rom.specs.Bytes.{pick, byteAt, wordAt, isIn}
+use Rattle.rom.specs.Bytes.{pick, byteAt, wordAt, isIn, Bytes}
+use Rattle.rom.specs.Store.{wordBytes}
 use Rattle.rom.specs.Refusal.{firstMet}
 use Rattle.rom.proofs.First.{none-here, both-accepted}
 use Rattle.rom.proofs.Truth.{true-false, and-true, or-false}
 use Rattle.crc.specs.Crc.{sromCrc, idCrc, idWords, word}
 use Rattle.block.specs.Format.{chips, rowOf, row21140, newestLevel}
-use Rattle.header.specs.Image.{controllerCount, reservedAt, leafAt, headerLength, controlByte, blocksAt, blockCount, restFrom, badCount, imageCauses, argumentCauses}
+use Rattle.header.specs.Image.{controllerCount, reservedAt, leafAt, headerLength, controlByte, blocksAt, blockCount, restFrom, badCount}
+use Rattle.header.specs.Image.{imageCauses, argumentCauses}
 use Rattle.header.specs.Header.{leafFor, startFor, countFor, headerCauses}
 use Rattle.header.proofs.Headers.{image-numbered, argument-numbered, header-numbered}
 use Rattle.leaf.specs.Leaf.{cut, blockCauses}
 use Rattle.leaf.proofs.Cuts.{accepted-blocks}
 use Rattle.reader.specs.Reading.{blocksFor, leafCausesFor, judgeCauses}
-use Rattle.sheet.specs.Lists.{Bytes, wordBytes, allZero, padded}
+use Rattle.sheet.specs.Lists.{allZero, padded}
 use Rattle.sheet.specs.Record.{Plain}
 use Rattle.sheet.specs.Sheet.{sheetOf}
-use Rattle.sheet.specs.Image.{leafStart, frontWith, frontOf, encodes, controlBytes, leafHeadOf, leafOf, coveredOf, imageOf, newest, entryOf, imageFrom, sizes, leafEnd, upToLeavesEnd, isTidy}
+use Rattle.sheet.specs.Image.{leafStart, frontWith, frontOf, encodes, controlBytes, leafHeadOf, leafOf, coveredOf, imageOf, newest}
+use Rattle.sheet.specs.Image.{entryFrom, imageFrom, sizes, leafEnd, upToLeavesEnd, isTidy}
 use Rattle.sheet.specs.Write.{anyBad, strayControl, cannotHold}
 use Rattle.sheet.proofs.Basics.{word-of, word-back, zeros, zeros-all, bytes-drop, bytes-take, spell, spelled}
 use Rattle.sheet.proofs.Blocks.{cut-encodes, entries-length, blocks-few, bodies-short, Encoded, encodes-cut}
@@ -47,7 +50,8 @@ record Front (p : Plain) (s rest : List ℕ) : Type 0 where
 
 spelled-front : (p : Plain) (c : ℕ) (r : List ℕ) → Front (spelledOut p) (frontWith c (spelledOut p) ++ r) r
 unfolding frontWith spelledOut spell wordBytes wordAt
-spelled-front p c r = record { id = refl; lastId = refl; version = refl; count = refl; address = refl; device = refl; leaf = refl; behind = refl }
+spelled-front p c r =
+    record { id = refl; lastId = refl; version = refl; count = refl; address = refl; device = refl; leaf = refl; behind = refl }
 
 front-says : (p : Plain) (c : ℕ) (r : List ℕ) → Sized p → Front p (frontWith c p ++ r) r
 front-says p c r z = rw (spelled-out p z) (spelled-front p c r)
@@ -105,12 +109,14 @@ module _ (chip : ℕ) (s : List ℕ) (leaf : wordAt s 27 ≡ leafStart) where
   unfolding upToLeavesEnd
   up-to k = let n : leavesEnd - (leafStart + k) ≡ 94 - k = omega arith in ap₂ take n (drop-behind s k)
 
-  rest-is : restFrom s (startFor s (newest chip)) ≡ take (94 - headerLength (rowOf chip)) (drop (headerLength (rowOf chip)) (drop leafStart s))
+  rest-is : restFrom s (startFor s (newest chip))
+      ≡ take (94 - headerLength (rowOf chip)) (drop (headerLength (rowOf chip)) (drop leafStart s))
   unfolding restFrom upToLeavesEnd
   rest-is = ap (λ (n : ℕ). take (leavesEnd - n) (drop n s)) start-is ∙ up-to (headerLength (rowOf chip))
 
   blocks-are : blocksFor s (newest chip)
-      ≡ cut (rowOf chip) (byteAt (drop leafStart s) (headerLength (rowOf chip) - 1)) (take (94 - headerLength (rowOf chip)) (drop (headerLength (rowOf chip)) (drop leafStart s)))
+      ≡ cut (rowOf chip) (byteAt (drop leafStart s) (headerLength (rowOf chip) - 1))
+      (take (94 - headerLength (rowOf chip)) (drop (headerLength (rowOf chip)) (drop leafStart s)))
   unfolding newest
   blocks-are = ap₂ (cut (rowOf chip)) count-is rest-is
 
@@ -125,7 +131,8 @@ module _ (p : Plain) where
   unfolding leafHeadOf controlBytes headerLength wordBytes pick
   leaf-head-length = go (eqb (rowOf (p .chip)) row21140)
     where
-      go : (t : Bool) → length ((p .connection % 256) ∷ (p .connection / 256) ∷ (pick t (p .control ∷ []) [] ++ length (p .entries) ∷ [])) ≡ pick t 4 3
+      go : (t : Bool) → length ((p .connection % 256) ∷ (p .connection / 256) ∷ (pick t (p .control ∷ []) [] ++ length (p .entries) ∷ []))
+          ≡ pick t 4 3
       go true = refl
       go false = refl
 
@@ -137,11 +144,13 @@ module _ (p : Plain) where
   unfolding leafHeadOf wordBytes wordAt
   head-connection r = word-of (p .connection)
 
-  head-control : (r : List ℕ) → strayControl (rowOf (p .chip)) (p .control) ≡ false → pick (eqb (rowOf (p .chip)) row21140) (byteAt (leafHeadOf p ++ r) 2) 0 ≡ p .control
+  head-control : (r : List ℕ) → strayControl (rowOf (p .chip)) (p .control) ≡ false
+      → pick (eqb (rowOf (p .chip)) row21140) (byteAt (leafHeadOf p ++ r) 2) 0 ≡ p .control
   unfolding leafHeadOf controlBytes wordBytes strayControl pick
   head-control r h = go (eqb (rowOf (p .chip)) row21140) h
     where
-      go : (t : Bool) → (not t && not (eqb (p .control) 0)) ≡ false → pick t (byteAt ((pick t (p .control ∷ []) [] ++ length (p .entries) ∷ []) ++ r) 0) 0 ≡ p .control
+      go : (t : Bool) → (not t && not (eqb (p .control) 0)) ≡ false
+          → pick t (byteAt ((pick t (p .control ∷ []) [] ++ length (p .entries) ∷ []) ++ r) 0) 0 ≡ p .control
       go true e = refl
       go false e = sym (eqb-true _ _ (not-false _ e))
 
@@ -149,7 +158,8 @@ module _ (p : Plain) where
   unfolding leafHeadOf controlBytes headerLength wordBytes pick
   head-count r = go (eqb (rowOf (p .chip)) row21140)
     where
-      go : (t : Bool) → byteAt ((p .connection % 256) ∷ (p .connection / 256) ∷ ((pick t (p .control ∷ []) [] ++ length (p .entries) ∷ []) ++ r)) (pick t 4 3 - 1) ≡ length (p .entries)
+      go : (t : Bool) → byteAt ((p .connection % 256) ∷ (p .connection / 256)
+          ∷ ((pick t (p .control ∷ []) [] ++ length (p .entries) ∷ []) ++ r)) (pick t 4 3 - 1) ≡ length (p .entries)
       go true = refl
       go false = refl
 
@@ -183,7 +193,8 @@ module _ (p : Plain) (z : Sized p) (fits : length (leafOf p) ≤ 94) where
   image-blocks : blocksFor (imageOf p) (newest (p .chip)) ≡ cut (rowOf (p .chip)) (length (p .entries)) (encodes (p .entries) ++ gap p)
   image-blocks =
       let f = front-of in
-      let r : take (94 - headerLength (rowOf (p .chip))) (drop (headerLength (rowOf (p .chip))) (drop leafStart (imageOf p))) ≡ encodes (p .entries) ++ gap p
+      let r : take (94 - headerLength (rowOf (p .chip))) (drop (headerLength (rowOf (p .chip))) (drop leafStart (imageOf p)))
+      ≡ encodes (p .entries) ++ gap p
       = ap (λ (l : List ℕ). take (94 - headerLength (rowOf (p .chip))) (drop (headerLength (rowOf (p .chip))) l)) (f .behind)
       ∙ ap (take (94 - headerLength (rowOf (p .chip)))) (drop-at (leafHeadOf p) _ _ (leaf-head-length p))
       ∙ take-at (encodes (p .entries) ++ gap p) (after p) _ blocks-length in
@@ -196,7 +207,8 @@ module _ (p : Plain) (z : Sized p) (fits : length (leafOf p) ≤ 94) where
       let l : length (leafHeadOf p ++ (encodes (p .entries) ++ gap p)) ≡ 94
       = length-append (leafHeadOf p) _ ∙ omega (arith, leaf-head-length p, blocks-length, leaf-length p, fits) in
       ap (take 2)
-      (drop-behind (imageOf p) 94 ∙ ap (drop 94) (front-of .behind ∙ sym (append-assoc (leafHeadOf p) (encodes (p .entries) ++ gap p) (after p)))
+      (drop-behind (imageOf p) 94 ∙ ap (drop 94)
+      (front-of .behind ∙ sym (append-assoc (leafHeadOf p) (encodes (p .entries) ++ gap p) (after p)))
       ∙ drop-at (leafHeadOf p ++ (encodes (p .entries) ++ gap p)) (after p) 94 l)
       ∙ take-at (p .maker) _ 2 (z .maker)
 
@@ -218,7 +230,7 @@ module _ (p : Plain) (z : Sized p) (fits : length (leafOf p) ≤ 94) where
         let t = control-is (p .chip) (imageOf p) (f .leaf)
         ∙ ap (λ (l : List ℕ). pick (eqb (rowOf (p .chip)) row21140) (byteAt l 2) 0) (f .behind) ∙ head-control p _ holds-control in
         let m = image-maker in
-        let e = ap (map (entryOf (rowOf (p .chip)))) image-blocks ∙ cut-encodes (rowOf (p .chip)) (p .entries) (gap p) holds-entries .0 in
+        let e = ap (map (entryFrom (rowOf (p .chip)))) image-blocks ∙ cut-encodes (rowOf (p .chip)) (p .entries) (gap p) holds-entries .0 in
         λ i. record {
           id = f .id i;
           lastId = f .lastId i;
@@ -241,7 +253,8 @@ module _ (p : Plain) (z : Sized p) (fits : length (leafOf p) ≤ 94) where
         = ap (sizes (rowOf (p .chip))) image-blocks ∙ cut-encodes (rowOf (p .chip)) (p .entries) (gap p) holds-entries .1 in
         let end : leafEnd (p .chip) (imageOf p) ≡ leafStart + length (leafOf p)
         = omega (arith, end-is (p .chip) (imageOf p) (f .leaf), n, leaf-length p) in
-        let behind : drop leafStart (imageOf p) ≡ leafOf p ++ (gap p ++ after p) = f .behind ∙ (unfold leafOf in regroup (leafHeadOf p) (encodes (p .entries)) (gap p) (after p)) in
+        let behind : drop leafStart (imageOf p) ≡ leafOf p ++ (gap p ++ after p)
+        = f .behind ∙ (unfold leafOf in regroup (leafHeadOf p) (encodes (p .entries)) (gap p) (after p)) in
         let none : upToLeavesEnd (leafEnd (p .chip) (imageOf p)) (imageOf p) ≡ gap p
         = ap (λ (k : ℕ). upToLeavesEnd k (imageOf p)) end ∙ up-to (p .chip) (imageOf p) (f .leaf) (length (leafOf p))
         ∙ ap (λ (l : List ℕ). take (94 - length (leafOf p)) (drop (length (leafOf p)) l)) behind
@@ -307,16 +320,19 @@ tidy chip s h =
 two-left : (s : List ℕ) (n : ℕ) → length s ≡ suc (suc n) → drop n s ≡ byteAt s n ∷ byteAt s (suc n) ∷ []
 two-left s n l =
     drop-cons s n 0 (omega arith)
-    ∙ ap (λ (r : List ℕ). byteAt s n ∷ r) (drop-cons s (suc n) 0 (omega arith) ∙ ap (λ (r : List ℕ). byteAt s (suc n) ∷ r) (drop-of-length-le s {i = suc (suc n)} (omega arith)))
+    ∙ ap (λ (r : List ℕ). byteAt s n ∷ r)
+    (drop-cons s (suc n) 0 (omega arith) ∙ ap (λ (r : List ℕ). byteAt s (suc n) ∷ r) (drop-of-length-le s {i = suc (suc n)} (omega arith)))
 
 -- a leaf's head, spelled out
 spell-head : (row : ℕ) (r : List ℕ) → byteAt r 0 < 256 → 4 ≤ length r
-    → wordBytes (wordAt r 0) ++ (pick (eqb row row21140) (pick (eqb row row21140) (byteAt r 2) 0 ∷ []) [] ++ byteAt r (headerLength row - 1) ∷ [])
+    → wordBytes (wordAt r 0) ++ (pick (eqb row row21140) (pick (eqb row row21140) (byteAt r 2) 0 ∷ []) []
+    ++ byteAt r (headerLength row - 1) ∷ [])
     ≡ take (headerLength row) r
 unfolding headerLength pick spell wordAt
 spell-head row r low h = rw (word-back (byteAt r 0) (byteAt r 1) low) (go (eqb row row21140))
   where
-    go : (t : Bool) → byteAt r 0 ∷ byteAt r 1 ∷ (pick t (pick t (byteAt r 2) 0 ∷ []) [] ++ byteAt r (pick t 4 3 - 1) ∷ []) ≡ take (pick t 4 3) r
+    go : (t : Bool) → byteAt r 0 ∷ byteAt r 1 ∷ (pick t (pick t (byteAt r 2) 0 ∷ []) [] ++ byteAt r (pick t 4 3 - 1) ∷ [])
+        ≡ take (pick t 4 3) r
     go true = sym (spelled 0 4 r (omega arith))
     go false = sym (spelled 0 3 r (omega arith))
 
@@ -346,7 +362,9 @@ module _ (chip : ℕ) (s : List ℕ) (by : Bytes s) (a : Accepted chip s) (t : T
 
   rest-encoded : Encoded (rowOf chip) (byteAt (drop leafStart s) (headerLength (rowOf chip) - 1)) rest
   rest-encoded =
-      encodes-cut (rowOf chip) newestLevel _ rest (bytes-take (94 - headerLength (rowOf chip)) (drop (headerLength (rowOf chip)) (drop leafStart s)) (bytes-drop (headerLength (rowOf chip)) (drop leafStart s) (bytes-drop leafStart s by)))
+      encodes-cut (rowOf chip) newestLevel _ rest
+      (bytes-take (94 - headerLength (rowOf chip)) (drop (headerLength (rowOf chip)) (drop leafStart s))
+      (bytes-drop (headerLength (rowOf chip)) (drop leafStart s) (bytes-drop leafStart s by)))
       (rw (← blocks-are chip s (t .leaf)) (a .blocks))
 
   used-fits : headerLength (rowOf chip) + used ≤ 94
@@ -358,7 +376,8 @@ module _ (chip : ℕ) (s : List ℕ) (by : Bytes s) (a : Accepted chip s) (t : T
   pub means-holds : cannotHold (imageFrom chip s) ≡ false
   unfolding cannotHold strayControl imageFrom controlByte pick
   means-holds =
-      let g : anyBad (rowOf chip) (map (entryOf (rowOf chip)) (blocksFor s (newest chip))) ≡ false = rw (blocks-are chip s (t .leaf)) (rest-encoded .good) in
+      let g : anyBad (rowOf chip) (map (entryFrom (rowOf chip)) (blocksFor s (newest chip))) ≡ false
+      = rw (blocks-are chip s (t .leaf)) (rest-encoded .good) in
       rw g (go (eqb (rowOf chip) row21140))
     where
       go : (t : Bool) → (not t && not (eqb (pick t (byteAt s (leafFor s (newest chip) + 2)) 0) 0)) ≡ false
@@ -368,7 +387,8 @@ module _ (chip : ℕ) (s : List ℕ) (by : Bytes s) (a : Accepted chip s) (t : T
   means-encodes : encodes (imageFrom chip s .entries) ≡ take used (drop (headerLength (rowOf chip)) (drop leafStart s))
   unfolding imageFrom
   means-encodes =
-      let e : encodes (map (entryOf (rowOf chip)) (blocksFor s (newest chip))) ≡ take used rest = rw (blocks-are chip s (t .leaf)) (rest-encoded .back) in
+      let e : encodes (map (entryFrom (rowOf chip)) (blocksFor s (newest chip))) ≡ take used rest
+      = rw (blocks-are chip s (t .leaf)) (rest-encoded .back) in
       e ∙ take-take used (94 - headerLength (rowOf chip)) _ (omega (arith, used-fits))
 
   means-count : length (imageFrom chip s .entries) ≡ byteAt (drop leafStart s) (headerLength (rowOf chip) - 1)
@@ -403,11 +423,15 @@ module _ (chip : ℕ) (s : List ℕ) (by : Bytes s) (a : Accepted chip s) (t : T
   pub means-fits : length (leafOf (imageFrom chip s)) ≤ 94
   means-fits = omega (arith, means-length, used-fits)
 
-  means-gap : take (94 - (headerLength (rowOf chip) + used)) (drop (headerLength (rowOf chip) + used) (drop leafStart s)) ≡ replicate (94 - (headerLength (rowOf chip) + used)) 0
+  means-gap : take (94 - (headerLength (rowOf chip) + used)) (drop (headerLength (rowOf chip) + used) (drop leafStart s))
+      ≡ replicate (94 - (headerLength (rowOf chip) + used)) 0
   means-gap =
-      let e : upToLeavesEnd (leafEnd chip s) s ≡ take (94 - (headerLength (rowOf chip) + used)) (drop (headerLength (rowOf chip) + used) (drop leafStart s))
+      let e : upToLeavesEnd (leafEnd chip s) s
+      ≡ take (94 - (headerLength (rowOf chip) + used)) (drop (headerLength (rowOf chip) + used) (drop leafStart s))
       = ap (λ (n : ℕ). upToLeavesEnd n s) (end-is chip s (t .leaf)) ∙ up-to chip s (t .leaf) (headerLength (rowOf chip) + used) in
-      zeros _ _ (rw (← e) (t .zero)) (length-take-le (94 - (headerLength (rowOf chip) + used)) (drop (headerLength (rowOf chip) + used) (drop leafStart s)) (omega (arith, length-drop (headerLength (rowOf chip) + used) (drop leafStart s), behind-length, used-fits)))
+      zeros _ _ (rw (← e) (t .zero)) (length-take-le (94 - (headerLength (rowOf chip) + used))
+      (drop (headerLength (rowOf chip) + used) (drop leafStart s))
+      (omega (arith, length-drop (headerLength (rowOf chip) + used) (drop leafStart s), behind-length, used-fits)))
 
   means-padded : padded (leavesEnd - leafStart) (leafOf (imageFrom chip s)) ≡ take 94 (drop leafStart s)
   unfolding padded
@@ -444,7 +468,16 @@ module _ (chip : ℕ) (s : List ℕ) (by : Bytes s) (a : Accepted chip s) (t : T
   means-front : frontOf (imageFrom chip s) ≡ take leafStart s
   unfolding frontOf frontWith imageFrom spell wordBytes
   means-front =
-      rw (means-id, spelled 0 16 s (omega (arith, a .long)), spelled 20 6 s (omega (arith, a .long)), spelled 0 30 s (omega (arith, a .long)), t .one, leaf-bytes .0, leaf-bytes .1, reserved-byte) refl
+      rw (
+        means-id,
+        spelled 0 16 s (omega (arith, a .long)),
+        spelled 20 6 s (omega (arith, a .long)),
+        spelled 0 30 s (omega (arith, a .long)),
+        t .one,
+        leaf-bytes .0,
+        leaf-bytes .1,
+        reserved-byte,
+      ) refl
 
   means-covered : coveredOf (imageFrom chip s) ≡ take checkedLength s
   unfolding coveredOf
@@ -460,7 +493,8 @@ module _ (chip : ℕ) (s : List ℕ) (by : Bytes s) (a : Accepted chip s) (t : T
   pub image-back : imageOf (imageFrom chip s) ≡ s
   unfolding imageOf
   image-back =
-      let c : sromCrc (coveredOf (imageFrom chip s)) ≡ byteAt s 126 + 256 * byteAt s 127 = ap sromCrc means-covered ∙ srom-covered s ∙ sym (a .crc) ∙ (unfold wordAt in refl) in
+      let c : sromCrc (coveredOf (imageFrom chip s)) ≡ byteAt s 126 + 256 * byteAt s 127
+      = ap sromCrc means-covered ∙ srom-covered s ∙ sym (a .crc) ∙ (unfold wordAt in refl) in
       ap₂ (λ (x y : List ℕ). x ++ y) means-covered
       (ap wordBytes c ∙ word-back _ _ (by 126) ∙ sym (two-left s 126 (a .long)))
       ∙ take-append-drop checkedLength s

@@ -1,7 +1,7 @@
--- The two returns, each a composition of two of the four laws, and exact refusals. Assumes nothing.
+-- The writer's order, exact refusals, and the two returns, each a composition of two of the four laws. Assumes nothing.
 use Prim.Native.Nat.{ℕ, _+_, _≤_}
 use mathlib.Core.Path.{_≡_, refl, sym, ap, ap₂, _∙_}
-use mathlib.Core.Bool.{true, false}
+use mathlib.Core.Bool.{true, false, not}
 use mathlib.Core.List.{List}
 use native.Mathlib.Omega.{arith}
 use lib.ListN.{length, take}
@@ -9,25 +9,43 @@ use lib.Seq.{take-append-seam}
 use lib.Dec.{lit<}
 use borrow.Author.Tests.{eqb-true, eq-eqb, ne-eqb, ltb-false, le-ltb, not-false}
 use Rattle.rom.specs.Geometry.{imageLength, leavesEnd}
-use Rattle.rom.specs.Bytes.{pick, isIn}
+use Rattle.rom.specs.Bytes.{pick, isIn, Bytes}
 use Rattle.rom.specs.Refusal.{firstMet, Numbered}
 use Rattle.rom.proofs.First.{exact, numbered-append, none-here, after-accepted, both-accepted}
-use Rattle.rom.proofs.Reached.{end, skip, reached}
+use Rattle.rom.proofs.Reached.{reached, end, stop, skip}
 use Rattle.rom.proofs.Truth.{pick-true, pick-false, met-not}
 use Rattle.block.specs.Format.{chips}
 use Rattle.header.specs.Header.{headerCauses}
 use Rattle.header.proofs.Headers.{header-numbered}
 use Rattle.leaf.proofs.Cuts.{leaf-numbered}
 use Rattle.reader.specs.Reading.{leafCausesFor, judgeCauses}
-use Rattle.sheet.specs.Lists.{Bytes, over}
+use Rattle.sheet.specs.Lists.{over}
 use Rattle.sheet.specs.Record.{Plain}
 use Rattle.sheet.specs.Sheet.{sheetOf, chipIn, sheetFrom, isSheet}
 use Rattle.sheet.specs.Image.{leafStart, leafOf, imageOf, newest, imageFrom, isTidy}
 use Rattle.sheet.specs.Write.{cannotHold, recordCauses, writeCauses, writeNumber, written}
 use Rattle.sheet.specs.Make.{sheetFor, makeCauses, makeNumber, makeLength, made}
-use Rattle.sheet.specs.Returns.{SheetReturns, ImageReturns, WrittenIsTidy, SheetFits, ExactRefusals, RefusalsChangeNothing}
+use Rattle.sheet.specs.Claims.{SheetReturns, ImageReturns, WrittenIsTidy, SheetFits, ExactRefusals, WriterOrder}
+use Rattle.sheet.specs.Claims.{RefusalsChangeNothing}
 use Rattle.sheet.proofs.Sheets.{sheet-means, sheet-is, from-sized, sheet-back}
-use Rattle.sheet.proofs.Images.{image-means, image-tidy, accepted, tidy, means-sized, means-holds, means-fits, means-short, image-back}
+use Rattle.sheet.proofs.Images.{image-means, image-tidy, accepted, tidy, means-sized, means-holds, means-fits, means-short}
+use Rattle.sheet.proofs.Images.{image-back}
+
+-- ## The order of the writer's causes
+
+pub writer-order : WriterOrder
+unfolding writeNumber writeCauses recordCauses sheetFrom
+writer-order sheet out = (
+  λ no-sheet. sym (reached (stop (ap not no-sheet))),
+  λ is. (
+    λ other. sym (reached (skip (met-not _ is) (stop (ap not (ne-eqb out imageLength other))))),
+    λ e.
+        let room = met-not _ (eq-eqb out imageLength e) in (
+          λ no-chip. sym (reached (skip (met-not _ is) (skip room (stop (ap not no-chip))))),
+          λ chip held. sym (reached (skip (met-not _ is) (skip room (skip (met-not _ chip) (stop held))))),
+        ),
+  ),
+)
 
 -- ## Every cause has a number
 
@@ -41,7 +59,8 @@ record-numbered p = (lit< tt, (lit< tt, (lit< tt, tt)))
 
 write-numbered : (sheet : List ℕ) (out : ℕ) → Numbered (writeCauses sheet out)
 unfolding writeCauses
-write-numbered sheet out = (lit< tt, (lit< tt, numbered-append (recordCauses (sheetFrom sheet)) _ (record-numbered (sheetFrom sheet)) (judge-numbered _ _)))
+write-numbered sheet out =
+    (lit< tt, (lit< tt, numbered-append (recordCauses (sheetFrom sheet)) _ (record-numbered (sheetFrom sheet)) (judge-numbered _ _)))
 
 make-numbered : (image : List ℕ) (chip room : ℕ) → Numbered (makeCauses image chip room)
 unfolding makeCauses
@@ -82,7 +101,8 @@ writable s out h =
       reads = j .1;
     }
 
-pub record-accepted : (p : Plain) → isIn (p .chip) chips ≡ true → cannotHold p ≡ false → leafStart + length (leafOf p) ≤ leavesEnd → firstMet (recordCauses p) ≡ 0
+pub record-accepted : (p : Plain) → isIn (p .chip) chips ≡ true → cannotHold p ≡ false → leafStart + length (leafOf p) ≤ leavesEnd
+    → firstMet (recordCauses p) ≡ 0
 unfolding recordCauses
 record-accepted p c h f = sym (reached (skip (met-not _ c) (skip h (skip (le-ltb _ _ f) end))))
 
@@ -90,7 +110,8 @@ pub writes : (s : List ℕ) (out : ℕ) → Writable s out → writeNumber s out
 unfolding writeNumber writeCauses firstMet pick
 writes s out w =
     simp (w .is, eq-eqb out imageLength (w .room))
-    (after-accepted (recordCauses (sheetFrom s)) _ (record-numbered (sheetFrom s)) (record-accepted (sheetFrom s) (w .chip) (w .holds) (w .fits)) ∙ w .reads)
+    (after-accepted (recordCauses (sheetFrom s)) _ (record-numbered (sheetFrom s))
+    (record-accepted (sheetFrom s) (w .chip) (w .holds) (w .fits)) ∙ w .reads)
 
 pub write-is : (s out : List ℕ) → writeNumber s (length out) ≡ 0 → written s out ≡ imageOf (sheetFrom s)
 unfolding written
@@ -121,7 +142,8 @@ pub length-is : (s : List ℕ) (chip room : ℕ) → makeNumber s chip room ≡ 
 unfolding makeLength
 length-is s chip room h = pick-true _ _ _ (eq-eqb _ _ h)
 
-pub made-is : (s : List ℕ) (chip : ℕ) (buffer : List ℕ) → makeNumber s chip (length buffer) ≡ 0 → made s chip buffer ≡ over buffer (sheetFor s chip)
+pub made-is : (s : List ℕ) (chip : ℕ) (buffer : List ℕ) → makeNumber s chip (length buffer) ≡ 0
+    → made s chip buffer ≡ over buffer (sheetFor s chip)
 unfolding made
 made-is s chip buffer h = pick-true _ _ _ (eq-eqb _ _ h)
 

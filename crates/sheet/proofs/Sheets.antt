@@ -9,12 +9,14 @@ use lib.ListN.{length, take, drop, length-append, length-drop, take-append-drop}
 use lib.Seq.{take-at, drop-at, take-all, take-append-seam, drop-append-seam, drop-drop, take-add, length-take-le}
 use lib.Dec.{eqb}
 use borrow.Author.Tests.{eqb-true, eq-eqb}
-use Rattle.rom.specs.Bytes.{byteAt, wordAt}
+use Rattle.rom.specs.Bytes.{byteAt, wordAt, Bytes}
 use Rattle.rom.proofs.Truth.{and-true}
-use Rattle.sheet.specs.Lists.{Bytes, wordBytes, sum}
+use Rattle.rom.specs.Store.{wordBytes}
+use Rattle.sheet.specs.Lists.{sum}
 use Rattle.sheet.specs.Layout.{headLength}
 use Rattle.sheet.specs.Record.{Entry, Plain}
-use Rattle.sheet.specs.Sheet.{headOf, kindBytes, sizeBytes, bodyBytes, partsOf, sheetOf, countIn, totalIn, kindsIn, sizesIn, bodiesIn, entriesFrom, sheetFrom, isSheet}
+use Rattle.sheet.specs.Sheet.{headOf, kindBytes, sizeBytes, bodyBytes, partsOf, sheetOf, countIn, totalIn, kindsIn, sizesIn, bodiesIn}
+use Rattle.sheet.specs.Sheet.{entriesFrom, sheetFrom, isSheet}
 use Rattle.sheet.proofs.Basics.{word-of, word-back, bytes-drop, spell, spelled, spelled-whole}
 
 -- ## Records whose parts have their lengths
@@ -57,7 +59,8 @@ spelled-out p z = λ i. record {
 -- ## The three parts of entries
 
 -- each with more behind it, they give the entries back
-pub entries-of : (es : List Entry) (x y z : List ℕ) → entriesFrom (length es) (kindBytes es ++ x) (sizeBytes es ++ y) (bodyBytes es ++ z) ≡ es
+pub entries-of : (es : List Entry) (x y z : List ℕ)
+    → entriesFrom (length es) (kindBytes es ++ x) (sizeBytes es ++ y) (bodyBytes es ++ z) ≡ es
 unfolding entriesFrom kindBytes sizeBytes bodyBytes wordBytes wordAt
 entries-of [] x y z = refl
 entries-of (e ∷ es) x y z =
@@ -100,7 +103,8 @@ unfolding entriesFrom kindBytes sizeBytes bodyBytes sum wordAt
 read zero ks ss bs by k s b = record { count = refl; kinds = refl; sizes = refl; bodies = refl }
 read (suc n) ks [] bs by k s b = absurd (omega arith)
 read (suc n) ks (x ∷ ss) bs by k s b =
-    let ih = read n (drop 2 ks) ss (drop x bs) (bytes-drop 2 ks by) (omega (arith, length-drop 2 ks)) (omega arith) (omega (arith, length-drop x bs)) in
+    let ih = read n (drop 2 ks) ss (drop x bs) (bytes-drop 2 ks by) (omega (arith, length-drop 2 ks)) (omega arith)
+    (omega (arith, length-drop x bs)) in
     record {
       count = ap suc (ih .count);
       kinds = ap₂ (λ (a b : List ℕ). a ++ b) (word-back (byteAt ks 0) (byteAt ks 1) (by 0)) (ih .kinds) ∙ two-kinds n ks k;
@@ -154,14 +158,17 @@ module _ (p : Plain) (z : Sized p) where
   pub sheet-is : isSheet (sheetOf p) ≡ true
   unfolding isSheet
   sheet-is =
-      let n : length (sheetOf p) ≡ headLength + 3 * countIn (sheetOf p) + totalIn (sheetOf p) = omega (arith, sheet-length, at-count, at-total) in
+      let n : length (sheetOf p) ≡ headLength + 3 * countIn (sheetOf p) + totalIn (sheetOf p)
+      = omega (arith, sheet-length, at-count, at-total) in
       let t : totalIn (sheetOf p) ≡ sum (take (countIn (sheetOf p)) (sizesIn (sheetOf p))) =
       at-total ∙ sym (size-sum (p .entries))
-      ∙ ap sum (sym (ap (take (countIn (sheetOf p))) at-sizes ∙ take-at (sizeBytes (p .entries)) _ _ (size-length (p .entries) ∙ sym at-count))) in
+      ∙ ap sum (sym (ap (take (countIn (sheetOf p))) at-sizes
+      ∙ take-at (sizeBytes (p .entries)) _ _ (size-length (p .entries) ∙ sym at-count))) in
       simp (eq-eqb _ _ n, eq-eqb _ _ t)
 
 -- the head of a sheet whose record is spelled out computes
-head-means : (p : Plain) → entriesFrom (countIn (sheetOf (spelledOut p))) (kindsIn (sheetOf (spelledOut p))) (sizesIn (sheetOf (spelledOut p))) (bodiesIn (sheetOf (spelledOut p))) ≡ p .entries
+head-means : (p : Plain) → entriesFrom (countIn (sheetOf (spelledOut p))) (kindsIn (sheetOf (spelledOut p)))
+    (sizesIn (sheetOf (spelledOut p))) (bodiesIn (sheetOf (spelledOut p))) ≡ p .entries
     → sheetFrom (sheetOf (spelledOut p)) ≡ spelledOut p
 unfolding sheetFrom sheetOf spelledOut headOf wordBytes wordAt spell
 head-means p e =
@@ -199,7 +206,8 @@ module _ (s : List ℕ) (is : isSheet s ≡ true) where
   total = eqb-true _ _ (and-true (eqb (length s) (headLength + 3 * countIn s + totalIn s)) _ is .1)
 
   bodies-all : take (sum (take (countIn s) (sizesIn s))) (bodiesIn s) ≡ bodiesIn s
-  bodies-all = take-all (sum (take (countIn s) (sizesIn s))) (bodiesIn s) (omega (arith, length-drop (headLength + 3 * countIn s) s, long, total))
+  bodies-all =
+      take-all (sum (take (countIn s) (sizesIn s))) (bodiesIn s) (omega (arith, length-drop (headLength + 3 * countIn s) s, long, total))
 
   pub from-sized : Sized (sheetFrom s)
   unfolding sheetFrom
@@ -213,14 +221,16 @@ module _ (s : List ℕ) (is : isSheet s ≡ true) where
     pub parts : Read (countIn s) (kindsIn s) (sizesIn s) (bodiesIn s)
     parts =
         read (countIn s) (kindsIn s) (sizesIn s) (bodiesIn s) (bytes-drop headLength s by)
-        (omega (arith, length-drop headLength s, long)) (omega (arith, length-drop (headLength + 2 * countIn s) s, long)) (omega (arith, length-drop (headLength + 3 * countIn s) s, long, total))
+        (omega (arith, length-drop headLength s, long)) (omega (arith, length-drop (headLength + 2 * countIn s) s, long))
+        (omega (arith, length-drop (headLength + 3 * countIn s) s, long, total))
 
     parts-back : partsOf (sheetFrom s .entries) ≡ drop headLength s
     unfolding partsOf sheetFrom
     parts-back =
         let m : headLength + 2 * countIn s + countIn s ≡ headLength + 3 * countIn s = omega arith in
         let b = parts .bodies ∙ bodies-all ∙ sym (drop-drop (countIn s) (headLength + 2 * countIn s) s ∙ ap (λ (k : ℕ). drop k s) m) in
-        let sb = ap₂ (λ (x y : List ℕ). x ++ y) (parts .sizes) b ∙ take-append-drop (countIn s) (sizesIn s) ∙ sym (drop-drop (2 * countIn s) headLength s) in
+        let sb = ap₂ (λ (x y : List ℕ). x ++ y) (parts .sizes) b ∙ take-append-drop (countIn s) (sizesIn s)
+        ∙ sym (drop-drop (2 * countIn s) headLength s) in
         ap₂ (λ (x y : List ℕ). x ++ y) (parts .kinds) sb ∙ take-append-drop (2 * countIn s) (kindsIn s)
 
     count-back : length (sheetFrom s .entries) ≡ byteAt s 0
@@ -234,7 +244,13 @@ module _ (s : List ℕ) (is : isSheet s ≡ true) where
     head-back : byteAt s 0 ∷ byteAt s 1 ∷ (headOf (sheetFrom s) ++ drop headLength s) ≡ s
     unfolding sheetFrom headOf spell wordAt
     head-back =
-        rw (spelled 2 16 s (omega (arith, long)), spelled 20 6 s (omega (arith, long)), spelled 32 2 s (omega (arith, long)), word-back (byteAt s 27) (byteAt s 28) (by 27), word-back (byteAt s 29) (byteAt s 30) (by 29))
+        rw (
+          spelled 2 16 s (omega (arith, long)),
+          spelled 20 6 s (omega (arith, long)),
+          spelled 32 2 s (omega (arith, long)),
+          word-back (byteAt s 27) (byteAt s 28) (by 27),
+          word-back (byteAt s 29) (byteAt s 30) (by 29),
+        )
         (ap (λ (l : List ℕ). l ++ drop headLength s) (sym (spelled 0 34 s (omega (arith, long)))) ∙ take-append-drop headLength s)
 
     -- the sheet of what a sheet means is that sheet

@@ -6,6 +6,7 @@ use lib.ListN.{length, take, drop}
 use lib.Dec.{eqb}
 use Rattle.rom.specs.Geometry.{leavesEnd, versionAt, addressAt, controllersAt}
 use Rattle.rom.specs.Bytes.{pick, byteAt, wordAt}
+use Rattle.rom.specs.Store.{wordBytes}
 use Rattle.crc.specs.Crc.{sromCrc, idCrc}
 use Rattle.block.specs.Format.{rowOf, row21140, kindCompact, kind21041, newestLevel}
 use Rattle.block.specs.Block.{isExtended, sizeOf, kindOf}
@@ -13,7 +14,7 @@ use Rattle.header.specs.declared.Arguments.{Arguments}
 use Rattle.header.specs.Image.{controllerCount, leafAt, controlByte}
 use Rattle.header.specs.Header.{leafFor, startFor}
 use Rattle.reader.specs.Reading.{blocksFor}
-use Rattle.sheet.specs.Lists.{wordBytes, allZero, padded}
+use Rattle.sheet.specs.Lists.{allZero, padded}
 use Rattle.sheet.specs.Record.{Entry, Plain}
 
 -- ## The image of a record
@@ -77,8 +78,8 @@ openingLength row s = pick (isExtended row s) 2 0
 unfoldable pub bodyOf : ℕ → List ℕ → List ℕ
 bodyOf row s = drop (openingLength row s) (take (sizeOf row s) s)
 
-abbrev pub entryOf : ℕ → List ℕ → Entry
-entryOf row s = record { kind = kindOf row s; body = bodyOf row s }
+abbrev pub entryFrom : ℕ → List ℕ → Entry
+entryFrom row s = record { kind = kindOf row s; body = bodyOf row s }
 
 unfoldable pub imageFrom : ℕ → List ℕ → Plain
 imageFrom chip image = record {
@@ -91,7 +92,7 @@ imageFrom chip image = record {
   connection = wordAt image (leafFor image (newest chip));
   control = controlByte image (rowOf chip) (leafFor image (newest chip));
   maker = take 2 (drop leavesEnd image);
-  entries = map (entryOf (rowOf chip)) (blocksFor image (newest chip));
+  entries = map (entryFrom (rowOf chip)) (blocksFor image (newest chip));
 }
 
 -- ## Tidiness

@@ -15,11 +15,11 @@ idAt = 2
 abbrev pub lastIdAt : ℕ
 lastIdAt = 18
 
-abbrev pub versionAt : ℕ
-versionAt = 19
+abbrev pub sheetVersionAt : ℕ
+sheetVersionAt = 19
 
-abbrev pub addressAt : ℕ
-addressAt = 20
+abbrev pub sheetAddressAt : ℕ
+sheetAddressAt = 20
 
 abbrev pub deviceAt : ℕ
 deviceAt = 26

@@ -5,4 +5,4 @@ pub mod Sheet
 pub mod Image
 pub mod Write
 pub mod Make
-pub mod Returns
+pub mod Claims

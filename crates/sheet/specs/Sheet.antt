@@ -5,8 +5,10 @@ use mathlib.Core.Bool.{Bool, _&&_}
 use lib.ListN.{length, take, drop}
 use lib.Dec.{eqb}
 use Rattle.rom.specs.Bytes.{byteAt, wordAt}
-use Rattle.sheet.specs.Lists.{wordBytes, sum}
-use Rattle.sheet.specs.Layout.{countAt, totalAt, idAt, lastIdAt, versionAt, addressAt, deviceAt, chipAt, connectionAt, controlAt, makerAt, headLength}
+use Rattle.rom.specs.Store.{wordBytes}
+use Rattle.sheet.specs.Lists.{sum}
+use Rattle.sheet.specs.Layout.{countAt, totalAt, idAt, lastIdAt, sheetVersionAt, sheetAddressAt, deviceAt, chipAt, connectionAt}
+use Rattle.sheet.specs.Layout.{controlAt, makerAt, headLength}
 use Rattle.sheet.specs.Record.{Entry, Plain}
 
 -- ## The sheet of a record
@@ -69,8 +71,8 @@ unfoldable pub sheetFrom : List ℕ → Plain
 sheetFrom s = record {
   id = take 16 (drop idAt s);
   lastId = byteAt s lastIdAt;
-  version = byteAt s versionAt;
-  address = take 6 (drop addressAt s);
+  version = byteAt s sheetVersionAt;
+  address = take 6 (drop sheetAddressAt s);
   device = byteAt s deviceAt;
   chip = chipIn s;
   connection = wordAt s connectionAt;

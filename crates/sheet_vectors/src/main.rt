@@ -10,12 +10,8 @@ fn print_refusal(number: u8) {
     io::write_all(STDOUT_FILENO, b"\n");
 }
 
-fn print_bytes(bytes: &[u8]) {
-    let mut i = 0;
-    while i < bytes.len() {
-        io::print_hex(STDOUT_FILENO, rom::byte_at(bytes, ByteOffset(i)) as u64, 2);
-        i += 1;
-    }
+fn print_line(bytes: &[u8]) {
+    vectors::print_bytes(bytes);
     io::write_all(STDOUT_FILENO, b"\n");
 }
 
@@ -23,7 +19,7 @@ fn print_front(bytes: &[u8], length: usize) {
     if bytes.len() < length {
         return;
     }
-    print_bytes(&bytes[..length]);
+    print_line(&bytes[..length]);
 }
 
 // The sheet of an image again.
@@ -44,7 +40,7 @@ fn print_image(sheet: &[u8]) {
         print_refusal(number);
         return;
     }
-    print_bytes(&image);
+    print_line(&image);
     print_sheet(&image, rom::word_at(sheet, ByteOffset(sheet::CHIP_AT)));
 }
 

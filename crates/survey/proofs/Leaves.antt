@@ -5,7 +5,7 @@ use mathlib.Core.Path.{_≡_, _∙_}
 use mathlib.Core.Bool.{false}
 use lib.ListN.{take, drop}
 use borrow.Author.Tests.{ne-eqb, lt-ltb, le-ltb}
-use Rattle.rom.specs.Geometry.{leavesEnd}
+use Rattle.rom.specs.Geometry.{none, leavesEnd}
 use Rattle.rom.specs.Bytes.{pick}
 use Rattle.rom.specs.Refusal.{firstMet}
 use Rattle.header.specs.declared.Arguments.{Arguments}
@@ -14,7 +14,8 @@ use Rattle.header.specs.Image.{restFrom}
 use Rattle.header.specs.Header.{startFor, countFor, headerCauses, foundHeader, headerFor}
 use Rattle.header.proofs.Headers.{read-number, no-refusal, read-found, read-count}
 use Rattle.leaf.specs.Leaf.{cut, firstFrom}
-use Rattle.survey.specs.Survey.{hasLeaf, noPlace, placeFrom, placeFor, isRefused, refusedFor}
+use Rattle.survey.specs.Inside.{placeFrom}
+use Rattle.survey.specs.Survey.{hasLeaf, noPlace, placeFor, isRefused, refusedFor}
 use Rattle.survey.proofs.Stepping.{stands-behind}
 
 module _ (image : List ℕ) (a : Arguments) (h : Header) (eh : h ≡ headerFor image a) where
@@ -28,7 +29,7 @@ module _ (image : List ℕ) (a : Arguments) (h : Header) (eh : h ≡ headerFor i
     unfolding placeFor pick
     no-leaf-place k = simp no-leaf
 
-    pub no-leaf-refused : 255 ≡ refusedFor image a
+    pub no-leaf-refused : none ≡ refusedFor image a
     unfolding refusedFor pick
     no-leaf-refused = simp no-leaf
 

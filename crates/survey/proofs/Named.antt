@@ -16,7 +16,7 @@ use Rattle.leaf.specs.Leaf.{firstFrom, blockCauses, leafCauses, placed, Place a
 use Rattle.reader.specs.Reading.{blocksFor, leafCausesFor, judgeCauses, judgeAnswer}
 use Rattle.reader.proofs.Readings.{answer-number}
 use Rattle.survey.specs.Survey.{isRefused, refusedFor}
-use Rattle.survey.specs.Promises.{NamesTheBlock}
+use Rattle.survey.specs.Claims.{NamesTheBlock}
 use Rattle.survey.proofs.Stepping.{first-here, first-later}
 
 module _ (row level : ℕ) (s : List ℕ) (bs : List (List ℕ)) where

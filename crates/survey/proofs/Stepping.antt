@@ -7,6 +7,7 @@ use mathlib.Core.Path.{_≡_, refl, sym, _∙_}
 use lib.ListN.{length, take, drop, getD, drop-of-length-le}
 use lib.Seq.{drop-length}
 use borrow.Author.Tests.{eq-eqb, ne-eqb}
+use Rattle.rom.specs.Geometry.{none}
 use Rattle.rom.specs.Bytes.{pick}
 use Rattle.block.specs.declared.Block.{Block}
 use Rattle.block.specs.Block.{sizeOf, kindOf, refusalOf}
@@ -15,7 +16,8 @@ use Rattle.block.proofs.Seen.{Seen, seen, seen-number, seen-size}
 use Rattle.leaf.specs.Leaf.{cut, firstFrom, placed, Place as Standing}
 use Rattle.leaf.proofs.Cuts.{cut-more, cut-none, rest-part}
 use Rattle.survey.specs.declared.Place.{Place}
-use Rattle.survey.specs.Survey.{placeOf, placeFrom, isRefused}
+use Rattle.survey.specs.Inside.{placeFrom}
+use Rattle.survey.specs.Survey.{placeAt, isRefused}
 
 -- ## Where the next block stands
 
@@ -43,7 +45,7 @@ module _ (row number at : ℕ) (s : List ℕ) {k : ℕ} {whole : Place} (inv : p
 
 -- block k stands k blocks behind the first
 pub stands-behind : (row at count k : ℕ) (s : List ℕ) (d : Standing) → k < count
-    → placeFrom row at k s ≡ placeOf row (getD (placed row at (cut row count s)) k d)
+    → placeFrom row at k s ≡ placeAt row (getD (placed row at (cut row count s)) k d)
 unfolding placeFrom placed cut
 stands-behind row at zero k s d h = absurd (omega arith)
 stands-behind row at (suc count) zero s d h = refl
@@ -75,6 +77,6 @@ module _ (row level count : ℕ) (s : List ℕ) {k whole : ℕ} (inv : firstFrom
       let f = first-later row level s _ k (sym (seen-number v) ∙ sym en ∙ e) in
       rw (rest-part, ez, seen-size v (sym en ∙ e)) (sym f ∙ (rw cut-more at inv))
 
-  pub refused-nowhere : count ≤ k → 255 ≡ whole
+  pub refused-nowhere : count ≤ k → none ≡ whole
   unfolding firstFrom
   refused-nowhere h = rw cut-none at inv

@@ -1,2 +1,3 @@
 pub mod Survey
-pub mod Promises
+pub mod Claims
+pub mod Inside

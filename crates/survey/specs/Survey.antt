@@ -1,10 +1,11 @@
 -- The blocks of a leaf by their numbers, for readings that are accepted and for those that are not (document 01, 'Leaf and
 -- blocks': blocks are numbered from 0 as they stand).
-use Prim.Native.Nat.{ℕ, zero, suc, _+_}
+use Prim.Native.Nat.{ℕ}
 use mathlib.Core.List.{List, []}
 use mathlib.Core.Bool.{Bool, _&&_, not}
 use lib.Dec.{eqb, ltb}
-use lib.ListN.{drop, getD}
+use lib.ListN.{getD}
+use Rattle.rom.specs.Geometry.{none}
 use Rattle.rom.specs.Bytes.{pick}
 use Rattle.rom.specs.Refusal.{firstMet}
 use Rattle.block.specs.Block.{sizeOf, kindOf, refusalOf}
@@ -23,26 +24,21 @@ hasLeaf image a = eqb (firstMet (headerCauses image a)) 0
 abbrev pub noPlace : Place
 noPlace = record { start = 0; size = 0; kind = 0 }
 
-abbrev pub placeOf : ℕ → Standing → Place
-placeOf row p = record { start = p .start; size = sizeOf row (p .rest); kind = kindOf row (p .rest) }
+abbrev pub placeAt : ℕ → Standing → Place
+placeAt row p = record { start = p .start; size = sizeOf row (p .rest); kind = kindOf row (p .rest) }
 
 -- block k of the leaf that the arguments name, which no level changes
 abbrev pub standingFor : List ℕ → Arguments → ℕ → Standing
 standingFor image a k = getD (placed (rowFor a) (startFor image a) (blocksFor image a)) k (record { start = 0; rest = [] })
 
 unfoldable pub placeFor : List ℕ → Arguments → ℕ → Place
-placeFor image a k = pick (hasLeaf image a && ltb k (countFor image a)) (placeOf (rowFor a) (standingFor image a k)) noPlace
-
--- the same by steps: the block k blocks behind the one at `at`
-unfoldable pub placeFrom : ℕ → ℕ → ℕ → List ℕ → Place
-placeFrom row at zero s = placeOf row (record { start = at; rest = s })
-placeFrom row at (suc k) s = placeFrom row (at + sizeOf row s) k (drop (sizeOf row s) s)
+placeFor image a k = pick (hasLeaf image a && ltb k (countFor image a)) (placeAt (rowFor a) (standingFor image a k)) noPlace
 
 -- ## Which block is refused
 
 unfoldable pub isRefused : ℕ → ℕ → List ℕ → Bool
 isRefused row level s = not (eqb (refusalOf row level s) 0)
 
--- the first one's number, 255 where none is
+-- the first one's number, none where none is
 unfoldable pub refusedFor : List ℕ → Arguments → ℕ
-refusedFor image a = pick (hasLeaf image a) (firstFrom (isRefused (rowFor a) (a .level)) 0 (blocksFor image a)) 255
+refusedFor image a = pick (hasLeaf image a) (firstFrom (isRefused (rowFor a) (a .level)) 0 (blocksFor image a)) none

@@ -2,15 +2,14 @@
 // stands, and which one a refusal names.
 use block::shape;
 use reader::Arguments;
+use rom::NONE;
 use rom::refusal;
 ghost use mathlib.Core.Path.{_≡_};
 ghost use Prim.Native.Nat.{_≤_};
 ghost use lib.ListN.{drop};
 ghost use Rattle.leaf.specs.Leaf.{cut, firstFrom};
-ghost use Rattle.survey.specs.Survey.{noPlace, placeFrom, placeFor, isRefused, refusedFor};
-
-// No block: the number of the refused one where none is.
-pub const NONE: u8 = 255;
+ghost use Rattle.survey.specs.Inside.{placeFrom};
+ghost use Rattle.survey.specs.Survey.{noPlace, placeFor, isRefused, refusedFor};
 
 // A block's byte offset in the image, how many bytes its size says that it has, and its kind; zeros where there is none.
 pub struct Place {

@@ -11,14 +11,12 @@ const LOAD: u8 = 0;
 
 const CLEAR: u8 = 1;
 
-const NONE: u8 = 255;
-
 fn print_number(n: u64) {
     io::print_decimal(STDOUT_FILENO, n);
 }
 
 fn print_selected(selected: u8) {
-    if selected == NONE {
+    if selected == rom::NONE {
         io::write_all(STDOUT_FILENO, b"none");
     } else {
         print_number(selected as u64);

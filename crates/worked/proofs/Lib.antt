@@ -1,3 +1,4 @@
+pub mod Computes
 pub mod Worked
 pub mod Conditions
 pub mod Sheets

@@ -1,13 +1,13 @@
 -- Cases a to k of document 01, 'Blocks to prove', as whole images, read and walked. Cases a to j are those of crate `leaf`.
 use Prim.Native.Nat.{ℕ, _/_, _%_}
-use mathlib.Core.Path.{_≡_}
 use mathlib.Core.List.{List, [], _∷_, _++_, map}
 use mathlib.Core.Bool.{Bool, true, false}
 use lib.ListN.{take, replicate}
 use Rattle.crc.specs.Crc.{sromCrc, idCrc}
 use Rattle.header.specs.declared.Arguments.{Arguments}
 use Rattle.leaf.specs.Cases as leaves
-use Rattle.autosense.specs.Walk.{none, freshWalk}
+use Rattle.rom.specs.Geometry.{none}
+use Rattle.autosense.specs.Walk.{freshWalk}
 use Rattle.older.specs.Calls.{Call, load, look, loaded, After, run}
 use Rattle.older.specs.Written.{Arrays, answerOf, tableIn}
 
@@ -28,19 +28,19 @@ imageWith leaf = sealed (unsealed (idCrc (unsealed 0 leaf)) leaf)
 
 -- ## A case: a chip, a level, a leaf, and what is read of it; and calls, with what is seen after each
 
-pub record Case : Type 0 where
-  pub reading : leaves.Case
+pub record ImageCase : Type 0 where
+  pub reading : leaves.LeafCase
   pub calls : List Call
   pub seen : List After
 
-unfoldable pub argumentsOf : leaves.Case → Arguments
+unfoldable pub argumentsOf : leaves.LeafCase → Arguments
 argumentsOf c = record { chip = c .chip; controller = 0; level = c .level }
 
 -- lent arrays, longer than any case needs
 abbrev room : Arrays
 room = record { kinds = replicate 8 0; offsets = replicate 8 0 }
 
-unfoldable pub readWhole : List ℕ → leaves.Case → leaves.Case
+unfoldable pub readWhole : List ℕ → leaves.LeafCase → leaves.LeafCase
 readWhole image c =
     let a = argumentsOf c in
     let answer = answerOf image a room in
@@ -57,47 +57,33 @@ readWhole image c =
       starts = map (λ e. e .start) table;
     }
 
-unfoldable pub worked : Case → Case
+unfoldable pub worked : ImageCase → ImageCase
 worked c =
     let image = imageWith (c .reading .leaf) in
     record { reading = readWhole image (c .reading); calls = c .calls; seen = run image (argumentsOf (c .reading)) freshWalk (c .calls) }
 
 -- ## The cases
 
-abbrev read : leaves.Case → Case
+abbrev read : leaves.LeafCase → ImageCase
 read c = record { reading = c; calls = []; seen = [] }
 
 -- b under a connection type with this high byte, walked with reports 000, 101, 100
-abbrev walked : ℕ → List After → Case
+abbrev walked : ℕ → List After → ImageCase
 walked high seen = record {
-  reading = record {
-    chip = 21143;
-    level = 6;
-    leaf = 0x00 ∷ high ∷ 0x03 ∷ 0x86 ∷ 0x02 ∷ 0x00 ∷ 0x01 ∷ 0x00 ∷ 0x02 ∷ 0x00 ∷ 0x81 ∷ 0x09 ∷ 0x86 ∷ 0x02 ∷ 0x01 ∷ 0x01 ∷ 0x00 ∷ 0x02 ∷ 0x00 ∷ [];
-    number = 0;
-    listed = 2;
-    resets = 0;
-    skipped = 1;
-    kinds = 2 ∷ 2 ∷ [];
-    starts = 42 ∷ 33 ∷ [];
-  };
+  reading = leaves.caseB high;
   calls = load ∷ look (0 ∷ 0 ∷ 0 ∷ []) ∷ look (1 ∷ 0 ∷ 1 ∷ []) ∷ look (1 ∷ 0 ∷ 0 ∷ []) ∷ [];
   seen = seen;
 }
 
 -- accepted, and then settled, selected, looks, switches
-abbrev then : Bool → ℕ → ℕ → ℕ → After
+abbrev pub then : Bool → ℕ → ℕ → ℕ → After
 then settled selected looks switches = record { number = 0; walk = loaded settled selected looks switches }
 
-unfoldable pub cases : List Case
-cases =
-    -- a to j, h and j twice
-    map read (take 12 leaves.cases)
+unfoldable pub imageCases : List ImageCase
+imageCases =
+    -- a to j
+    map read leaves.paperCases
     -- k, and under 0x8800
     ++ walked 0x08 (then false none 0 0 ∷ then false none 1 0 ∷ then true 2 2 1 ∷ then true 0 3 2 ∷ [])
     ∷ walked 0x88 (then false none 0 0 ∷ then false none 1 0 ∷ then true 2 2 1 ∷ then true 2 3 1 ∷ [])
     ∷ []
-
--- each case is answered as it says
-abbrev pub Worked : Type 0
-Worked = map worked cases ≡ cases

@@ -1,3 +1,3 @@
 pub mod Cases
-pub mod Conditions
 pub mod Sheets
+pub mod Claims

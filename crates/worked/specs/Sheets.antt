@@ -1,21 +1,20 @@
--- Sheets and their images, worked out from document 01 apart from these definitions, and what small changes of them are
--- refused with.
+-- Sheets and their images, as the second implementation (tests/second) has them, and what small changes of them are refused
+-- with.
 use Prim.Native.Nat.{ℕ, _*_}
-use mathlib.Core.Path.{_≡_}
-use mathlib.Core.List.{List, [], _∷_, _++_, map}
+use mathlib.Core.List.{List, [], _∷_, _++_}
 use lib.ListN.{length, take, drop, replicate, set}
 use Rattle.sheet.specs.Write.{writeNumber, written}
-use Rattle.sheet.specs.Make.{makeNumber, makeLength, made}
+use Rattle.sheet.specs.Make.{made}
 
 -- ## Sheets and images that are each other's
 
-pub record Case : Type 0 where
+pub record SheetCase : Type 0 where
   pub chip : ℕ
   pub sheet : List ℕ
   pub image : List ℕ
 
 -- three blocks of a 21143: type 2 with five bytes, the unknown type 9 with none, type 4 with seven
-unfoldable pub case21143 : Case
+unfoldable pub case21143 : SheetCase
 case21143 = record {
   chip = 21143;
   sheet =
@@ -38,7 +37,7 @@ case21143 = record {
 }
 
 -- a control byte, a compact block and a reset of a 21140
-unfoldable pub case21140 : Case
+unfoldable pub case21140 : SheetCase
 case21140 = record {
   chip = 21140;
   sheet =
@@ -60,7 +59,7 @@ case21140 = record {
 }
 
 -- a 21041 block with EXT, and one without
-unfoldable pub case21041 : Case
+unfoldable pub case21041 : SheetCase
 case21041 = record {
   chip = 21041;
   sheet =
@@ -82,7 +81,7 @@ case21041 = record {
 }
 
 -- no block
-unfoldable pub caseNoBlock : Case
+unfoldable pub caseNoBlock : SheetCase
 caseNoBlock = record {
   chip = 21145;
   sheet =
@@ -98,15 +97,15 @@ caseNoBlock = record {
 }
 
 -- the sheet written over an image of ones, and the image made a sheet in a buffer of ones
-unfoldable pub run : Case → Case
-run c = record {
+unfoldable pub runSheet : SheetCase → SheetCase
+runSheet c = record {
   chip = c .chip;
   sheet = made (c .image) (c .chip) (replicate (length (c .sheet)) 1);
   image = written (c .sheet) (replicate 128 1);
 }
 
-unfoldable pub cases : List Case
-cases = case21143 ∷ case21140 ∷ case21041 ∷ caseNoBlock ∷ []
+unfoldable pub sheetCases : List SheetCase
+sheetCases = case21143 ∷ case21140 ∷ case21041 ∷ caseNoBlock ∷ []
 
 -- ## Changes
 
@@ -120,7 +119,7 @@ pub record Change : Type 0 where
 unfoldable pub try : Change → Change
 try c = record { sheet = c .sheet; at = c .at; value = c .value; number = writeNumber (set (c .sheet) (c .at) (c .value)) 128 }
 
-abbrev change : Case → ℕ → ℕ → ℕ → Change
+abbrev change : SheetCase → ℕ → ℕ → ℕ → Change
 change c at value number = record { sheet = c .sheet; at = at; value = value; number = number }
 
 unfoldable pub changes : List Change
@@ -149,15 +148,3 @@ wide n = 1 ∷ n ∷ (drop 2 (take 34 (case21143 .sheet)) ++ 9 ∷ 0 ∷ n ∷ r
 -- case21143's image with byte 123 set, and its CRC
 unfoldable pub untidy : List ℕ
 untidy = set (take 124 (case21143 .image)) 123 1 ++ 0xCC ∷ 0xDD ∷ 0x06 ∷ 0xFF ∷ []
-
-abbrev pub Worked : Type 0
-Worked =
-    (map run cases ≡ cases)
-    × (map try changes ≡ changes)
-    × (map (λ n. writeNumber (long n) 128) (91 ∷ 92 ∷ []) ≡ 0 ∷ 26 ∷ [])
-    × (map (λ n. writeNumber (wide n) 128) (89 ∷ 90 ∷ 126 ∷ 127 ∷ []) ≡ 0 ∷ 26 ∷ 26 ∷ 25 ∷ [])
-    × (writeNumber (case21143 .sheet) 127 ≡ 1)
-    × (makeLength (case21143 .image) 21143 57 ≡ 55)
-    × (made (case21143 .image) 21143 (replicate 57 1) ≡ case21143 .sheet ++ 1 ∷ 1 ∷ [])
-    × (makeNumber (case21143 .image) 21143 54 ≡ 12)
-    × (makeNumber untidy 21143 57 ≡ 27)

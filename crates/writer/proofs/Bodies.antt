@@ -19,11 +19,13 @@ module _ (k : ℕ) (b : List ℕ) where
   unfolding isBadBody
   bad-21041 first size e f s =
       ap (λ (n : ℕ). not (eqb (length b) n)) (s ∙ ap siaSize f)
-      ∙ sym (pick-false (eqb k kindCompact) _ _ (ne-eqb k kindCompact (λ (g : k ≡ kindCompact). omega arith)) ∙ pick-true (eqb k kind21041) _ _ (eq-eqb k kind21041 e))
+      ∙ sym (pick-false (eqb k kindCompact) _ _ (ne-eqb k kindCompact (λ (g : k ≡ kindCompact). omega arith))
+      ∙ pick-true (eqb k kind21041) _ _ (eq-eqb k kind21041 e))
 
   pub bad-extended : (k ≡ kind21041 → ⊥) → (k ≡ kindCompact → ⊥) → ltb 126 (length b) ≡ isBadBody k b
   unfolding isBadBody
-  bad-extended e f = sym (pick-false (eqb k kindCompact) _ _ (ne-eqb k kindCompact f) ∙ pick-false (eqb k kind21041) _ _ (ne-eqb k kind21041 e))
+  bad-extended e f =
+      sym (pick-false (eqb k kindCompact) _ _ (ne-eqb k kindCompact f) ∙ pick-false (eqb k kind21041) _ _ (ne-eqb k kind21041 e))
 
   module _ (e : k ≡ kindCompact) where
     compact : isBadBody k b ≡ (not (eqb (length b) 4) || leb 128 (byteAt b 0))

@@ -10,15 +10,15 @@ use lib.Seq.{length-take-le, drop-drop}
 use borrow.Author.Tests.{lt-ltb, le-ltb}
 use Rattle.rom.specs.Geometry.{leavesEnd}
 use Rattle.rom.specs.Bytes.{byteAt, wordAt}
+use Rattle.rom.specs.Store.{put}
 use Rattle.rom.specs.Refusal.{firstMet}
 use Rattle.rom.proofs.Reached.{reached, end, stop, skip}
 use Rattle.rom.proofs.Truth.{or-false}
+use Rattle.rom.proofs.Put.{put-length, put-take, put-drop}
 use Rattle.sheet.specs.Record.{Entry}
 use Rattle.sheet.specs.Sheet.{entriesFrom}
 use Rattle.sheet.specs.Image.{encode, encodes}
 use Rattle.sheet.specs.Write.{isBad, anyBad}
-use Rattle.sheet.specs.Lists.{put}
-use Rattle.sheet.proofs.Put.{put-length, put-take, put-drop}
 use Rattle.writer.specs.Inside.{entry, openingSize, Parts, Fits, Holds, entryCauses}
 use Rattle.writer.proofs.Openings.{encode-length, size-small}
 use Rattle.writer.proofs.Parts.{entries-none, next, next-body, rests, first}
@@ -32,7 +32,8 @@ pub record Sized (row start : ℕ) (all : List Entry) (n : ℕ) (ks ss bs : List
   pub size : end + length (encodes (entriesFrom n ks ss bs)) ≡ start + length (encodes all)
   pub few : end + 258 * n ≤ 66048
 
-pub sized-start : (row start n : ℕ) (ks ss bs : List ℕ) → n < 256 → start < 256 → Parts n ks ss bs → Sized row start (entriesFrom n ks ss bs) n ks ss bs start
+pub sized-start : (row start n : ℕ) (ks ss bs : List ℕ) → n < 256 → start < 256 → Parts n ks ss bs
+    → Sized row start (entriesFrom n ks ss bs) n ks ss bs start
 sized-start row start n ks ss bs h g p = record { parts = p; bad = refl; size = refl; few = omega arith }
 
 -- with no entry left the leaf's end is found, and decides
@@ -65,7 +66,8 @@ pub record Filled (room₀ : List ℕ) (start : ℕ) (all : List Entry) (room : 
   pub back : drop to room ≡ drop to room₀
   pub same : length room ≡ length room₀
 
-pub filled-start : (room : List ℕ) (start n : ℕ) (ks ss bs : List ℕ) → Holds room start n ks ss bs → Filled room start (entriesFrom n ks ss bs) room n ks ss bs start
+pub filled-start : (room : List ℕ) (start n : ℕ) (ks ss bs : List ℕ) → Holds room start n ks ss bs
+    → Filled room start (entriesFrom n ks ss bs) room n ks ss bs start
 filled-start room start n ks ss bs h =
     record { parts = h .parts; row = h .row; good = h .good; fits = h .fits; front = refl; back = refl; same = refl }
 
@@ -79,21 +81,26 @@ filled-end {room₀} {start} {all} {room} {n} {ks} {ss} {bs} {to} i h low =
     let m : to ≡ start + length (encodes all)
     = sym (length-take-le to room (omega (arith, i .fits))) ∙ ap length f ∙ length-append (take start room₀) (encodes all)
     ∙ ap (λ (k : ℕ). k + length (encodes all)) (length-take-le start room₀ low) in
-    sym (take-append-drop to room) ∙ ap₂ (λ (a b : List ℕ). a ++ b) f (i .back ∙ ap (λ (k : ℕ). drop k room₀) m) ∙ append-assoc (take start room₀) (encodes all) _
+    sym (take-append-drop to room) ∙ ap₂ (λ (a b : List ℕ). a ++ b) f (i .back ∙ ap (λ (k : ℕ). drop k room₀) m)
+    ∙ append-assoc (take start room₀) (encodes all) _
 
 -- ## A turn of either: the parts that are left hold an entry, whose kind and size were read
 
-module _ (n : ℕ) (ks ss bs : List ℕ) (kind size : ℕ) (h : 0 < n) (p : Parts n ks ss bs) (ek : kind ≡ wordAt ks 0) (es : size ≡ byteAt ss 0) where
+module _ (n : ℕ) (ks ss bs : List ℕ) (kind size : ℕ) (h : 0 < n) (p : Parts n ks ss bs) (ek : kind ≡ wordAt ks 0)
+    (es : size ≡ byteAt ss 0) where
   block-length : length (encode (entry kind (take size bs))) ≡ openingSize kind + size
   block-length = encode-length kind (take size bs) ∙ ap (λ (k : ℕ). openingSize kind + k) (next-body n ks ss bs kind size h p ek es)
 
-  rest-length : length (encodes (entriesFrom n ks ss bs)) ≡ openingSize kind + size + length (encodes (entriesFrom (n - 1) (drop 2 ks) (drop 1 ss) (drop (byteAt ss 0) bs)))
+  rest-length : length (encodes (entriesFrom n ks ss bs))
+      ≡ openingSize kind + size + length (encodes (entriesFrom (n - 1) (drop 2 ks) (drop 1 ss) (drop (byteAt ss 0) bs)))
   unfolding encodes
   rest-length =
-      ap (λ (l : List Entry). length (encodes l)) (first n ks ss bs kind size h p ek es) ∙ length-append (encode (entry kind (take size bs))) _
+      ap (λ (l : List Entry). length (encodes l)) (first n ks ss bs kind size h p ek es)
+      ∙ length-append (encode (entry kind (take size bs))) _
       ∙ ap (λ (k : ℕ). k + length (encodes (entriesFrom (n - 1) (drop 2 ks) (drop 1 ss) (drop (byteAt ss 0) bs)))) block-length
 
-  rest-bad : (row : ℕ) → anyBad row (entriesFrom n ks ss bs) ≡ (isBad row (entry kind (take size bs)) || anyBad row (entriesFrom (n - 1) (drop 2 ks) (drop 1 ss) (drop (byteAt ss 0) bs)))
+  rest-bad : (row : ℕ) → anyBad row (entriesFrom n ks ss bs)
+      ≡ (isBad row (entry kind (take size bs)) || anyBad row (entriesFrom (n - 1) (drop 2 ks) (drop 1 ss) (drop (byteAt ss 0) bs)))
   unfolding anyBad
   rest-bad row = ap (anyBad row) (first n ks ss bs kind size h p ek es)
 
@@ -108,25 +115,31 @@ module _ (n : ℕ) (ks ss bs : List ℕ) (kind size : ℕ) (h : 0 < n) (p : Part
     sized-room m em low = omega (arith, i .few, size-small kind)
 
     pub sized-more : (m : ℕ) → m ≡ openingSize kind → size < 256 → false ≡ isBad row (entry kind (take size bs))
-        → Sized row start all (n - 1) (take (length ks - 2) (drop 2 ks)) (take (length ss - 1) (drop 1 ss)) (take (length bs - size) (drop size bs)) (at + (m + size))
+        → Sized row start all (n - 1) (take (length ks - 2) (drop 2 ks)) (take (length ss - 1) (drop 1 ss))
+        (take (length bs - size) (drop size bs)) (at + (m + size))
     sized-more m em low b =
         rests n ks ss bs kind size h p ek es (λ (x y z : List ℕ). Sized row start all (n - 1) x y z (at + (m + size)))
         (record {
           parts = next n ks ss bs kind size h p ek es .rest;
-          bad = sym (rest-bad row ∙ ap (λ (t : Bool). t || anyBad row (entriesFrom (n - 1) (drop 2 ks) (drop 1 ss) (drop (byteAt ss 0) bs))) (sym b)) ∙ i .bad;
+          bad =
+              sym (rest-bad row ∙ ap (λ (t : Bool). t || anyBad row (entriesFrom (n - 1) (drop 2 ks) (drop 1 ss) (drop (byteAt ss 0) bs)))
+              (sym b)) ∙ i .bad;
           size = omega (arith, i .size, rest-length);
           few = omega (arith, i .few, size-small kind);
         })
 
   module _ {room₀ : List ℕ} {start : ℕ} {all : List Entry} {room : List ℕ} {to : ℕ} (i : Filled room₀ start all room n ks ss bs to) where
-    both : (isBad (i .row) (entry kind (take size bs)) ≡ false) × (anyBad (i .row) (entriesFrom (n - 1) (drop 2 ks) (drop 1 ss) (drop (byteAt ss 0) bs)) ≡ false)
+    both : (isBad (i .row) (entry kind (take size bs)) ≡ false)
+        × (anyBad (i .row) (entriesFrom (n - 1) (drop 2 ks) (drop 1 ss) (drop (byteAt ss 0) bs)) ≡ false)
     both = or-false _ _ (sym (rest-bad (i .row)) ∙ i .good)
 
     pub filled-fits : Fits room to (entry kind (take size bs)) (encode (entry kind (take size bs)))
     filled-fits = record { row = i .row; good = both .0; fits = omega (arith, i .fits, rest-length, block-length) }
 
-    pub filled-more : (to₁ : ℕ) (room₁ : List ℕ) → to₁ ≡ to + length (encode (entry kind (take size bs))) → room₁ ≡ put room to (encode (entry kind (take size bs)))
-        → Filled room₀ start all room₁ (n - 1) (take (length ks - 2) (drop 2 ks)) (take (length ss - 1) (drop 1 ss)) (take (length bs - size) (drop size bs)) to₁
+    pub filled-more : (to₁ : ℕ) (room₁ : List ℕ) → to₁ ≡ to + length (encode (entry kind (take size bs)))
+        → room₁ ≡ put room to (encode (entry kind (take size bs)))
+        → Filled room₀ start all room₁ (n - 1) (take (length ks - 2) (drop 2 ks)) (take (length ss - 1) (drop 1 ss))
+        (take (length bs - size) (drop size bs)) to₁
     unfolding encodes
     filled-more to₁ room₁ et er =
         let l = encode (entry kind (take size bs)) in

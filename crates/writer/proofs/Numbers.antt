@@ -23,7 +23,7 @@ use Rattle.sheet.specs.Record.{Plain}
 use Rattle.sheet.specs.Sheet.{sheetFrom, isSheet}
 use Rattle.sheet.specs.Image.{leafStart, encodes, leafOf, imageOf, newest}
 use Rattle.sheet.specs.Write.{anyBad, strayControl, cannotHold, recordCauses, writeCauses, writeNumber, written}
-use Rattle.sheet.proofs.Returns.{record-numbered}
+use Rattle.sheet.proofs.Returns.{writer-order, record-numbered}
 use Rattle.writer.specs.Inside.{entryCauses}
 use Rattle.writer.proofs.Tests.{or-second}
 use Rattle.writer.proofs.Sheets.{leaf-length}
@@ -50,13 +50,17 @@ module _ (p : Plain) (row : ℕ) (er : row ≡ rowOf (p .chip)) where
 
     pub record-25 : stray ≡ true → 25 ≡ firstMet (recordCauses p)
     unfolding recordCauses cannotHold
-    record-25 e = reached (skip (some-chip h) (stop (or-second (anyBad (rowOf (p .chip)) (p .entries)) (strayControl (rowOf (p .chip)) (p .control)) (stray-is ∙ e))))
+    record-25 e =
+        reached (skip (some-chip h) (stop (or-second (anyBad (rowOf (p .chip)) (p .entries)) (strayControl (rowOf (p .chip)) (p .control))
+        (stray-is ∙ e))))
 
-    pub record-entries : (n m : ℕ) → stray ≡ false → m ≡ headerLength row → n ≡ firstMet (entryCauses row (leafStart + m) (p .entries)) → n ≡ firstMet (recordCauses p)
+    pub record-entries : (n m : ℕ) → stray ≡ false → m ≡ headerLength row → n ≡ firstMet (entryCauses row (leafStart + m) (p .entries))
+        → n ≡ firstMet (recordCauses p)
     unfolding recordCauses entryCauses cannotHold firstMet
     record-entries n m e em en =
         let held : anyBad row (p .entries) ≡ (anyBad (rowOf (p .chip)) (p .entries) || strayControl (rowOf (p .chip)) (p .control))
-        = ap (λ (r : ℕ). anyBad r (p .entries)) er ∙ sym (or-none (anyBad (rowOf (p .chip)) (p .entries)) (strayControl (rowOf (p .chip)) (p .control)) (stray-is ∙ e)) in
+        = ap (λ (r : ℕ). anyBad r (p .entries)) er
+        ∙ sym (or-none (anyBad (rowOf (p .chip)) (p .entries)) (strayControl (rowOf (p .chip)) (p .control)) (stray-is ∙ e)) in
         let k : m ≡ headerLength (rowOf (p .chip)) = em ∙ ap headerLength er in
         let ends : (leafStart + m) + length (encodes (p .entries)) ≡ leafStart + length (leafOf p) = omega (arith, leaf-length p) in
         en ∙ ap₂ (λ (b : Bool) (j : ℕ). pick b 25 (pick (ltb leavesEnd j) 26 0)) held ends
@@ -70,13 +74,11 @@ module _ (p : Plain) (row : ℕ) (er : row ≡ rowOf (p .chip)) where
 
 module _ (s : List ℕ) (k : ℕ) where
   pub write-24 : isSheet s ≡ false → 24 ≡ writeNumber s k
-  unfolding writeNumber writeCauses
-  write-24 h = reached (stop (ap not h))
+  write-24 h = sym (writer-order s k .0 h)
 
   module _ (is : isSheet s ≡ true) where
     pub write-1 : (k ≡ imageLength → ⊥) → 1 ≡ writeNumber s k
-    unfolding writeNumber writeCauses
-    write-1 h = reached (skip (ap not is) (stop (ap not (ne-eqb k imageLength h))))
+    write-1 h = sym (writer-order s k .1 is .0 h)
 
     module _ (e : k ≡ imageLength) where
       later : writeNumber s k ≡ firstMet (recordCauses (sheetFrom s) ++ judgeCauses (imageOf (sheetFrom s)) (newest (sheetFrom s .chip)))
@@ -86,7 +88,8 @@ module _ (s : List ℕ) (k : ℕ) where
       pub write-record : (n : ℕ) → n ≡ firstMet (recordCauses (sheetFrom s)) → (n ≡ 0 → ⊥) → n ≡ writeNumber s k
       write-record n en z = sym (later ∙ after-refused (recordCauses (sheetFrom s)) _ n z (sym en))
 
-      pub write-judged : (chip : ℕ) (image : List ℕ) (r : Answer) → firstMet (recordCauses (sheetFrom s)) ≡ 0 → image ≡ imageOf (sheetFrom s)
+      pub write-judged : (chip : ℕ) (image : List ℕ) (r : Answer) → firstMet (recordCauses (sheetFrom s)) ≡ 0
+          → image ≡ imageOf (sheetFrom s)
           → chip ≡ sheetFrom s .chip → r ≡ judgeAnswer image (newest chip) → r .number ≡ writeNumber s k
       unfolding judgeAnswer
       write-judged chip image r z ei ec er =
@@ -96,10 +99,12 @@ module _ (s : List ℕ) (k : ℕ) where
 
 -- ## What a call leaves
 
-pub kept : (s out : List ℕ) (n : ℕ) → n ≡ writeNumber s (length out) → (n ≡ 0 → ⊥) → (n ≡ writeNumber s (length out)) × (out ≡ written s out)
+pub kept : (s out : List ℕ) (n : ℕ) → n ≡ writeNumber s (length out) → (n ≡ 0 → ⊥)
+    → (n ≡ writeNumber s (length out)) × (out ≡ written s out)
 unfolding written
 kept s out n e z = (e, sym (pick-false _ _ _ (ne-eqb (writeNumber s (length out)) 0 (λ h. z (e ∙ h)))))
 
-pub copied : (s out image : List ℕ) → 0 ≡ writeNumber s (length out) → image ≡ imageOf (sheetFrom s) → (0 ≡ writeNumber s (length out)) × (image ≡ written s out)
+pub copied : (s out image : List ℕ) → 0 ≡ writeNumber s (length out) → image ≡ imageOf (sheetFrom s)
+    → (0 ≡ writeNumber s (length out)) × (image ≡ written s out)
 unfolding written
 copied s out image e i = (e, i ∙ sym (pick-true _ _ _ (eq-eqb (writeNumber s (length out)) 0 (sym e))))

@@ -7,12 +7,12 @@ use native.Mathlib.Omega.{arith}
 use lib.ListN.{length, set, length-append}
 use lib.Dec.{eqb, ltb}
 use borrow.Author.Tests.{eq-eqb, ne-eqb, eqb-false, ltb-false}
+use Rattle.rom.specs.Store.{put, laid}
 use Rattle.rom.proofs.Truth.{or-false, pick-true, pick-false}
+use Rattle.rom.proofs.Put.{put-none, put-two, put-put, put-length, laid-put}
 use Rattle.block.specs.Format.{kindCompact, kind21041}
 use Rattle.sheet.specs.Image.{isWhole, openingOf, encode}
 use Rattle.sheet.specs.Write.{isOtherFamily, isBadBody, isBad}
-use Rattle.sheet.specs.Lists.{put}
-use Rattle.sheet.proofs.Put.{put-none, put-two, put-put, put-length}
 use Rattle.writer.specs.Inside.{entry, openingSize, Fits}
 use Rattle.writer.proofs.Tests.{or-true, or-second}
 
@@ -79,11 +79,13 @@ module _ (k : ℕ) where
         let a = ltb-false kind21041 k (f .0) in
         let n = eqb-false k kindCompact (p .0) in
         let m = eqb-false k kind21041 (p .1) in
-        let l = ltb-false 126 (length b) (sym (pick-false (eqb k kindCompact) _ _ (p .0) ∙ pick-false (eqb k kind21041) _ _ (p .1)) ∙ g .1) in
+        let l = ltb-false 126 (length b) (sym (pick-false (eqb k kindCompact) _ _ (p .0) ∙ pick-false (eqb k kind21041) _ _ (p .1))
+        ∙ g .1) in
         (omega arith, l)
 
 -- an opening as it is written
-module _ (room : List ℕ) (to size k : ℕ) (b : List ℕ) (fit : Fits room to (entry k b) (openingOf (entry k b))) (is : size ≡ openingSize k) where
+module _ (room : List ℕ) (to size k : ℕ) (b : List ℕ) (fit : Fits room to (entry k b) (openingOf (entry k b)))
+    (is : size ≡ openingSize k) where
   pub no-opening : size ≡ 0 → room ≡ put room to (openingOf (entry k b))
   no-opening e = sym (put-none room to) ∙ ap (put room to) (sym (opening-none k b (is-whole k (sym is ∙ e))))
 
@@ -106,15 +108,17 @@ module _ (room room₁ : List ℕ) (to size k : ℕ) (b : List ℕ) (fit : Fits 
   pub entry-fits : to + size + length b ≤ length room
   entry-fits = omega (arith, encode-length k b, fit .fits)
 
-  pub entry-room : to + size + length b ≤ length room₁
+  entry-room : to + size + length b ≤ length room₁
   entry-room =
-      let l : length room₁ ≡ length room = ap length is-room ∙ put-length room to (openingOf (entry k b)) (omega (arith, entry-fits, opening-length k b)) in
+      let l : length room₁ ≡ length room = ap length is-room
+      ∙ put-length room to (openingOf (entry k b)) (omega (arith, entry-fits, opening-length k b)) in
       omega (arith, entry-fits)
 
   pub entry-end : to + size + length b ≡ to + length (encode (entry k b))
   entry-end = omega (arith, encode-length k b)
 
-  pub entry-put : (room₂ : List ℕ) → room₂ ≡ put room₁ (to + size) b → room₂ ≡ put room to (encode (entry k b))
+  pub entry-put : (room₂ : List ℕ) → room₂ ≡ laid room₁ (to + size) b → room₂ ≡ put room to (encode (entry k b))
   entry-put room₂ e =
       let n : to + size ≡ to + length (openingOf (entry k b)) = omega (arith, opening-length k b) in
-      e ∙ ap₂ (λ (r : List ℕ) (m : ℕ). put r m b) is-room n ∙ put-put room to (openingOf (entry k b)) b (omega (arith, entry-fits))
+      e ∙ laid-put room₁ (to + size) b entry-room ∙ ap₂ (λ (r : List ℕ) (m : ℕ). put r m b) is-room n
+      ∙ put-put room to (openingOf (entry k b)) b (omega (arith, entry-fits))

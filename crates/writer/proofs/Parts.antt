@@ -13,7 +13,8 @@ use Rattle.sheet.specs.Sheet.{entriesFrom}
 use Rattle.writer.specs.Inside.{entry, Parts}
 
 pub entries-more : (n : ℕ) (ks ss bs : List ℕ) → 0 < n
-    → entriesFrom n ks ss bs ≡ entry (wordAt ks 0) (take (byteAt ss 0) bs) ∷ entriesFrom (n - 1) (drop 2 ks) (drop 1 ss) (drop (byteAt ss 0) bs)
+    → entriesFrom n ks ss bs ≡ entry (wordAt ks 0) (take (byteAt ss 0) bs)
+    ∷ entriesFrom (n - 1) (drop 2 ks) (drop 1 ss) (drop (byteAt ss 0) bs)
 unfolding entriesFrom
 entries-more zero ks ss bs h = absurd (omega arith)
 entries-more (suc n) ks ss bs h = rw sub-one refl
@@ -52,7 +53,8 @@ parts-next (suc n) ks (x ∷ ss) bs h p =
     }
 
 -- what the code does with the parts of a turn, whose kind and size were read
-module _ (n : ℕ) (ks ss bs : List ℕ) (kind size : ℕ) (h : 0 < n) (p : Parts n ks ss bs) (ek : kind ≡ wordAt ks 0) (es : size ≡ byteAt ss 0) where
+module _ (n : ℕ) (ks ss bs : List ℕ) (kind size : ℕ) (h : 0 < n) (p : Parts n ks ss bs) (ek : kind ≡ wordAt ks 0)
+    (es : size ≡ byteAt ss 0) where
   pub next : Next n ks ss bs
   next = parts-next n ks ss bs h p
 

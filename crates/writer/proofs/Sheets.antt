@@ -1,26 +1,28 @@
 -- What a sheet's length and sum give, and the leaf of what it means. Assumes nothing.
-use Prim.Native.Nat.{ℕ, _+_, _*_, _-_, _≤_, _<_}
+use Prim.Native.Nat.{ℕ, _+_, _*_, _-_, _≤_}
 use mathlib.Core.Path.{_≡_, refl, sym, ap, ap₂, _∙_}
 use mathlib.Core.Bool.{Bool, true, false}
 use mathlib.Core.List.{List, [], _∷_, _++_}
 use native.Mathlib.Omega.{arith}
 use lib.ListN.{length, take, drop, set, length-append, length-drop}
 use lib.Dec.{eqb, lit<}
-use borrow.Author.Tests.{eq-eqb, ne-eqb, eqb-true, ltb-false}
+use borrow.Author.Tests.{eq-eqb, ne-eqb, ltb-false}
 use Rattle.rom.specs.Geometry.{leavesEnd}
 use Rattle.rom.specs.Bytes.{pick, byteAt, wordAt}
+use Rattle.rom.specs.Store.{wordBytes, put, laid}
 use Rattle.rom.proofs.First.{none-here}
-use Rattle.rom.proofs.Truth.{and-true, or-false, pick-true, pick-false}
+use Rattle.rom.proofs.Truth.{or-false, pick-true, pick-false}
+use Rattle.rom.proofs.Put.{put-one, put-two, put-put, put-length, laid-word}
 use Rattle.block.specs.Format.{rowOf, row21140}
 use Rattle.header.specs.Image.{headerLength}
 use Rattle.leaf.proofs.Cuts.{rest-part}
-use Rattle.sheet.specs.Lists.{wordBytes, sum, put}
+use Rattle.sheet.specs.Lists.{sum}
 use Rattle.sheet.specs.Layout.{headLength}
 use Rattle.sheet.specs.Record.{Entry, Plain}
 use Rattle.sheet.specs.Sheet.{countIn, totalIn, kindsIn, sizesIn, bodiesIn, entriesFrom, sheetFrom, isSheet}
 use Rattle.sheet.specs.Image.{leafStart, encodes, controlBytes, leafHeadOf, leafOf}
 use Rattle.sheet.specs.Write.{anyBad, cannotHold, recordCauses}
-use Rattle.sheet.proofs.Put.{put-one, put-two, put-put, put-length}
+use Rattle.sheet.proofs.Sheets.{long, total}
 use Rattle.writer.specs.Inside.{Parts, Holds, Writable}
 use Rattle.writer.proofs.Parts.{entries-length}
 
@@ -34,7 +36,8 @@ module _ (s : List ℕ) (n t : ℕ) (en : n ≡ byteAt s 0) (et : t ≡ byteAt s
       let f : length s ≡ headLength + 3 * countIn s + totalIn s → ⊥ = λ e. h (omega arith) in
       rw (ne-eqb (length s) (headLength + 3 * countIn s + totalIn s) f)
 
-  pub sum-decides : (m : ℕ) → length s ≡ headLength + 3 * n + t → m ≡ sum (take (headLength + 3 * n - (headLength + 2 * n)) (drop (headLength + 2 * n) s))
+  pub sum-decides : (m : ℕ) → length s ≡ headLength + 3 * n + t
+      → m ≡ sum (take (headLength + 3 * n - (headLength + 2 * n)) (drop (headLength + 2 * n) s))
       → eqb t m ≡ isSheet s
   unfolding isSheet
   sum-decides m l em =
@@ -45,33 +48,27 @@ module _ (s : List ℕ) (n t : ℕ) (en : n ≡ byteAt s 0) (et : t ≡ byteAt s
       rw (eq-eqb (length s) (headLength + 3 * countIn s + totalIn s) e) (ap₂ eqb et is)
 
 module _ (s : List ℕ) (is : isSheet s ≡ true) where
-  pub long : length s ≡ headLength + 3 * countIn s + totalIn s
-  unfolding isSheet
-  long = eqb-true _ _ (and-true (eqb (length s) (headLength + 3 * countIn s + totalIn s)) _ is .0)
-
   pub has-head : headLength ≤ length s
-  has-head = omega (arith, long)
-
-  pub total : totalIn s ≡ sum (take (countIn s) (sizesIn s))
-  unfolding isSheet
-  total = eqb-true _ _ (and-true (eqb (length s) (headLength + 3 * countIn s + totalIn s)) _ is .1)
+  has-head = omega (arith, long s is)
 
   -- the parts, as the checker reads them
   module _ (n : ℕ) (en : n ≡ byteAt s 0) where
     pub cut-fits : headLength + 3 * n ≤ length s
-    cut-fits = omega (arith, long)
+    cut-fits = omega (arith, long s is)
 
-    pub cut-parts : Parts n (take (length s - headLength) (drop headLength s)) (take (length s - (headLength + 2 * n)) (drop (headLength + 2 * n) s))
+    pub cut-parts : Parts n (take (length s - headLength) (drop headLength s))
+        (take (length s - (headLength + 2 * n)) (drop (headLength + 2 * n) s))
         (take (length s - (headLength + 3 * n)) (drop (headLength + 3 * n) s))
     cut-parts =
         rw (rest-part headLength s, rest-part (headLength + 2 * n) s, rest-part (headLength + 3 * n) s, en)
         (record {
-          forKinds = omega (arith, length-drop headLength s, long);
-          forSizes = omega (arith, length-drop (headLength + 2 * byteAt s 0) s, long);
-          forBodies = omega (arith, length-drop (headLength + 3 * byteAt s 0) s, long, total);
+          forKinds = omega (arith, length-drop headLength s, long s is);
+          forSizes = omega (arith, length-drop (headLength + 2 * byteAt s 0) s, long s is);
+          forBodies = omega (arith, length-drop (headLength + 3 * byteAt s 0) s, long s is, total s is);
         })
 
-    pub cut-entries : entriesFrom n (take (length s - headLength) (drop headLength s)) (take (length s - (headLength + 2 * n)) (drop (headLength + 2 * n) s))
+    pub cut-entries : entriesFrom n (take (length s - headLength) (drop headLength s))
+        (take (length s - (headLength + 2 * n)) (drop (headLength + 2 * n) s))
         (take (length s - (headLength + 3 * n)) (drop (headLength + 3 * n) s)) ≡ sheetFrom s .entries
     unfolding sheetFrom
     cut-entries = rw (rest-part headLength s, rest-part (headLength + 2 * n) s, rest-part (headLength + 3 * n) s, en) refl
@@ -91,21 +88,25 @@ unfolding leafOf
 leaf-length p = length-append (leafHeadOf p) (encodes (p .entries)) ∙ ap (λ (n : ℕ). n + length (encodes (p .entries))) (head-length p)
 
 -- the head as it is written
-module _ (s : List ℕ) (row c : ℕ) (room room₁ : List ℕ) (er : row ≡ rowOf (sheetFrom s .chip)) (ec : c ≡ wordAt s 29) (fits : 4 ≤ length room) (is : room₁ ≡ put room 0 (wordBytes c)) where
+module _ (s : List ℕ) (row c : ℕ) (room room₁ : List ℕ) (er : row ≡ rowOf (sheetFrom s .chip)) (ec : c ≡ wordAt s 29)
+    (fits : 4 ≤ length room) (is : room₁ ≡ laid room 0 (wordBytes c)) where
+  word-put : room₁ ≡ put room 0 (wordBytes c)
+  word-put = is ∙ laid-word room 0 c (omega arith)
+
   counted : length (sheetFrom s .entries) ≡ byteAt s 0
   unfolding sheetFrom
   counted = entries-length (countIn s) (kindsIn s) (sizesIn s) (bodiesIn s)
 
   same : length room₁ ≡ length room
   unfolding wordBytes
-  same = ap length is ∙ put-length room 0 (wordBytes c) (omega arith)
+  same = ap length word-put ∙ put-length room 0 (wordBytes c) (omega arith)
 
   pub head-room : 4 ≤ length room₁
   head-room = omega (arith, same)
 
   joined : (ys : List ℕ) → put room₁ 2 ys ≡ put room 0 (wordBytes c ++ ys)
   unfolding wordBytes
-  joined ys = ap (λ (r : List ℕ). put r 2 ys) is ∙ put-put room 0 (wordBytes c) ys (omega arith)
+  joined ys = ap (λ (r : List ℕ). put r 2 ys) word-put ∙ put-put room 0 (wordBytes c) ys (omega arith)
 
   pub head-21140 : row ≡ row21140 → set (set room₁ 2 (byteAt s 31)) 3 (byteAt s 0) ≡ put room 0 (leafHeadOf (sheetFrom s))
   unfolding leafHeadOf controlBytes sheetFrom
@@ -114,7 +115,8 @@ module _ (s : List ℕ) (row c : ℕ) (room room₁ : List ℕ) (er : row ≡ ro
       put-two room₁ 2 (byteAt s 31) (byteAt s 0) head-room ∙ joined (byteAt s 31 ∷ byteAt s 0 ∷ [])
       ∙ ap (put room 0)
       (ap₂ (λ (w n : ℕ). wordBytes w ++ (byteAt s 31 ∷ n ∷ [])) ec (sym counted)
-      ∙ ap (λ (l : List ℕ). wordBytes (wordAt s 29) ++ (l ++ length (p .entries) ∷ [])) (sym (pick-true (eqb (rowOf (p .chip)) row21140) _ _ (eq-eqb _ row21140 (sym er ∙ e)))))
+      ∙ ap (λ (l : List ℕ). wordBytes (wordAt s 29) ++ (l ++ length (p .entries) ∷ []))
+      (sym (pick-true (eqb (rowOf (p .chip)) row21140) _ _ (eq-eqb _ row21140 (sym er ∙ e)))))
 
   pub head-other : (row ≡ row21140 → ⊥) → set room₁ 2 (byteAt s 0) ≡ put room 0 (leafHeadOf (sheetFrom s))
   unfolding leafHeadOf controlBytes sheetFrom
@@ -123,7 +125,8 @@ module _ (s : List ℕ) (row c : ℕ) (room room₁ : List ℕ) (er : row ≡ ro
       put-one room₁ 2 (byteAt s 0) (omega (arith, head-room)) ∙ joined (byteAt s 0 ∷ [])
       ∙ ap (put room 0)
       (ap₂ (λ (w n : ℕ). wordBytes w ++ (n ∷ [])) ec (sym counted)
-      ∙ ap (λ (l : List ℕ). wordBytes (wordAt s 29) ++ (l ++ length (p .entries) ∷ [])) (sym (pick-false (eqb (rowOf (p .chip)) row21140) _ _ (ne-eqb _ row21140 (λ g. e (er ∙ g))))))
+      ∙ ap (λ (l : List ℕ). wordBytes (wordAt s 29) ++ (l ++ length (p .entries) ∷ []))
+      (sym (pick-false (eqb (rowOf (p .chip)) row21140) _ _ (ne-eqb _ row21140 (λ g. e (er ∙ g))))))
 
 -- ## What 7, 25 and 26 leave
 
@@ -133,25 +136,29 @@ module _ (s : List ℕ) (w : Writable s) where
   held =
       let a = none-here _ _ (lit< tt) (w .number) in
       let b = none-here _ _ (lit< tt) (a .1) in
-      let c = none-here _ _ (lit< tt) (b .1) in
-      (or-false (anyBad (rowOf (sheetFrom s .chip)) (sheetFrom s .entries)) _ (b .0) .0, ltb-false leavesEnd (leafStart + length (leafOf (sheetFrom s))) (c .0))
+      let c = none-here _ _ (lit< tt) (b .1) in (
+        or-false (anyBad (rowOf (sheetFrom s .chip)) (sheetFrom s .entries)) _ (b .0) .0,
+        ltb-false leavesEnd (leafStart + length (leafOf (sheetFrom s))) (c .0),
+      )
 
   pub leaf-fits : length (leafOf (sheetFrom s)) ≤ leavesEnd - leafStart
   leaf-fits = omega (arith, held .1)
 
   -- the leaf behind its head, in the terms of the code
   module _ (n : ℕ) (en : n ≡ byteAt s 0) (row m : ℕ) (er : row ≡ rowOf (sheetFrom s .chip)) (em : m ≡ headerLength row)
-      (room room₁ : List ℕ) (size : leafStart + length room ≡ leavesEnd) (is : room₁ ≡ put room 0 (leafHeadOf (sheetFrom s))) where
+      (room room₁ : List ℕ) (size : leavesEnd ≤ leafStart + length room) (is : room₁ ≡ put room 0 (leafHeadOf (sheetFrom s))) where
     at-head : m ≡ length (leafHeadOf (sheetFrom s))
     at-head = em ∙ ap headerLength er ∙ sym (head-length (sheetFrom s))
 
     leaf-room : m + length (encodes (sheetFrom s .entries)) ≤ length room
     leaf-room = omega (arith, held .1, at-head, head-length (sheetFrom s), leaf-length (sheetFrom s))
 
-    pub leaf-holds : Holds room₁ m n (take (length s - headLength) (drop headLength s)) (take (length s - (headLength + 2 * n)) (drop (headLength + 2 * n) s))
+    pub leaf-holds : Holds room₁ m n (take (length s - headLength) (drop headLength s))
+        (take (length s - (headLength + 2 * n)) (drop (headLength + 2 * n) s))
         (take (length s - (headLength + 3 * n)) (drop (headLength + 3 * n) s))
     leaf-holds =
-        let same : length room₁ ≡ length room = ap length is ∙ put-length room 0 (leafHeadOf (sheetFrom s)) (omega (arith, leaf-room, at-head)) in
+        let same : length room₁ ≡ length room = ap length is
+        ∙ put-length room 0 (leafHeadOf (sheetFrom s)) (omega (arith, leaf-room, at-head)) in
         let es = cut-entries s (w .is) n en in
         record {
           parts = cut-parts s (w .is) n en;
@@ -160,7 +167,9 @@ module _ (s : List ℕ) (w : Writable s) where
           fits = rw es (omega (arith, leaf-room, same));
         }
 
-    pub leaf-put : (room₂ : List ℕ) → room₂ ≡ put room₁ m (encodes (entriesFrom n (take (length s - headLength) (drop headLength s)) (take (length s - (headLength + 2 * n)) (drop (headLength + 2 * n) s))
+    pub leaf-put : (room₂ : List ℕ) → room₂
+        ≡ put room₁ m (encodes (entriesFrom n (take (length s - headLength) (drop headLength s))
+        (take (length s - (headLength + 2 * n)) (drop (headLength + 2 * n) s))
         (take (length s - (headLength + 3 * n)) (drop (headLength + 3 * n) s)))) → room₂ ≡ put room 0 (leafOf (sheetFrom s))
     unfolding leafOf
     leaf-put room₂ e =

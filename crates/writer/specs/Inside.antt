@@ -7,9 +7,10 @@ use lib.ListN.{length, take, set, replicate}
 use lib.Dec.{ltb}
 use Rattle.rom.specs.Geometry.{imageLength, leavesEnd, checkedLength, idCrcAt}
 use Rattle.rom.specs.Bytes.{pick}
+use Rattle.rom.specs.Store.{wordBytes, put}
 use Rattle.rom.specs.Refusal.{Cause, _⇒_, firstMet}
 use Rattle.crc.specs.Crc.{sromCrc, idCrc}
-use Rattle.sheet.specs.Lists.{wordBytes, sum, put}
+use Rattle.sheet.specs.Lists.{sum}
 use Rattle.sheet.specs.Record.{Entry}
 use Rattle.sheet.specs.Sheet.{entriesFrom, sheetFrom, isSheet}
 use Rattle.sheet.specs.Image.{leafStart, isWhole, encodes}
@@ -25,11 +26,11 @@ unfoldable pub frameOf : List ℕ → List ℕ → List ℕ
 frameOf front maker = front ++ (zeros (leavesEnd - leafStart) ++ (maker ++ zeros (imageLength - checkedLength)))
 
 -- an image with its ID CRC, and with its SROM CRC
-unfoldable pub identified : List ℕ → List ℕ
-identified image = set image idCrcAt (idCrc image)
+unfoldable pub withIdCrc : List ℕ → List ℕ
+withIdCrc image = set image idCrcAt (idCrc image)
 
-unfoldable pub sealed : List ℕ → List ℕ
-sealed image = put image checkedLength (wordBytes (sromCrc image))
+unfoldable pub withSromCrc : List ℕ → List ℕ
+withSromCrc image = put image checkedLength (wordBytes (sromCrc image))
 
 -- ## Entries
 

@@ -100,7 +100,8 @@ pub(crate) fn refusal_of(
 ) -> u8
     requires { ⌜ Parts count (now kinds) (now sizes) (now bodies) ⌝ }
     requires { ⌜ (count < 256) × (start < 256) ⌝ }
-    ensures { λ r. ⌜ r ≡ firstMet (entryCauses row start (entriesFrom count (now (kinds .entry)) (now (sizes .entry)) (now (bodies .entry)))) ⌝ }
+    ensures { λ r. ⌜ r ≡
+        firstMet (entryCauses row start (entriesFrom count (now (kinds .entry)) (now (sizes .entry)) (now (bodies .entry)))) ⌝ }
 {
     let mut left = count;
     let mut kind_rest = kinds;

@@ -1,19 +1,19 @@
 // The leaf writer (document 01, 'Leaf and blocks'): it is lent the image from byte 30 on.
 use super::entries::count_at;
 use super::entries::opening_size;
-use super::store::put_bytes;
-use super::store::put_word;
 use block::chip;
 use rom::ByteOffset;
+use rom::store::put_bytes;
+use rom::store::put_word;
 ghost use mathlib.Core.Path.{_≡_};
 ghost use Prim.Native.Nat.{_+_, _≤_};
 ghost use lib.ListN.{length};
 ghost use Rattle.rom.specs.Geometry.{leavesEnd};
+ghost use Rattle.rom.specs.Store.{put};
 ghost use Rattle.block.specs.Format.{rowOf};
 ghost use Rattle.sheet.specs.Layout.{headLength};
 ghost use Rattle.sheet.specs.Sheet.{entriesFrom, sheetFrom};
 ghost use Rattle.sheet.specs.Image.{leafStart, openingOf, encode, encodes, leafHeadOf, leafOf};
-ghost use Rattle.sheet.specs.Lists.{put};
 ghost use Rattle.writer.specs.Inside.{entry, Fits, Holds, Writable};
 
 // The first byte of an extended block with an empty body: the top bit, and the length of the type byte alone.
@@ -39,7 +39,7 @@ fn put_entry(room: &mut [u8], to: usize, kind: u16, body: &[u8]) -> usize
 {
     put_opening(room, to, kind, body);
     let at = to + opening_size(kind);
-    put_bytes(room, at, body);
+    put_bytes(room, ByteOffset(at), body);
     at + body.len()
 }
 
@@ -53,7 +53,8 @@ fn put_entries(
     bodies: &[u8],
 )
     requires { ⌜ Holds (now room) start count (now kinds) (now sizes) (now bodies) ⌝ }
-    ensures { λ _. ⌜ now (room .exit) ≡ put (now (room .entry)) start (encodes (entriesFrom count (now (kinds .entry)) (now (sizes .entry)) (now (bodies .entry)))) ⌝ }
+    ensures { λ _. ⌜ now (room .exit) ≡
+        put (now (room .entry)) start (encodes (entriesFrom count (now (kinds .entry)) (now (sizes .entry)) (now (bodies .entry)))) ⌝ }
 {
     let mut left = count;
     let mut kind_rest = kinds;
@@ -78,7 +79,7 @@ fn put_head(room: &mut [u8], row: usize, sheet: &[u8])
 {
     put_word(
         room,
-        0,
+        ByteOffset(0),
         rom::word_at(sheet, ByteOffset(sheet::CONNECTION_AT)),
     );
     if row == chip::ROW_21140 {
@@ -89,9 +90,9 @@ fn put_head(room: &mut [u8], row: usize, sheet: &[u8])
     room[2] = sheet[sheet::COUNT_AT];
 }
 
-// Writes the leaf of a sheet.
+// Writes the leaf of a sheet at the room's front.
 pub(crate) fn put_leaf(room: &mut [u8], sheet: &[u8])
-    requires { ⌜ Writable (now sheet) × (leafStart + length (now room) ≡ leavesEnd) ⌝ }
+    requires { ⌜ Writable (now sheet) × (leavesEnd ≤ leafStart + length (now room)) ⌝ }
     ensures { λ _. ⌜ now (room .exit) ≡ put (now (room .entry)) 0 (leafOf (sheetFrom (now (sheet .entry)))) ⌝ }
 {
     let row = chip::row_of(rom::word_at(sheet, ByteOffset(sheet::CHIP_AT)));

@@ -1,14 +1,13 @@
 // The writer: a sheet becomes an image (document 01, 'The sheet').
 mod entries;
 mod leaf_writer;
-mod store;
 
 use block::chip;
 use reader::Arguments;
 use rom::ByteOffset;
 use rom::refusal;
-use store::put_bytes;
-use store::put_word;
+use rom::store::put_bytes;
+use rom::store::put_word;
 ghost use mathlib.Core.Path.{_≡_};
 ghost use mathlib.Core.Bool.{true};
 ghost use Prim.Native.Nat.{_≤_};
@@ -19,7 +18,7 @@ ghost use Rattle.sheet.specs.Layout.{headLength};
 ghost use Rattle.sheet.specs.Sheet.{isSheet, sheetFrom};
 ghost use Rattle.sheet.specs.Image.{frontWith, imageOf};
 ghost use Rattle.sheet.specs.Write.{strayControl, recordCauses, writeNumber, written};
-ghost use Rattle.writer.specs.Inside.{Writable, zeros, frameOf, identified, sealed};
+ghost use Rattle.writer.specs.Inside.{Writable, zeros, frameOf, withIdCrc, withSromCrc};
 
 // Where ID byte 17 stands in an image, before the version.
 const LAST_ID_AT: usize = rom::ID_CRC_AT + 1;
@@ -93,22 +92,30 @@ fn frame(sheet: &[u8]) -> [u8; rom::IMAGE_LENGTH]
     ensures { λ r. ⌜ r ≡ frameOf (frontWith 0 (sheetFrom (now (sheet .entry)))) (sheetFrom (now (sheet .entry)) .maker) ⌝ }
 {
     let mut image = blank();
-    put_bytes(&mut image, 0, &sheet[sheet::ID_AT..sheet::LAST_ID_AT]);
     put_bytes(
         &mut image,
-        LAST_ID_AT,
+        ByteOffset(0),
+        &sheet[sheet::ID_AT..sheet::LAST_ID_AT],
+    );
+    put_bytes(
+        &mut image,
+        ByteOffset(LAST_ID_AT),
         &sheet[sheet::LAST_ID_AT..sheet::ADDRESS_AT],
     );
     image[rom::CONTROLLER_COUNT_AT] = CONTROLLERS;
     put_bytes(
         &mut image,
-        rom::ADDRESS_AT,
+        ByteOffset(rom::ADDRESS_AT),
         &sheet[sheet::ADDRESS_AT..sheet::CHIP_AT],
     );
-    put_word(&mut image, LEAF_OFFSET_AT, sheet::LEAF_START as u16);
+    put_word(
+        &mut image,
+        ByteOffset(LEAF_OFFSET_AT),
+        sheet::LEAF_START as u16,
+    );
     put_bytes(
         &mut image,
-        rom::LEAVES_END,
+        ByteOffset(rom::LEAVES_END),
         &sheet[sheet::MAKER_AT..sheet::HEAD_LENGTH],
     );
     image
@@ -116,7 +123,7 @@ fn frame(sheet: &[u8]) -> [u8; rom::IMAGE_LENGTH]
 
 // The image with its ID CRC.
 fn identify(image: [u8; rom::IMAGE_LENGTH]) -> [u8; rom::IMAGE_LENGTH]
-    ensures { λ r. ⌜ r ≡ identified image ⌝ }
+    ensures { λ r. ⌜ r ≡ withIdCrc image ⌝ }
 {
     let checksum = crc::id_crc(&image).value;
     let mut whole = image;
@@ -126,21 +133,21 @@ fn identify(image: [u8; rom::IMAGE_LENGTH]) -> [u8; rom::IMAGE_LENGTH]
 
 // The image with its SROM CRC.
 fn seal(image: [u8; rom::IMAGE_LENGTH]) -> [u8; rom::IMAGE_LENGTH]
-    ensures { λ r. ⌜ r ≡ sealed image ⌝ }
+    ensures { λ r. ⌜ r ≡ withSromCrc image ⌝ }
 {
     let checksum = crc::srom_crc(&image).value;
     let mut whole = image;
-    put_word(&mut whole, rom::CHECKED_LENGTH, checksum);
+    put_word(&mut whole, ByteOffset(rom::CHECKED_LENGTH), checksum);
     whole
 }
 
-// The image of a sheet. Its part from byte 30 up to the maker's bytes is lent to the leaf writer.
+// The image of a sheet. The image from byte 30 on is lent to the leaf writer.
 fn build(sheet: &[u8]) -> [u8; rom::IMAGE_LENGTH]
     requires { ⌜ Writable (now sheet) ⌝ }
     ensures { λ r. ⌜ r ≡ imageOf (sheetFrom (now (sheet .entry))) ⌝ }
 {
     let mut image = identify(frame(sheet));
-    leaf_writer::put_leaf(&mut image[sheet::LEAF_START..rom::LEAVES_END], sheet);
+    leaf_writer::put_leaf(&mut image[sheet::LEAF_START..], sheet);
     seal(image)
 }
 
@@ -171,6 +178,6 @@ pub fn write(sheet: &[u8], image: &mut [u8]) -> u8
     if judged != refusal::ACCEPTED {
         return judged;
     }
-    bytes::copy(&built, image);
+    put_bytes(image, ByteOffset(0), &built);
     refusal::ACCEPTED
 }

@@ -7,7 +7,7 @@ use second::crc;
 use second::images::block::{self, Phy};
 use second::images::{Card, Image};
 use second::random::Random;
-use second::reader::{self, Arguments};
+use second::reader::{self, Arguments, HIGHEST_COUNT};
 use second::{sheet, walk};
 use std::{env, hint::black_box, time::Instant};
 
@@ -133,7 +133,7 @@ fn contest_by_value(images: &[Image]) {
 /// A walk that has settled on the first entry of the table.
 fn settled(image: &[u8], arguments: Arguments) -> Walk {
     let loaded = walk::fast::load(walk::fast::fresh(), image, arguments).walk;
-    let walked = walk::fast::look(loaded, &[1; 255]);
+    let walked = walk::fast::look(loaded, &[1; HIGHEST_COUNT]);
     assert!(walked.walk.settled, "the newest walk serves the leaf");
     walked.walk
 }
@@ -178,7 +178,7 @@ fn reading(
     arguments: Arguments,
     read: impl Fn(&[u8], Arguments, &mut [u16], &mut [u16]) -> Answer,
 ) -> impl FnMut(&[u8]) -> Answer {
-    let (mut kinds, mut offsets) = ([0; 255], [0; 255]);
+    let (mut kinds, mut offsets) = ([0; HIGHEST_COUNT], [0; HIGHEST_COUNT]);
     move |image| read(image, arguments, &mut kinds, &mut offsets)
 }
 

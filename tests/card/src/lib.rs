@@ -1,5 +1,6 @@
 //! The bench tool `./card`, run from the root of the repository.
 
+use std::fs;
 use std::path::{Path, PathBuf};
 use std::process::Command;
 
@@ -40,20 +41,41 @@ pub fn temporary(name: &str) -> PathBuf {
     let folder = Path::new(env!("CARGO_MANIFEST_DIR"))
         .join("../target/card")
         .join(name);
-    let _ = std::fs::remove_dir_all(&folder);
-    std::fs::create_dir_all(&folder).unwrap();
+    let _ = fs::remove_dir_all(&folder);
+    fs::create_dir_all(&folder).unwrap();
     folder.canonicalize().unwrap()
 }
 
 /// The sample images: each file's name, its chip and its bytes, as samples/README.md lists them.
+/// Each row names a file, and each image has one row.
 pub fn samples() -> Vec<(String, u16, Vec<u8>)> {
-    let readme = std::fs::read_to_string(root().join("samples/README.md")).unwrap();
-    let row = |line: &str| {
-        let mut cells = line.strip_prefix("| ")?.split(" | ");
-        let name = cells.next()?;
-        let chip = cells.next()?.parse().ok()?;
-        let image = std::fs::read(root().join("samples").join(name)).ok()?;
-        Some((name.to_string(), chip, image))
+    let folder = root().join("samples");
+    let readme = fs::read_to_string(folder.join("README.md")).unwrap();
+    let sample = |row: &str| {
+        let mut cells = row.split(" | ").map(|cell| cell.trim_start_matches("| "));
+        let name = cells.next().unwrap().to_string();
+        let chip = cells.next().and_then(|chip| chip.parse().ok());
+        let chip = chip.unwrap_or_else(|| panic!("samples/README.md has no chip in: {row}"));
+        let image = fs::read(folder.join(&name));
+        let image = image.unwrap_or_else(|error| panic!("samples/{name}: {error}"));
+        (name, chip, image)
     };
-    readme.lines().filter_map(row).collect()
+    // The first row has the titles.
+    let rows = readme.lines().filter(|line| line.starts_with("| ")).skip(1);
+    let samples: Vec<_> = rows.map(sample).collect();
+    let mut names: Vec<_> = samples.iter().map(|(name, ..)| name.clone()).collect();
+    names.sort();
+    assert_eq!(images(&folder), names, "samples/README.md has other rows");
+    samples
+}
+
+/// The names of a folder's images, sorted.
+fn images(folder: &Path) -> Vec<String> {
+    let names = fs::read_dir(folder).unwrap();
+    let mut names: Vec<_> = names
+        .map(|entry| entry.unwrap().file_name().into_string().unwrap())
+        .filter(|name| name.ends_with(".rom"))
+        .collect();
+    names.sort();
+    names
 }

@@ -5,7 +5,8 @@ use second::crc::{IMAGE_LENGTH, lay_srom_crc};
 use second::images::{Image, Sample};
 use second::random::Random;
 use second::reader::{
-    Answer, Arguments, CHIPS, COMPACT, MEDIA_21041, NEWEST_LEVEL, NO_DEFAULT, header_size,
+    Answer, Arguments, CHIPS, COMPACT, MEDIA_21041, NEWEST_LEVEL, NO_DEFAULT, controller_offset,
+    header_size, read_all, starts,
 };
 use second::sheet;
 use second::walk::{Autosense, NONE};
@@ -22,8 +23,7 @@ fn kind_words(kind: u16) -> String {
 
 /// The facts of a reading that the tool shows, as the second implementation has them.
 fn expected(image: &[u8], arguments: Arguments) -> Vec<String> {
-    let (mut kinds, mut offsets) = ([0; 255], [0; 255]);
-    let answer = second::reader::read(image, arguments, &mut kinds, &mut offsets);
+    let (answer, entries) = read_all(image, arguments);
     if answer.number != 0 {
         return vec![format!("REFUSED {}", answer.number)];
     }
@@ -35,9 +35,8 @@ fn expected(image: &[u8], arguments: Arguments) -> Vec<String> {
         answer.blocks, answer.listed, answer.resets, answer.skipped
     ));
     facts.push(default(&answer));
-    for entry in 0..usize::from(answer.listed) {
-        let kind = kind_words(kinds[entry]);
-        facts.push(format!("{entry} {} {kind}", offsets[entry]));
+    for (entry, (kind, offset)) in entries.into_iter().enumerate() {
+        facts.push(format!("{entry} {offset} {}", kind_words(kind)));
     }
     facts
 }
@@ -136,14 +135,14 @@ fn readings() {
 
 /// The block for which an image is refused: the last of the fewest blocks that are refused so, were they the whole leaf.
 fn refused_block(image: &Image, arguments: Arguments, number: u8) -> u8 {
-    let entry = 27 + 3 * usize::from(arguments.controller);
-    let leaf = u16::from_le_bytes([image[entry], image[entry + 1]]);
+    let controller = controller_offset(arguments.controller.into());
+    let leaf = u16::from_le_bytes([image[controller + 1], image[controller + 2]]);
     let count = usize::from(leaf) + header_size(arguments.chip) - 1;
     let is_refused = |&blocks: &u8| {
         let mut fewer = *image;
         fewer[count] = blocks;
         lay_srom_crc(&mut fewer);
-        second::reader::read(&fewer, arguments, &mut [0; 255], &mut [0; 255]).number == number
+        read_all(&fewer, arguments).0.number == number
     };
     (1..=image[count]).find(is_refused).unwrap() - 1
 }
@@ -184,82 +183,79 @@ fn named_blocks() {
     }
 }
 
-/// The sheet of every sample, and the image of that sheet: the second implementation's bytes, or no file.
+/// The sheet of every sample, and the image of that sheet: the second implementation's bytes, or no
+/// file.
 #[test]
 fn sheets() {
     let folder = temporary("sheets");
-    let (made, written) = (folder.join("card.sheet"), folder.join("card.rom"));
     let mut count = 0;
     for (name, chip, image) in samples() {
-        let run = card(&format!(
-            "sheet samples/{name} {chip} {} --force",
-            made.display()
-        ));
+        let made = folder.join(&name).with_extension("sheet");
+        let run = card(&format!("sheet samples/{name} {chip} {}", made.display()));
         let mut buffer = [0; 1024];
         let answer = sheet::make(&image, chip, &mut buffer);
         if answer.number != 0 {
-            assert!(
-                run.written
-                    .starts_with(&format!("REFUSED {}: ", answer.number)),
-                "{name}"
-            );
+            let refused = format!("REFUSED {}: ", answer.number);
+            assert!(run.written.starts_with(&refused), "{name}");
             assert_eq!(run.status, 1, "{name}");
+            assert!(!made.exists(), "{name}");
             continue;
         }
         let bytes = &buffer[..answer.length];
-        assert_eq!(
-            run.written,
-            format!("ACCEPTED  {} bytes are written\n", bytes.len())
-        );
+        let accepted = format!("ACCEPTED  {} bytes are written\n", bytes.len());
+        assert_eq!((run.written, run.status), (accepted, 0), "{name}");
         assert_eq!(fs::read(&made).unwrap(), bytes, "{name}");
-        let run = card(&format!(
-            "write {} {} --force",
-            made.display(),
-            written.display()
-        ));
+        let written = folder.join(&name);
+        let run = card(&format!("write {} {}", made.display(), written.display()));
         let mut image = [0; IMAGE_LENGTH];
         assert_eq!(sheet::write(bytes, &mut image), 0, "{name}");
-        assert_eq!(run.written, "ACCEPTED  128 bytes are written\n", "{name}");
+        let accepted = "ACCEPTED  128 bytes are written\n".to_string();
+        assert_eq!((run.written, run.status), (accepted, 0), "{name}");
         assert_eq!(fs::read(&written).unwrap(), image, "{name}");
         count += 1;
     }
     assert!(count >= 10, "{count} samples have a sheet");
 }
 
-/// The walk: after each look the selected block, settled, looks and switches, or the refusal.
+/// The walk: after each look the selected block, settled, looks and switches, or the refusal; or why
+/// the image is not loaded.
 #[test]
 fn walks() {
     let mut random = Random::new(21143);
+    let mut count = 0;
     for (name, chip, image) in samples() {
         let arguments = Arguments::newest(chip);
         let mut walk = Autosense::Fresh;
-        if walk.load(&image, arguments) != 0 {
+        let number = walk.load(&image, arguments);
+        if number != 0 {
+            let run = card(&format!("walk samples/{name} {chip} 0"));
+            let refused = format!("REFUSED {number}: ");
+            assert!(run.written.starts_with(&refused), "{name}");
+            assert_eq!(run.status, 1, "{name}");
             continue;
         }
-        let blocks = walk.blocks().unwrap();
-        let reports: Vec<String> = (0..20)
-            .map(|_| {
-                let length = (blocks + random.below(3))
-                    .saturating_sub(random.below(2))
-                    .max(1);
-                (0..length)
-                    .map(|_| char::from(b'0' + random.below(2) as u8))
-                    .collect()
-            })
-            .collect();
+        let starts = starts(&image, arguments).unwrap();
+        let reports: Vec<_> = (0..20).map(|_| report(&mut random, starts.len())).collect();
         let run = card(&format!("walk samples/{name} {chip} {}", reports.join(" ")));
+        let lines: Vec<_> = run.written.lines().collect();
+        assert_eq!(lines.len(), 1 + reports.len(), "{name}\n{}", run.written);
+        let loaded = format!(
+            "LOADED  chip {chip}, controller 0, level {NEWEST_LEVEL}, {} blocks",
+            starts.len()
+        );
+        assert_eq!(lines[0], loaded, "{name}");
         let mut refused = false;
-        for (report, line) in reports.iter().zip(run.written.lines().skip(1)) {
+        for (report, line) in reports.iter().zip(&lines[1..]) {
             let links: Vec<u8> = report.bytes().map(|digit| digit - b'0').collect();
             let number = walk.look(&links);
             refused |= number != 0;
             let state = walk.walk();
             let begin = match (number, state.selected) {
-                (0, NONE) => "none selected".to_string(),
-                (0, block) => format!("block {block} at byte "),
+                (0, NONE) => "none selected, ".to_string(),
+                (0, block) => format!("block {block} at byte {}, ", starts[usize::from(block)]),
                 (number, _) => format!("REFUSED {number}: "),
             };
-            let line = line.trim_start()[report.len().min(16)..].trim_start_matches(['.', ' ']);
+            let begin = format!("  {report}  {begin}");
             assert!(line.starts_with(&begin), "{name} {report}: {line}");
             if number == 0 {
                 let settled = if state.settled {
@@ -267,72 +263,118 @@ fn walks() {
                 } else {
                     ", not settled"
                 };
-                let end = format!(
-                    "{settled}; looks {}, switches {}",
-                    state.looks, state.switches
-                );
+                let (looks, switches) = (state.looks, state.switches);
+                let end = format!("{settled}; looks {looks}, switches {switches}");
                 assert!(line.ends_with(&end), "{name} {report}: {line}");
             }
         }
         assert_eq!(run.status, i32::from(refused), "{name}");
+        count += 1;
     }
+    assert!(count >= 10, "{count} samples are walked");
 }
 
-/// What an older reader sees: the entry of each block at each level, and the counts below.
+/// A report for so many blocks in digits, now and then too short or too long.
+fn report(random: &mut Random, blocks: usize) -> String {
+    let length = (blocks + random.below(3)).saturating_sub(random.below(2));
+    let digit = |_| char::from(b'0' + random.below(2) as u8);
+    (0..length.max(1)).map(digit).collect()
+}
+
+/// A row of the table that shows what readers see: what it begins with, and a cell for each level.
+#[derive(Debug)]
+struct Row {
+    begin: String,
+    cells: Vec<String>,
+}
+
+/// All rows of that table.
+fn rows(written: &str) -> Vec<Row> {
+    let row = |line: &str| {
+        let (begin, cells) = line.split_at(line.len().min(40));
+        let cell = |level| cells.get(5 * level..5 * level + 5).unwrap_or_default();
+        let levels = 0..=usize::from(NEWEST_LEVEL);
+        Row {
+            begin: begin.trim().to_string(),
+            cells: levels.map(|level| cell(level).trim().to_string()).collect(),
+        }
+    };
+    let lines = written.lines();
+    let table = lines.skip_while(|line| !line.starts_with("  level of the reader"));
+    table.take_while(|line| !line.is_empty()).map(row).collect()
+}
+
+/// What an older reader sees: the verdict of each level, the entry of each block and the counts
+/// below, and nothing but the verdict where it refuses.
 #[test]
 fn older_readers() {
+    let mut count = 0;
     for (name, chip, image) in samples() {
         let run = card(&format!("older samples/{name} {chip}"));
-        let row = |begin: &str| {
-            let line = run
-                .written
-                .lines()
-                .find(|line| line.trim_start().starts_with(begin));
-            line.map(|line| line[40..].to_string())
+        let rows = rows(&run.written);
+        let [
+            levels,
+            verdict,
+            blocks @ ..,
+            listed,
+            resets,
+            skipped,
+            default,
+        ] = rows.as_slice()
+        else {
+            panic!("{name}\n{}", run.written);
         };
+        for (row, begin) in [
+            (levels, "level of the reader"),
+            (verdict, "verdict"),
+            (listed, "listed"),
+            (resets, "resets"),
+            (skipped, "stepped over"),
+            (default, "default block"),
+        ] {
+            assert_eq!(row.begin, begin, "{name}");
+        }
         for level in 0..=NEWEST_LEVEL {
             let arguments = Arguments::at_level(chip, level);
-            let (mut kinds, mut offsets) = ([0; 255], [0; 255]);
-            let answer = second::reader::read(&image, arguments, &mut kinds, &mut offsets);
-            let cell = |line: &str| {
-                let start = 5 * usize::from(level);
-                line.get(start..start + 5).unwrap_or("").trim().to_string()
-            };
-            let verdict = row("verdict").map(|line| cell(&line)).unwrap();
+            let (answer, entries) = read_all(&image, arguments);
+            let cell = |row: &Row| row.cells[usize::from(level)].clone();
+            let place = format!("{name} level {level}\n{}", run.written);
+            assert_eq!(cell(levels), level.to_string(), "{place}");
+            if level == NEWEST_LEVEL {
+                assert_eq!(run.status, i32::from(answer.number != 0), "{place}");
+            }
             if answer.number != 0 {
-                assert_eq!(verdict, answer.number.to_string(), "{name} level {level}");
+                assert_eq!(cell(verdict), answer.number.to_string(), "{place}");
+                assert!(rows[2..].iter().all(|row| cell(row).is_empty()), "{place}");
                 continue;
             }
-            assert_eq!(verdict, "ok", "{name} level {level}");
-            let counts = [
-                ("listed", answer.listed.to_string()),
-                ("resets", answer.resets.to_string()),
-                ("stepped over", answer.skipped.to_string()),
-                (
-                    "default block",
-                    default(&answer).trim_start_matches("block ").to_string(),
-                ),
-            ];
-            for (begin, count) in counts {
-                assert_eq!(
-                    row(begin).map(|line| cell(&line)),
-                    Some(count),
-                    "{name} {begin} level {level}"
-                );
+            assert_eq!(cell(verdict), "ok", "{place}");
+            assert_eq!(cell(listed), answer.listed.to_string(), "{place}");
+            assert_eq!(cell(resets), answer.resets.to_string(), "{place}");
+            assert_eq!(cell(skipped), answer.skipped.to_string(), "{place}");
+            let default_words = self::default(&answer);
+            assert_eq!(
+                cell(default),
+                default_words.trim_start_matches("block "),
+                "{place}"
+            );
+            // From the last block to the first.
+            let starts = starts(&image, arguments).unwrap();
+            assert_eq!(blocks.len(), starts.len(), "{place}");
+            for (number, (row, &start)) in blocks.iter().rev().zip(&starts).enumerate() {
+                let begin = format!("block {number} at {start} ");
+                assert!(row.begin.starts_with(&begin), "{place}");
+                let is_its = |&(_, offset): &(u16, u16)| usize::from(offset) == start;
+                if let Some(entry) = entries.iter().position(is_its) {
+                    assert_eq!(cell(row), entry.to_string(), "{place}");
+                }
             }
-            let entries: Vec<_> = offsets[..answer.listed.into()].to_vec();
-            for line in run
-                .written
-                .lines()
-                .filter(|line| line.starts_with("  block "))
-            {
-                let Ok(start) = line.split_whitespace().nth(3).unwrap().parse::<u16>() else {
-                    continue;
-                };
-                let entry = entries.iter().position(|&offset| offset == start);
-                let shown = cell(&line[40..]).parse().ok();
-                assert_eq!(shown, entry, "{name} level {level}: {line}");
-            }
+            let often = |word| blocks.iter().filter(|row| cell(row) == word).count();
+            let others = (often("rst"), often("-"));
+            let expected = (answer.resets.into(), answer.skipped.into());
+            assert_eq!(others, expected, "{place}");
+            count += 1;
         }
     }
+    assert!(count >= 100, "{count} readers accept a sample");
 }

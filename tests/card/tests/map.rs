@@ -1,6 +1,8 @@
 //! The picture of a ROM: well formed, a cell for each byte with its value and its field.
 
-use card::{card, root, samples, temporary};
+use card::{card, samples, temporary};
+use second::crc::IMAGE_LENGTH;
+use second::reader::{Arguments, read_all, view};
 use std::fs;
 
 /// The tags of an SVG file, each opened and closed in order, with nothing but text between them.
@@ -22,41 +24,81 @@ fn tags(svg: &str) -> Vec<String> {
     tags
 }
 
-/// The values of the cells in their order, and how many cells each field has.
-fn cells(tags: &[String]) -> (Vec<u8>, Vec<usize>) {
-    let mut values = Vec::new();
-    let mut fields = vec![0; 16];
+/// The fields that a byte can be of, by the numbers of their classes.
+const ID: usize = 1;
+const ID_CRC: usize = 2;
+const VERSION: usize = 3;
+const COUNT: usize = 4;
+const ADDRESS: usize = 5;
+const CONTROLLER: usize = 6;
+const RESERVED: usize = 7;
+const LEAF: usize = 8;
+const MEDIUM: usize = 9;
+const PHY: usize = 10;
+const UNKNOWN: usize = 12;
+const MAKER: usize = 14;
+const SROM_CRC: usize = 15;
+
+/// The cells in their order: value and field of each.
+fn cells(tags: &[String]) -> Vec<(u8, usize)> {
+    let mut cells = Vec::new();
     let mut last = None;
     for tag in tags {
         if let Some(class) = tag.strip_prefix("rect class=\"field") {
-            last = class.contains("width=\"62\"").then(|| {
-                let field: usize = class.split('"').next().unwrap().parse().unwrap();
-                fields[field] += 1;
-            });
-        } else if tag.contains("\"value") && last.take().is_some() {
+            let field = class.split('"').next().unwrap().parse().unwrap();
+            last = class.contains("width=\"62\"").then_some(field);
+        } else if tag.contains("\"value")
+            && let Some(field) = last.take()
+        {
             let value = tag.rsplit('>').next().unwrap();
-            values.push(u8::from_str_radix(value, 16).unwrap());
+            cells.push((u8::from_str_radix(value, 16).unwrap(), field));
         }
     }
-    (values, fields)
+    cells
 }
 
-/// Every sample of 128 bytes: its bytes in order.
+/// Every sample of 128 bytes, be it refused: its bytes in order, and what every image has in the
+/// same place. Where it is accepted, the bytes of each entry's block (document 01, "The image").
 #[test]
 fn every_sample() {
     let folder = temporary("map");
+    let fixed = [
+        (0..=15, ID),
+        (16..=16, ID_CRC),
+        (17..=17, ID),
+        (18..=18, VERSION),
+        (19..=19, COUNT),
+        (20..=25, ADDRESS),
+        (124..=125, MAKER),
+        (126..=127, SROM_CRC),
+    ];
+    let mut blocks = 0;
     for (name, chip, image) in samples() {
         let path = folder.join(&name).with_extension("svg");
-        card(&format!("map samples/{name} {chip} {}", path.display()));
-        if image.len() != 128 {
+        let run = card(&format!("map samples/{name} {chip} {}", path.display()));
+        let arguments = Arguments::newest(chip);
+        let (answer, entries) = read_all(&image, arguments);
+        assert_eq!(run.status, i32::from(answer.number != 0), "{name}");
+        if image.len() != IMAGE_LENGTH {
             assert!(!path.exists(), "{name}");
             continue;
         }
-        let (values, fields) = cells(&tags(&fs::read_to_string(&path).unwrap()));
+        let cells = cells(&tags(&fs::read_to_string(&path).unwrap()));
+        let (values, fields): (Vec<_>, Vec<_>) = cells.into_iter().unzip();
         assert_eq!(values, image, "{name}");
-        assert_eq!(fields.iter().sum::<usize>(), 128, "{name}");
-        assert_eq!((fields[1], fields[5], fields[15]), (17, 6, 2), "{name}");
+        let are_of = |bytes: &[usize], field| bytes.iter().all(|&it| it == field);
+        for (places, field) in fixed.clone() {
+            assert!(are_of(&fields[places.clone()], field), "{name} {places:?}");
+        }
+        for (entry, (kind, offset)) in entries.into_iter().enumerate() {
+            let size = view(&image, arguments, entry).len();
+            let field = if matches!(kind, 1 | 3) { PHY } else { MEDIUM };
+            let block = &fields[offset.into()..][..size];
+            assert!(are_of(block, field), "{name} entry {entry}");
+            blocks += 1;
+        }
     }
+    assert!(blocks >= 30, "{blocks} blocks");
 }
 
 /// The replacement card: its unknown block has eight bytes, its PHY's 14, its two media's seven and
@@ -69,8 +111,16 @@ fn replacement_card() {
         path.display()
     ));
     assert_eq!(run.status, 0, "{}", run.written);
-    let (_, fields) = cells(&tags(&fs::read_to_string(path).unwrap()));
-    assert_eq!((fields[12], fields[10], fields[9]), (8, 14, 16));
-    assert_eq!((fields[6], fields[7], fields[8]), (3, 1, 3));
-    assert!(root().join("samples/replacement-card.rom").exists());
+    let cells = cells(&tags(&fs::read_to_string(path).unwrap()));
+    for (field, bytes) in [
+        (UNKNOWN, 8),
+        (PHY, 14),
+        (MEDIUM, 7 + 9),
+        (CONTROLLER, 3),
+        (RESERVED, 1),
+        (LEAF, 3),
+    ] {
+        let found = cells.iter().filter(|(_, it)| *it == field).count();
+        assert_eq!(found, bytes, "field {field}");
+    }
 }

@@ -5,10 +5,16 @@
 
 use card::{root, shell, temporary};
 use std::fs;
+use std::path::PathBuf;
+
+fn folder() -> PathBuf {
+    root().join("tests/card/transcripts")
+}
 
 fn replay(name: &str) {
-    let path = root().join(format!("tests/card/transcripts/{name}.txt"));
+    let path = folder().join(format!("{name}.txt"));
     let stored = fs::read_to_string(&path).unwrap();
+    assert!(stored.starts_with("$ "), "transcripts/{name}.txt");
     let folder = temporary(name);
     let mut replayed = String::new();
     for command in stored.lines().filter_map(|line| line.strip_prefix("$ ")) {
@@ -22,51 +28,59 @@ fn replay(name: &str) {
     }
 }
 
-/// A sample of every chip, and the replacement card.
-#[test]
-fn read() {
-    replay("read");
+/// A test for each transcript, and the names of all.
+macro_rules! transcripts {
+    ($($(#[$meaning:meta])* $name:ident),+ $(,)?) => {
+        $($(#[$meaning])* #[test] fn $name() { replay(stringify!($name)); })+
+        const NAMES: &[&str] = &[$(stringify!($name)),+];
+    };
 }
 
-/// Document 01, 'Why a call is refused': every number that a card, a sheet or a report can cause,
-/// and the list of all.
-#[test]
-fn refusals() {
-    replay("refusals");
+transcripts! {
+    /// Files that are written: whole, and never over one that exists unless forced.
+    files,
+    /// The three kinds of hexadecimal text, and what is none of them.
+    inputs,
+    /// Demand 3 in words: levels that walk alike, that do while a link is down, and that differ.
+    older,
+    /// A sample of every chip, and the replacement card.
+    read,
+    /// Document 01, 'Why a call is refused': every number that a card, a sheet or a report can
+    /// cause, and the list of all.
+    refusals,
+    usage,
+    walk,
 }
 
-/// Demand 3 in words: levels that walk alike, that do while a link is down, and that differ.
+/// The transcripts that are stored are those that are replayed.
 #[test]
-fn older() {
-    replay("older");
+fn every_transcript() {
+    let mut stored: Vec<_> = fs::read_dir(folder())
+        .unwrap()
+        .map(|entry| entry.unwrap().file_name().into_string().unwrap())
+        .collect();
+    stored.sort();
+    let replayed: Vec<_> = NAMES.iter().map(|name| format!("{name}.txt")).collect();
+    assert_eq!(stored, replayed);
 }
 
+/// "every number": but those that no command can cause (docs/DECISIONS.md, 'The bench tool'), and
+/// the list has all.
 #[test]
-fn walk() {
-    replay("walk");
-}
-
-/// The three kinds of hexadecimal text, and what is none of them.
-#[test]
-fn inputs() {
-    replay("inputs");
-}
-
-/// Files that are written: whole, and never over one that exists unless forced.
-#[test]
-fn files() {
-    replay("files");
-}
-
-#[test]
-fn usage() {
-    replay("usage");
+fn every_refusal() {
+    let stored = fs::read_to_string(folder().join("refusals.txt")).unwrap();
+    for number in 1..=27 {
+        let is_caused = stored.contains(&format!("REFUSED {number}: "));
+        assert_eq!(is_caused, ![12, 20, 21].contains(&number), "{number}");
+        let is_listed = stored.contains(&format!("\n  {number:>2}  "));
+        assert!(is_listed, "{number}");
+    }
 }
 
 /// "The outputs read well at 80 columns."
 #[test]
 fn eighty_columns() {
-    for entry in fs::read_dir(root().join("tests/card/transcripts")).unwrap() {
+    for entry in fs::read_dir(folder()).unwrap() {
         let path = entry.unwrap().path();
         for line in fs::read_to_string(&path).unwrap().lines() {
             let names_a_file = line.starts_with("$ ") || line.starts_with("card: ");

@@ -7,7 +7,7 @@ use second::calls::{self, Habits, Step};
 use second::crc::{IMAGE_LENGTH, lay_crcs};
 use second::images::{Card, DAMAGES, Image, Sample, block, random_image};
 use second::random::Random;
-use second::reader::{self, Arguments, CHIPS, NEWEST_LEVEL};
+use second::reader::{Arguments, CHIPS, NEWEST_LEVEL, read_all};
 use second::sheet;
 use second::sheets::tidy::{TIDY_DAMAGES, damaged, tidy, untidy};
 use second::sheets::{SHEET_DAMAGES, Sheet};
@@ -89,8 +89,8 @@ fn readings(random: &mut Random) -> Vec<Input> {
     for level in [arguments.level, random.pick(&LEVELS)] {
         let arguments = Arguments { level, ..arguments };
         let count = calls::block_count(&image, arguments);
-        let mut near = || random.pick(&[count.saturating_sub(1), count, count + 1, count / 2, 255]);
-        for (kinds, offsets) in [(ROOMY, ROOMY), (count, count), (near(), near())] {
+        let near = calls::near_lengths(random, count);
+        for (kinds, offsets) in [(ROOMY, ROOMY), (count, count), near] {
             inputs.push(Input::Read {
                 image: image.clone(),
                 arguments,
@@ -98,10 +98,9 @@ fn readings(random: &mut Random) -> Vec<Input> {
                 offsets,
             });
         }
-        let (mut kinds, mut offsets) = ([0; ROOMY], [0; ROOMY]);
-        let listed = reader::read(&image, arguments, &mut kinds, &mut offsets).listed;
+        let (_, entries) = read_all(&image, arguments);
         let far = random.pick(&[1 << 8, 1 << 16, 1 << 32, usize::MAX]);
-        for entry in (0..=usize::from(listed)).chain([far]) {
+        for entry in (0..=entries.len()).chain([far]) {
             inputs.push(Input::View {
                 image: image.clone(),
                 arguments,

@@ -288,10 +288,12 @@ fn rows(input: &mut Input) -> Vec<Row<'_>> {
 mod tests {
     use super::*;
     use crate::rounds::Rounds;
+    use second::crc::IMAGE_LENGTH;
     use second::random::Random;
-    use second::reader::read;
+    use second::reader::read_all;
     use second::sheet::write;
     use second::sheets::Sheet;
+    use std::iter;
 
     const ARGUMENTS: Arguments = Arguments::newest(21143);
 
@@ -346,7 +348,7 @@ mod tests {
         let accepts_two = |input: &Input| match input {
             Input::Read {
                 image, arguments, ..
-            } => read(image, *arguments, &mut [0; 255], &mut [0; 255]).listed > 1,
+            } => read_all(image, *arguments).0.listed > 1,
             _ => false,
         };
         let drawn = Rounds::new(1).flatten().filter(accepts_two).take(20);
@@ -362,7 +364,7 @@ mod tests {
                 panic!("another call: {smallest:?}");
             };
             assert_eq!((kinds, offsets), (0, 0));
-            let answer = read(&image, arguments, &mut [0; 255], &mut [0; 255]);
+            let (answer, _) = read_all(&image, arguments);
             assert_eq!((answer.listed, answer.blocks), (2, 2));
             assert_eq!(image[..16], [0; 16]);
             assert_eq!(image[20..26], [0; 6], "{image:02x?}");
@@ -373,23 +375,21 @@ mod tests {
     #[test]
     fn dropped_blocks() {
         let mut random = Random::new(2);
-        for _ in 0..20 {
-            let has_block = |input: &Input| match input {
-                Input::Write { sheet, length } => {
-                    write(sheet, &mut vec![0; *length]) == 0 && sheet[COUNT] > 0
-                }
-                _ => false,
-            };
-            let input = Input::Write {
-                sheet: Sheet::valid(&mut random).bytes(),
-                length: 128,
-            };
-            if has_block(&input) {
-                let Input::Write { sheet, length } = shrink(input, has_block) else {
-                    panic!("another call");
-                };
-                assert_eq!((sheet[COUNT], length), (1, 128), "{sheet:02x?}");
+        let drawn = iter::repeat_with(|| Input::Write {
+            sheet: Sheet::valid(&mut random).bytes(),
+            length: IMAGE_LENGTH,
+        });
+        let has_block = |input: &Input| match input {
+            Input::Write { sheet, length } => {
+                write(sheet, &mut vec![0; *length]) == 0 && sheet[COUNT] > 0
             }
+            _ => false,
+        };
+        for input in drawn.filter(has_block).take(20) {
+            let Input::Write { sheet, length } = shrink(input, has_block) else {
+                panic!("another call");
+            };
+            assert_eq!((sheet[COUNT], length), (1, IMAGE_LENGTH), "{sheet:02x?}");
         }
     }
 

@@ -1,6 +1,7 @@
 //! The media table of an image's first controller: `media IMAGE CHIP`.
 
 use library::{Arguments, read, view};
+use second::reader::MOST_BLOCKS;
 use std::{env, fs, process::exit};
 
 fn main() {
@@ -13,12 +14,8 @@ fn main() {
         eprintln!("media: {name} cannot be read, or {chip} is no chip");
         exit(2);
     };
-    let arguments = Arguments {
-        chip,
-        controller: 0,
-        level: 6,
-    };
-    let (mut kinds, mut offsets) = ([0; 91], [0; 91]);
+    let arguments = Arguments::newest(chip);
+    let (mut kinds, mut offsets) = ([0; MOST_BLOCKS], [0; MOST_BLOCKS]);
     let answer = read(&image, arguments, &mut kinds, &mut offsets);
     if answer.number != 0 {
         println!("refused {}", answer.number);

@@ -270,8 +270,8 @@ fn walk_text(walk: &Walk) -> String {
         walk.loaded,
         walk.connection,
         walk.blocks,
-        row(&walk.listed),
-        row(&walk.active_invalid),
+        row(&walk.rows.listed),
+        row(&walk.rows.active_invalid),
         walk.default_number,
         walk.settled,
         walk.selected,
@@ -304,4 +304,58 @@ fn judge_as<A: PartialEq, const LENT: usize>(
         answers: vec![("library", text(&library)), ("second", text(&second))],
         faults: faults.into_iter().flatten().collect(),
     })
+}
+
+#[cfg(test)]
+mod tests {
+    use super::*;
+
+    fn difference(answers: [u8; 2], faults: [Option<String>; 2]) -> Option<Difference> {
+        judge(|| "srom_call".into(), answers, faults).err()
+    }
+
+    /// Two answers that differ are a difference, and so is a fault of what was lent.
+    #[test]
+    fn differences() {
+        assert_eq!(difference([3, 3], [None, None]), None);
+        let answers = |library: &str| vec![("library", library.to_owned()), ("second", "3".into())];
+        let expected = Difference {
+            call: "srom_call".into(),
+            answers: answers("4"),
+            faults: Vec::new(),
+        };
+        assert_eq!(difference([4, 3], [None, None]), Some(expected));
+        let expected = Difference {
+            call: "srom_call".into(),
+            answers: answers("3"),
+            faults: vec!["kinds 01, not 02".into()],
+        };
+        let fault = Some("kinds 01, not 02".into());
+        assert_eq!(difference([3, 3], [None, fault]), Some(expected));
+    }
+
+    /// "The walk's state unchanged on a refusal": a refused call that hands back another walk is a
+    /// difference, even where the second implementation's walk has it too.
+    #[test]
+    fn changed_by_a_refusal() {
+        let refused = |library, changed| {
+            let mut pair = Pair {
+                library,
+                second: Autosense::default(),
+            };
+            let walked = Walked {
+                number: 20,
+                walk: changed,
+            };
+            pair.walked(|| "srom_look".into(), walked, 20, None)
+        };
+        let other = Walk {
+            looks: 1,
+            ..Walk::FRESH
+        };
+        assert_eq!(refused(Walk::FRESH, Walk::FRESH), Ok(20));
+        let difference = refused(other, Walk::FRESH).expect_err("the walk is changed");
+        assert_eq!(difference.faults, ["a walk that the refused call changed"]);
+        assert!(refused(Walk::FRESH, other).is_err());
+    }
 }

@@ -5,11 +5,11 @@ use crate::compare::{self, Difference, Pair};
 use crate::lent::hex;
 use crate::{Answer, Arguments, Walk};
 use second::calls::Call;
-use second::reader::{self, COMPACT, NEWEST_LEVEL, NO_DEFAULT, RESET};
+use second::reader::{COMPACT, HIGHEST_COUNT, NEWEST_LEVEL, NO_DEFAULT, RESET, read_all};
 use second::walk::{Autosense, NONE};
 
 /// "arrays no shorter than the block count".
-const LENGTHS: (usize, usize) = (255, 255);
+const LENGTHS: (usize, usize) = (HIGHEST_COUNT, HIGHEST_COUNT);
 
 /// An older level against the newest, for one image.
 pub struct Older<'a> {
@@ -42,14 +42,16 @@ impl<'a> Older<'a> {
             level: NEWEST_LEVEL,
             ..arguments
         };
-        let (mut kinds, mut offsets) = ([0; LENGTHS.0], [0; LENGTHS.1]);
-        let answer = reader::read(image, newest, &mut kinds, &mut offsets);
+        let (answer, entries) = read_all(image, newest);
         if answer.number > 0 {
             return None;
         }
-        let entries = block_numbers(image, newest).into_iter().zip(kinds);
-        let removed: Vec<_> = entries
-            .filter(|&(_, kind)| is_removed(kind, level))
+        let numbers = block_numbers(image, newest);
+        assert_eq!(numbers.len(), entries.len(), "the walk lists the table");
+        let removed: Vec<_> = numbers
+            .into_iter()
+            .zip(entries)
+            .filter(|&(_, (kind, _))| is_removed(kind, level))
             .map(|(number, _)| number)
             .collect();
         let is_default_removed = removed.contains(&answer.default_number.into());
@@ -183,7 +185,7 @@ fn compared(number: u8, walk: &Walk) -> (u8, Option<(bool, u8, u16, u16)>) {
 fn block_numbers(image: &[u8], arguments: Arguments) -> Vec<usize> {
     let mut walk = Autosense::default();
     walk.load(image, arguments);
-    let listed = walk.walk().listed;
+    let listed = walk.walk().rows.listed;
     let numbers = (0..listed.len()).rev();
     numbers.filter(|&number| listed[number] == 1).collect()
 }

@@ -1,13 +1,16 @@
 //! The header and the example driver, as a C or C++ author meets them: compiled with warnings as errors, linked to the
 //! archive, and run. Needs `cc` and `c++`.
 
+use library::Part;
 use second::calls;
-use second::crc::{self, Checksum};
+use second::crc::{self, Checksum, IMAGE_LENGTH};
 use second::images::Sample;
 use second::random::Random;
-use second::reader::{self, Answer, Arguments};
+use second::reader::{
+    self, Answer, Arguments, CHIPS, COMPACT, MEDIA_21041, NEWEST_LEVEL, NO_DEFAULT,
+};
 use second::sheet::{self, Made};
-use second::walk::{Autosense, Walk, Walked};
+use second::walk::{Autosense, NONE, Rows, SERVED, Walk, Walked};
 use std::collections::{BTreeMap, BTreeSet};
 use std::fs;
 use std::mem::{offset_of, size_of};
@@ -74,14 +77,14 @@ fn layout_source() -> String {
                 "default_number",
             ],
         ),
+        ("srom_rows", &["listed", "active_invalid"]),
         (
             "srom_walk",
             &[
                 "loaded",
                 "connection",
                 "blocks",
-                "listed",
-                "active_invalid",
+                "rows",
                 "default_number",
                 "settled",
                 "selected",
@@ -100,6 +103,11 @@ fn layout_source() -> String {
             body += &format!("    printf(\"{name} {field} %zu\\n\", offsetof({name}, {field}));\n");
         }
     }
+    main_source(&body)
+}
+
+/// A program that takes these steps.
+fn main_source(body: &str) -> String {
     format!(
         "#include <srom.h>\n#include <stdio.h>\n\nint main(void)\n{{\n{body}    return 0;\n}}\n"
     )
@@ -114,11 +122,6 @@ fn layout_expected() -> Vec<String> {
                 $(format!(concat!($name, " ", stringify!($field), " {}"), offset_of!($type, $field))),+
             ]
         };
-    }
-    #[repr(C)]
-    struct Part {
-        start: usize,
-        length: usize,
     }
     [
         layout!("srom_checksum", Checksum, number, value),
@@ -136,14 +139,14 @@ fn layout_expected() -> Vec<String> {
             skipped,
             default_number
         ),
+        layout!("srom_rows", Rows, listed, active_invalid),
         layout!(
             "srom_walk",
             Walk,
             loaded,
             connection,
             blocks,
-            listed,
-            active_invalid,
+            rows,
             default_number,
             settled,
             selected,
@@ -175,6 +178,75 @@ fn header_is_cpp17() {
     header_in("c++", "-std=c++17", "cc");
 }
 
+/// The header's names for document 01's refusals, by their numbers.
+const REFUSALS: [&str; 28] = [
+    "ACCEPTED",
+    "BAD_IMAGE_LENGTH",
+    "BAD_VERSION",
+    "BAD_SROM_CRC",
+    "BAD_ID_CRC",
+    "BAD_COUNT",
+    "NO_CONTROLLER",
+    "NO_CHIP",
+    "BAD_LEVEL",
+    "BAD_ADDRESS",
+    "LEAF_OUTSIDE",
+    "BAD_CONNECTION",
+    "ARRAY_TOO_SHORT",
+    "BLOCK_OUTSIDE",
+    "BAD_BLOCK_TYPE",
+    "BAD_BLOCK_LENGTH",
+    "BAD_BLOCK_CODE",
+    "BAD_ADVERTISEMENT",
+    "CLASHING_BLOCKS",
+    "BAD_REPORT",
+    "WALK_FRESH",
+    "WALK_LOADED",
+    "FIXED_CONNECTION",
+    "TOO_MANY_LOOKS",
+    "BAD_SHEET",
+    "BAD_SHEET_ENTRY",
+    "LEAF_TOO_LONG",
+    "NOT_TIDY",
+];
+
+/// Each number that the header names is the second implementation's, or document 01's.
+#[test]
+fn header_numbers() {
+    let [autosense, once, nway] = SERVED;
+    let mut expected = vec![
+        ("IMAGE_LENGTH".to_owned(), IMAGE_LENGTH),
+        ("NEWEST_LEVEL".to_owned(), NEWEST_LEVEL.into()),
+        ("NONE".to_owned(), NONE.into()),
+        ("KIND_COMPACT".to_owned(), COMPACT.into()),
+        ("KIND_21041".to_owned(), MEDIA_21041.into()),
+        ("AUTOSENSE".to_owned(), autosense.into()),
+        ("AUTOSENSE_ONCE".to_owned(), once.into()),
+        ("AUTOSENSE_NWAY".to_owned(), nway.into()),
+    ];
+    expected.extend(CHIPS.map(|chip| (chip.to_string(), chip.into())));
+    expected.extend(REFUSALS.map(str::to_owned).into_iter().zip(0..));
+    assert_eq!(NONE, NO_DEFAULT);
+    let header = fs::read_to_string(root().join("include/srom.h")).unwrap();
+    let named = header
+        .split(['{', ',', '}'])
+        .filter(|piece| piece.contains(" = "));
+    assert_eq!(named.count(), expected.len(), "the header names others");
+    let show = |(name, _): &(String, usize)| format!("    printf(\"%d\\n\", SROM_{name});\n");
+    let (source, program) = (scratch("numbers.c"), scratch("numbers"));
+    fs::write(
+        &source,
+        main_source(&expected.iter().map(show).collect::<String>()),
+    )
+    .unwrap();
+    compile("cc", &["-std=c11"], &source, &program);
+    let numbers = lines(&run(&mut Command::new(&program)));
+    assert_eq!(numbers.len(), expected.len());
+    for (number, (name, expected)) in numbers.iter().zip(expected) {
+        assert_eq!(*number, expected.to_string(), "SROM_{name}");
+    }
+}
+
 /// What tests/fields.c prints of a walk.
 fn walk_fields(walk: &Walk) -> String {
     let row = |row: &[u8]| row.iter().map(u8::to_string).collect::<String>();
@@ -183,8 +255,8 @@ fn walk_fields(walk: &Walk) -> String {
         u8::from(walk.loaded),
         walk.connection,
         walk.blocks,
-        row(&walk.listed),
-        row(&walk.active_invalid),
+        row(&walk.rows.listed),
+        row(&walk.rows.active_invalid),
         walk.default_number,
         u8::from(walk.settled),
         walk.selected,
@@ -196,12 +268,9 @@ fn walk_fields(walk: &Walk) -> String {
 /// What tests/fields.c prints for an image, from the second implementation.
 fn fields_expected(image: &[u8], arguments: Arguments) -> Vec<String> {
     let short = &image[1..];
-    let answer = reader::read(image, arguments, &mut [0; 255], &mut [0; 255]);
+    let (answer, _) = reader::read_all(image, arguments);
     let part = reader::view(image, arguments, 0);
-    let start = match part {
-        [] => 0,
-        _ => part.as_ptr() as usize - image.as_ptr() as usize,
-    };
+    let start = part.as_ptr().addr() - image.as_ptr().addr();
     let checksum = |crc: Checksum| format!("checksum {} {}", crc.number, crc.value);
     let mut expected = vec![
         checksum(crc::srom_crc(image)),
@@ -301,7 +370,7 @@ fn entry_line(image: &[u8], arguments: Arguments, entry: usize, kind: u16, offse
 #[test]
 fn probe_walks_the_replacement_card() {
     let image = fs::read(root().join("samples/replacement-card.rom")).unwrap();
-    let arguments = Arguments::at_level(21143, 6);
+    let arguments = Arguments::newest(21143);
     let output = probe(&[
         "samples/replacement-card.rom",
         "21143",

@@ -4,7 +4,7 @@ mod families;
 
 use families::{Family, show, tallies};
 use library::compare::{self, agreed};
-use second::calls::block_count;
+use second::calls::{block_count, near_lengths};
 use second::crc::{IMAGE_LENGTH, lay_crcs};
 use second::images::{Card, DAMAGES, Sample, random_image};
 use second::random::Random;
@@ -36,10 +36,11 @@ impl Tally {
         self.calls += 1;
     }
 
+    /// Compares a view by its place, and by its bytes.
     fn compare_view(&mut self, image: &[u8], arguments: Arguments, entry: usize) {
-        let part = agreed(compare::view(image, arguments, entry));
-        let view = library::view(image, arguments, entry);
-        assert_eq!(view, &image[part.start..][..part.length]);
+        agreed(compare::view(image, arguments, entry));
+        let bytes = library::view(image, arguments, entry);
+        assert_eq!(bytes, reader::view(image, arguments, entry));
         self.calls += 1;
     }
 
@@ -49,18 +50,15 @@ impl Tally {
         self.compare_read(image, arguments, (ROOMY, ROOMY));
         let count = block_count(image, arguments);
         self.compare_read(image, arguments, (count, count));
-        let mut near = || random.pick(&[count.saturating_sub(1), count, count + 1, count / 2, 255]);
-        let lengths = (near(), near());
+        let lengths = near_lengths(random, count);
         self.compare_read(image, arguments, lengths);
-        let (mut kinds, mut offsets) = ([0; 255], [0; 255]);
-        let listed = reader::read(image, arguments, &mut kinds, &mut offsets).listed;
-        for entry in 0..=usize::from(listed) {
+        let (_, entries) = reader::read_all(image, arguments);
+        for entry in 0..=entries.len() {
             self.compare_view(image, arguments, entry);
         }
     }
 }
 
-/// A name and the calls that go by it.
 /// "accepts exactly the images": valid cards of every chip, with unknown types among their blocks,
 /// for each controller and one that is none, at every level, and for another chip.
 fn valid_cards() -> Tally {

@@ -122,7 +122,6 @@ impl Tally {
     }
 }
 
-/// A name and the calls that go by it.
 /// "Writing a sheet": valid sheets of every chip, and the image that the builder of images lays;
 /// then "making a sheet of a tidy image", of that image.
 fn valid_sheets() -> Tally {

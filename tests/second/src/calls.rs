@@ -3,7 +3,9 @@
 use crate::images::damage::{command_offset, kind};
 use crate::images::{Card, DAMAGES, Sample};
 use crate::random::Random;
-use crate::reader::{ACTIVE_INVALID, Arguments, DEFAULT, header_size};
+use crate::reader::{
+    ACTIVE_INVALID, Arguments, DEFAULT, HIGHEST_COUNT, controller_offset, header_size,
+};
 use crate::walk::Autosense;
 use std::fmt::{self, Display, Formatter};
 
@@ -206,11 +208,23 @@ pub fn mark(random: &mut Random, card: &mut Card) {
 /// How many blocks the leaf that the arguments name counts; 0 where they name none.
 pub fn block_count(image: &[u8], arguments: Arguments) -> usize {
     let count = || {
-        let controller = 26 + 3 * usize::from(arguments.controller);
+        let controller = controller_offset(arguments.controller.into());
         let leaf = u16::from_le_bytes([*image.get(controller + 1)?, *image.get(controller + 2)?]);
         image.get(usize::from(leaf) + header_size(arguments.chip) - 1)
     };
     count().copied().unwrap_or(0).into()
+}
+
+/// Lengths of two arrays, each near a block count or more than any.
+pub fn near_lengths(random: &mut Random, count: usize) -> (usize, usize) {
+    let lengths = [
+        count.saturating_sub(1),
+        count,
+        count + 1,
+        count / 2,
+        HIGHEST_COUNT,
+    ];
+    (random.pick(&lengths), random.pick(&lengths))
 }
 
 #[cfg(test)]

@@ -4,11 +4,11 @@
 pub mod block;
 pub(crate) mod damage;
 
-use crate::crc::{IMAGE_LENGTH, SROM_CRC_OFFSET, lay_crcs, lay_srom_crc};
+use crate::crc::{ID_CRC_OFFSET, IMAGE_LENGTH, SROM_CRC_OFFSET, lay_crcs, lay_srom_crc};
 use crate::random::Random;
 use crate::reader::{
-    Arguments, CHIPS, LEAF_LIMIT, MOST_BLOCKS, NEWEST_LEVEL, connections, first_leaf, header_size,
-    leaf,
+    ADDRESS_OFFSET, Arguments, CHIPS, CONTROLLERS_OFFSET, COUNT_OFFSET, LEAF_LIMIT, MOST_BLOCKS,
+    NEWEST_LEVEL, VERSION_OFFSET, connections, controller_offset, first_leaf, header_size, leaf,
 };
 use block::Deck;
 
@@ -119,14 +119,18 @@ impl Card {
     /// The image, with both CRCs mended but for their faults.
     pub fn image(&self) -> Image {
         let mut image = self.private;
-        image[18] = self.version;
-        image[19] = self.count;
-        image[20..26].copy_from_slice(&self.address.to_be_bytes()[2..]);
+        image[VERSION_OFFSET] = self.version;
+        image[COUNT_OFFSET] = self.count;
+        image[ADDRESS_OFFSET..CONTROLLERS_OFFSET].copy_from_slice(&self.address.to_be_bytes()[2..]);
         for (index, controller) in self.controllers.iter().enumerate() {
             let [low, high] = controller.leaf_offset.to_le_bytes();
-            image[26 + 3 * index..29 + 3 * index].copy_from_slice(&[controller.device, low, high]);
+            image[controller_offset(index)..controller_offset(index + 1)].copy_from_slice(&[
+                controller.device,
+                low,
+                high,
+            ]);
         }
-        image[26 + 3 * self.controllers.len()] = self.reserved;
+        image[controller_offset(self.controllers.len())] = self.reserved;
         for leaf in &self.leaves {
             let places = &mut image[leaf.offset..LEAF_LIMIT];
             places
@@ -136,10 +140,10 @@ impl Card {
         }
         image[LEAF_LIMIT..SROM_CRC_OFFSET].copy_from_slice(&self.maker);
         lay_crcs(&mut image);
-        image[16] ^= self.id_crc_fault;
+        image[ID_CRC_OFFSET] ^= self.id_crc_fault;
         lay_srom_crc(&mut image);
-        image[126] ^= self.srom_crc_fault as u8;
-        image[127] ^= (self.srom_crc_fault >> 8) as u8;
+        image[SROM_CRC_OFFSET] ^= self.srom_crc_fault as u8;
+        image[SROM_CRC_OFFSET + 1] ^= (self.srom_crc_fault >> 8) as u8;
         image
     }
 
@@ -218,12 +222,12 @@ impl Card {
 pub fn random_image(random: &mut Random) -> Image {
     let mut image = random.bytes();
     if !random.one_in(8) {
-        image[18] = random.pick(&[3, 4]);
+        image[VERSION_OFFSET] = random.pick(&[3, 4]);
     }
     if !random.one_in(8) {
         let count = 1 + random.below(32);
-        image[19] = count as u8;
-        image[26 + 3 * count] = 0;
+        image[COUNT_OFFSET] = count as u8;
+        image[controller_offset(count)] = 0;
     }
     lay_crcs(&mut image);
     image
@@ -342,16 +346,10 @@ pub(crate) fn address(random: &mut Random, controllers: usize) -> u64 {
 #[cfg(test)]
 mod tests {
     use super::*;
-    use crate::reader::{NO_DEFAULT, read};
+    use crate::reader::{Answer, MEDIA_21041, NO_DEFAULT, read, read_all};
 
-    fn newest(sample: &Sample) -> crate::reader::Answer {
-        let (mut kinds, mut offsets) = ([0; 255], [0; 255]);
-        read(
-            &sample.card.image(),
-            sample.arguments,
-            &mut kinds,
-            &mut offsets,
-        )
+    fn answer(sample: &Sample) -> Answer {
+        read_all(&sample.card.image(), sample.arguments).0
     }
 
     /// "Reading accepts exactly the images" that the format permits: so every valid card, for each
@@ -362,16 +360,22 @@ mod tests {
         let (mut defaults, mut resets, mut skipped, mut last_places) = (0, 0, 0, 0);
         for _ in 0..10_000 {
             let mut sample = Sample::valid(&mut random);
-            let answer = newest(&sample);
-            assert_eq!(answer.number, 0, "{sample:02x?}");
-            defaults += usize::from(answer.default_number != NO_DEFAULT);
-            resets += usize::from(answer.resets);
-            skipped += usize::from(answer.skipped);
-            last_places += usize::from(sample.card.leaves.iter().any(|leaf| leaf.end() == 124));
+            let newest = answer(&sample);
+            assert_eq!(newest.number, 0, "{sample:02x?}");
+            defaults += usize::from(newest.default_number != NO_DEFAULT);
+            resets += usize::from(newest.resets);
+            skipped += usize::from(newest.skipped);
+            last_places += usize::from(
+                sample
+                    .card
+                    .leaves
+                    .iter()
+                    .any(|leaf| leaf.end() == LEAF_LIMIT),
+            );
             for controller in 0..sample.card.count {
                 sample.arguments.controller = controller;
                 sample.arguments.level = random.below(7) as u8;
-                assert_eq!(newest(&sample).number, 0, "{sample:02x?}");
+                assert_eq!(answer(&sample).number, 0, "{sample:02x?}");
             }
         }
         for (what, often) in [
@@ -391,7 +395,7 @@ mod tests {
         for number in DAMAGES {
             for _ in 0..500 {
                 let sample = Sample::damaged(&mut random, number);
-                assert_eq!(newest(&sample).number, number, "{sample:02x?}");
+                assert_eq!(answer(&sample).number, number, "{sample:02x?}");
             }
         }
     }
@@ -410,7 +414,7 @@ mod tests {
                 while met < 30 {
                     let mut sample = Sample::damaged(&mut random, higher);
                     if sample.damage(&mut random, lower) {
-                        assert_eq!(newest(&sample).number, lower, "{higher}: {sample:02x?}");
+                        assert_eq!(answer(&sample).number, lower, "{higher}: {sample:02x?}");
                         met += 1;
                     }
                 }
@@ -449,10 +453,10 @@ mod tests {
     fn longest_leaf() {
         let image = Card::longest(&mut Random::new(4)).image();
         let arguments = Arguments::at_level(21041, 0);
-        let (mut kinds, mut offsets) = ([0; 91], [0; 91]);
+        let (mut kinds, mut offsets) = ([0; MOST_BLOCKS], [0; MOST_BLOCKS]);
         let answer = read(&image, arguments, &mut kinds, &mut offsets);
         assert_eq!((answer.number, answer.listed), (0, 91));
-        assert_eq!(kinds, [257; 91]);
+        assert_eq!(kinds, [MEDIA_21041; MOST_BLOCKS]);
         assert!(offsets.iter().copied().eq((33..=123).rev()));
     }
 }

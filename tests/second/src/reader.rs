@@ -30,6 +30,9 @@ pub const LEAF_LIMIT: usize = 124;
 /// The most blocks that an accepted leaf can hold: one byte each, from the first place to the last.
 pub const MOST_BLOCKS: usize = 91;
 
+/// The most blocks that a count can name: arrays of so many elements are never too short.
+pub const HIGHEST_COUNT: usize = 255;
+
 /// The top bit of a block's first byte, but for the 21041: the other bits are a length.
 pub const EXTENDED: u8 = 0x80;
 
@@ -43,11 +46,13 @@ pub const DEFAULT: u16 = 0x4000;
 /// The command bits that are 0 in a compact block and in type 0.
 pub const COMMAND_RESERVED: u16 = 0x3F00;
 
-const VERSION_OFFSET: usize = 18;
-const COUNT_OFFSET: usize = 19;
-const ADDRESS_OFFSET: usize = 20;
-const CONTROLLERS_OFFSET: usize = 26;
+/// The places of the header's fields.
+pub(crate) const VERSION_OFFSET: usize = 18;
+pub(crate) const COUNT_OFFSET: usize = 19;
+pub(crate) const ADDRESS_OFFSET: usize = 20;
+pub(crate) const CONTROLLERS_OFFSET: usize = 26;
 const CONTROLLER_SIZE: usize = 3;
+
 const HIGHEST_ADDRESS: u64 = (1 << 48) - 1;
 
 const CONNECTIONS_21041: [u16; 9] = [
@@ -245,6 +250,14 @@ pub fn read(image: &[u8], arguments: Arguments, kinds: &mut [u16], offsets: &mut
     }
 }
 
+/// Reads into arrays that are never too short: the answer, and kind and offset of each entry.
+pub fn read_all(image: &[u8], arguments: Arguments) -> (Answer, Vec<(u16, u16)>) {
+    let (mut kinds, mut offsets) = ([0; HIGHEST_COUNT], [0; HIGHEST_COUNT]);
+    let answer = read(image, arguments, &mut kinds, &mut offsets);
+    let entries = kinds.into_iter().zip(offsets).take(answer.listed.into());
+    (answer, entries.collect())
+}
+
 /// The bytes of the block that an entry of the table names, in the image; an empty part, at the
 /// image's start, where the image is refused or the table has no such entry.
 pub fn view(image: &[u8], arguments: Arguments, entry: usize) -> &[u8] {
@@ -255,6 +268,12 @@ pub fn view(image: &[u8], arguments: Arguments, entry: usize) -> &[u8] {
         Some(block) => &image[block.start..block.start + block.size],
         None => &image[..0],
     }
+}
+
+/// Where each block starts, by block number; none where the image is refused.
+pub fn starts(image: &[u8], arguments: Arguments) -> Option<Vec<usize>> {
+    let (_, blocks) = leaf(image, arguments, usize::MAX).ok()?;
+    Some(blocks.iter().map(|block| block.start).collect())
 }
 
 /// The connection types that a leaf for the chip may name.
@@ -286,9 +305,15 @@ pub fn header_size(chip: u16) -> usize {
     if chip == 21140 { 4 } else { 3 }
 }
 
+/// Where the header speaks of a controller: its device number, and then its leaf's offset. After the
+/// last one stands the reserved byte.
+pub fn controller_offset(controller: usize) -> usize {
+    CONTROLLERS_OFFSET + CONTROLLER_SIZE * controller
+}
+
 /// The first place where a leaf may start: after the controllers and the reserved byte.
 pub fn first_leaf(controllers: usize) -> usize {
-    CONTROLLERS_OFFSET + CONTROLLER_SIZE * controllers + 1
+    controller_offset(controllers) + 1
 }
 
 /// The header and the blocks of a leaf, or the first cause to refuse it, where the shorter array
@@ -335,7 +360,7 @@ fn header(image: &[u8], arguments: Arguments) -> Result<Header, Refusal> {
     } = arguments;
     let controllers = usize::from(image[COUNT_OFFSET]);
     refuse_if(
-        !(1..=32).contains(&controllers) || image[first_leaf(controllers) - 1] != 0,
+        !(1..=32).contains(&controllers) || image[controller_offset(controllers)] != 0,
         Refusal::CountOrReservedByte,
     )?;
     let index = usize::from(controller);
@@ -347,10 +372,7 @@ fn header(image: &[u8], arguments: Arguments) -> Result<Header, Refusal> {
         .fold(0, |address, &byte| address << 8 | u64::from(byte));
     let address = base + u64::from(controller);
     refuse_if(address > HIGHEST_ADDRESS, Refusal::Address)?;
-    let start = usize::from(word(
-        image,
-        CONTROLLERS_OFFSET + CONTROLLER_SIZE * index + 1,
-    ));
+    let start = usize::from(word(image, controller_offset(index) + 1));
     let first_block = start + header_size(chip);
     refuse_if(
         start < first_leaf(controllers) || first_block > LEAF_LIMIT,

@@ -3,10 +3,11 @@
 
 pub mod fast;
 
-use crate::crc::{IMAGE_LENGTH, lay_crcs};
+use crate::crc::{ID_LAST_OFFSET, IMAGE_LENGTH, lay_crcs};
 use crate::reader::{
-    Arguments, CHIPS, COMPACT, EXT, EXTENDED, LEAF_LIMIT, MEDIA_21041, Refusal, first_block,
-    header_size, kind, leaf, refuse_if, word,
+    ADDRESS_OFFSET, Arguments, CHIPS, COMPACT, CONTROLLERS_OFFSET, COUNT_OFFSET, EXT, EXTENDED,
+    LEAF_LIMIT, MEDIA_21041, Refusal, VERSION_OFFSET, first_block, header_size, kind, leaf,
+    refuse_if, word,
 };
 
 /// Where the writer puts the leaf, and where a tidy image has it.
@@ -103,7 +104,7 @@ fn try_make(image: &[u8], chip: u16, buffer_length: usize) -> Result<Vec<u8>, Re
     let end = blocks
         .last()
         .map_or(header.first_block, |block| block.start + block.size);
-    let is_tidy = image[19] == 1
+    let is_tidy = image[COUNT_OFFSET] == 1
         && start == TIDY_LEAF
         && image[end..LEAF_LIMIT].iter().all(|&byte| byte == 0);
     refuse_if(!is_tidy, Refusal::NotTidy)?;
@@ -147,7 +148,7 @@ impl Record {
     /// The record of a tidy image that the newest reader accepts.
     fn of_image(image: &[u8], chip: u16) -> Self {
         let mut id = field(image, 0);
-        id[16] = image[17];
+        id[16] = image[ID_LAST_OFFSET];
         let mut rest = &image[TIDY_LEAF + header_size(chip)..LEAF_LIMIT];
         let count = image[TIDY_LEAF + header_size(chip) - 1];
         let blocks = (0..count).map(|_| {
@@ -158,9 +159,9 @@ impl Record {
         Self {
             blocks: blocks.collect(),
             id,
-            version: image[18],
-            address: field(image, 20),
-            device: image[26],
+            version: image[VERSION_OFFSET],
+            address: field(image, ADDRESS_OFFSET),
+            device: image[CONTROLLERS_OFFSET],
             chip,
             connection: word(image, TIDY_LEAF),
             control: if chip == 21140 {
@@ -192,12 +193,12 @@ impl Record {
     fn image(&self, leaf: &[u8]) -> [u8; IMAGE_LENGTH] {
         let mut image = [0; IMAGE_LENGTH];
         image[..16].copy_from_slice(&self.id[..16]);
-        image[17] = self.id[16];
-        image[18] = self.version;
-        image[19] = 1;
-        image[20..26].copy_from_slice(&self.address);
-        image[26] = self.device;
-        image[27] = TIDY_LEAF as u8;
+        image[ID_LAST_OFFSET] = self.id[16];
+        image[VERSION_OFFSET] = self.version;
+        image[COUNT_OFFSET] = 1;
+        image[ADDRESS_OFFSET..CONTROLLERS_OFFSET].copy_from_slice(&self.address);
+        image[CONTROLLERS_OFFSET] = self.device;
+        image[CONTROLLERS_OFFSET + 1] = TIDY_LEAF as u8;
         image[TIDY_LEAF..][..leaf.len()].copy_from_slice(leaf);
         image[LEAF_LIMIT..][..2].copy_from_slice(&self.maker);
         lay_crcs(&mut image);

@@ -16,16 +16,30 @@ pub const POWER_UP_ONLY: u16 = 0x8800;
 /// The connection types that looks serve.
 pub const SERVED: [u16; 3] = [0x0800, POWER_UP_ONLY, 0x0900];
 
-/// A walk with a row of flags for each property. The library's C interface has the same layout.
+/// A row of flags for each property, by block number. The library's C interface has the same layout.
+#[repr(C)]
+#[derive(Debug, Clone, Copy, PartialEq, Eq)]
+pub struct Rows {
+    pub listed: [u8; ROW_LENGTH],
+    /// 1 for the listed blocks with Active_Invalid only.
+    pub active_invalid: [u8; ROW_LENGTH],
+}
+
+impl Rows {
+    pub const EMPTY: Self = Self {
+        listed: [0; ROW_LENGTH],
+        active_invalid: [0; ROW_LENGTH],
+    };
+}
+
+/// A walk with its rows of flags. The library's C interface has the same layout.
 #[repr(C)]
 #[derive(Debug, Clone, Copy, PartialEq, Eq)]
 pub struct Walk {
     pub loaded: bool,
     pub connection: u16,
     pub blocks: u8,
-    pub listed: [u8; ROW_LENGTH],
-    /// 1 for the listed blocks with Active_Invalid only.
-    pub active_invalid: [u8; ROW_LENGTH],
+    pub rows: Rows,
     pub default_number: u8,
     pub settled: bool,
     pub selected: u8,
@@ -38,8 +52,7 @@ impl Walk {
         loaded: false,
         connection: 0,
         blocks: 0,
-        listed: [0; ROW_LENGTH],
-        active_invalid: [0; ROW_LENGTH],
+        rows: Rows::EMPTY,
         default_number: NONE,
         settled: false,
         selected: NONE,
@@ -127,8 +140,10 @@ impl Autosense {
             loaded: true,
             connection: loaded.connection,
             blocks: loaded.blocks as u8,
-            listed: row(|_| true),
-            active_invalid: row(|entry| entry.is_active_invalid),
+            rows: Rows {
+                listed: row(|_| true),
+                active_invalid: row(|entry| entry.is_active_invalid),
+            },
             default_number: number(loaded.default),
             settled: loaded.settled,
             selected: number(loaded.selected),

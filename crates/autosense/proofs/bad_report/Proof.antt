@@ -11,7 +11,8 @@ use Rattle.autosense.proofs.bad_report.Statement.{statement}
 use Rattle.autosense.proofs.bad_report.Tie as tie
 
 abbrev Inv-loop : tie.InvT-loop
-Inv-loop report blocks count k₀ k = (k ≤ blocks) × (anyBelow (λ j. ltb 1 (byteAt report j)) blocks ≡ anyBelow (λ j. ltb 1 (byteAt report j)) k)
+Inv-loop report blocks count k₀ k = (k ≤ blocks)
+    × (anyBelow (λ j. ltb 1 (byteAt report j)) blocks ≡ anyBelow (λ j. ltb 1 (byteAt report j)) k)
 
 abbrev μ-loop : tie.MeasureT-loop
 μ-loop report blocks count k₀ k = k
@@ -31,17 +32,25 @@ shared-slice-read-if2 c = omega arith
 
 returns-2 : tie.Need-returns-2 Inv-loop μ-loop
 unfolding badReport
-returns-2 c = sym (simp (le-ltb _ _ (c .before .before .before .before .if1 .left)) (c .before .before .before .loop .inv .1 ∙ any-step _ _ (c .before .before .loop-test .taken) ∙ simp (lt-ltb _ _ (c .if2 .taken))))
+returns-2 c =
+    sym
+    (simp (le-ltb _ _ (c .before .before .before .before .if1 .left))
+    (c .before .before .before .loop .inv .1 ∙ any-step _ _ (c .before .before .loop-test .taken) ∙ simp (lt-ltb _ _ (c .if2 .taken))))
 
 loop-less : tie.Need-loop-less Inv-loop μ-loop
 loop-less c = omega arith
 
 loop-again : tie.Need-loop-again Inv-loop μ-loop
-loop-again c = (omega arith, c .before .before .before .loop .inv .1 ∙ any-step _ _ (c .before .before .loop-test .taken) ∙ simp (le-ltb _ _ (c .if2 .left)))
+loop-again c = (
+  omega arith,
+  c .before .before .before .loop .inv .1 ∙ any-step _ _ (c .before .before .loop-test .taken)
+      ∙ simp (le-ltb _ _ (c .if2 .left)),
+)
 
 returns-3 : tie.Need-returns-3 Inv-loop μ-loop
 unfolding badReport anyBelow
-returns-3 c = let z : c .before .loop .k ≡ 0 = omega arith in sym (simp (le-ltb _ _ (c .before .before .if1 .left)) (c .before .loop .inv .1 ∙ ap (anyBelow _) z))
+returns-3 c = let z : c .before .loop .k ≡ 0 = omega arith in
+    sym (simp (le-ltb _ _ (c .before .before .if1 .left)) (c .before .loop .inv .1 ∙ ap (anyBelow _) z))
 
 pub bad-report-spec : {M : Type 1} → statement M
 bad-report-spec =

@@ -24,11 +24,15 @@ first-up-requires c κs = search needs
 
 returns-2 : tie.Need-returns-2
 unfolding chosen upIn pick
-returns-2 c = simp (← c .before .before .before .before .before .before .before .stays-there .ensures, c .before .before .before .before .before .before .if1 .left, ← c .before .first-up .ensures, eq-eqb _ _ (c .if2 .taken))
+returns-2 c =
+    let moves = c .before .before .before .before .before .before .before in
+    simp (← moves .before .stays-there .ensures, moves .if1 .left, ← c .before .first-up .ensures, eq-eqb _ _ (c .if2 .taken))
 
 returns-3 : tie.Need-returns-3
 unfolding chosen upIn pick
-returns-3 c = simp (← c .before .before .before .before .before .before .before .stays-there .ensures, c .before .before .before .before .before .before .if1 .left, ← c .before .first-up .ensures, ne-eqb _ _ (c .if2 .left))
+returns-3 c =
+    let moves = c .before .before .before .before .before .before .before in
+    simp (← moves .before .stays-there .ensures, moves .if1 .left, ← c .before .first-up .ensures, ne-eqb _ _ (c .if2 .left))
 
 pub choose-spec : {M : Type 1} → statement M
 choose-spec =

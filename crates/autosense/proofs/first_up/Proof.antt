@@ -10,7 +10,9 @@ use Rattle.autosense.proofs.first_up.Statement.{statement}
 use Rattle.autosense.proofs.first_up.Tie as tie
 
 abbrev Inv-loop : tie.InvT-loop
-Inv-loop listed active-invalid settled report blocks k₀ k = lastBelow (λ j. isCandidate listed active-invalid settled j && isUp report j) blocks ≡ lastBelow (λ j. isCandidate listed active-invalid settled j && isUp report j) k
+Inv-loop listed active-invalid settled report blocks k₀ k =
+    lastBelow (λ j. isCandidate listed active-invalid settled j && isUp report j) blocks
+    ≡ lastBelow (λ j. isCandidate listed active-invalid settled j && isUp report j) k
 
 abbrev μ-loop : tie.MeasureT-loop
 μ-loop listed active-invalid settled report blocks k₀ k = k
@@ -29,21 +31,27 @@ flag-at-requires c κs = search needs
 
 returns : tie.Need-returns Inv-loop μ-loop
 unfolding firstUp pick
-returns c = sym (c .before .before .before .before .before .loop .inv ∙ last-step _ _ (c .before .before .before .before .loop-test .taken) ∙ simp (← c .before .before .before .is-candidate .ensures, c .before .before .if1 .taken, ← c .before .flag-at .ensures, c .if2 .taken))
+returns c =
+    sym
+    (c .before .before .before .before .before .loop .inv ∙ last-step _ _ (c .before .before .before .before .loop-test .taken)
+    ∙ simp
+    (← c .before .before .before .is-candidate .ensures, c .before .before .if1 .taken, ← c .before .flag-at .ensures, c .if2 .taken))
 
 loop-less : tie.Need-loop-less Inv-loop μ-loop
 loop-less c = omega arith
 
 loop-again : tie.Need-loop-again Inv-loop μ-loop
 unfolding pick
-loop-again c = c .before .before .before .before .before .loop .inv ∙ last-step _ _ (c .before .before .before .before .loop-test .taken) ∙ simp (← c .before .before .before .is-candidate .ensures, c .before .before .if1 .taken, ← c .before .flag-at .ensures, c .if2 .left)
+loop-again c = c .before .before .before .before .before .loop .inv ∙ last-step _ _ (c .before .before .before .before .loop-test .taken)
+    ∙ simp (← c .before .before .before .is-candidate .ensures, c .before .before .if1 .taken, ← c .before .flag-at .ensures, c .if2 .left)
 
 loop-less-2 : tie.Need-loop-less-2 Inv-loop μ-loop
 loop-less-2 c = omega arith
 
 loop-again-2 : tie.Need-loop-again-2 Inv-loop μ-loop
 unfolding pick
-loop-again-2 c = c .before .before .before .loop .inv ∙ last-step _ _ (c .before .before .loop-test .taken) ∙ simp (← c .before .is-candidate .ensures, c .if1 .left)
+loop-again-2 c = c .before .before .before .loop .inv ∙ last-step _ _ (c .before .before .loop-test .taken)
+    ∙ simp (← c .before .is-candidate .ensures, c .if1 .left)
 
 returns-2 : tie.Need-returns-2 Inv-loop μ-loop
 unfolding firstUp lastBelow

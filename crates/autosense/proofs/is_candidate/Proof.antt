@@ -14,14 +14,25 @@ returns c = simp (← c .before .flag-at .ensures, not-true (c .before .flag-at 
 
 returns-2 : tie.Need-returns-2
 unfolding isCandidate
-returns-2 c = simp (← c .before .before .flag-at .ensures, not-false (c .before .before .flag-at .result) (c .before .if1 .left), not-true (c .before .before .before .before .before .args .settled) (c .if2 .taken))
+returns-2 c =
+    simp (
+      ← c .before .before .flag-at .ensures,
+      not-false (c .before .before .flag-at .result) (c .before .if1 .left),
+      not-true (c .before .before .before .before .before .args .settled) (c .if2 .taken),
+    )
 
 flag-at-requires-2 : tie.Need-flag-at-requires-2
 flag-at-requires-2 c κs = search needs
 
 returns-3 : tie.Need-returns-3
 unfolding isCandidate
-returns-3 c = simp (← c .before .before .before .flag-at .ensures, not-false (c .before .before .before .flag-at .result) (c .before .before .if1 .left), not-false (c .before .before .before .before .before .before .args .settled) (c .before .if2 .left), ← c .flag-at2 .ensures)
+returns-3 c =
+    simp (
+      ← c .before .before .before .flag-at .ensures,
+      not-false (c .before .before .before .flag-at .result) (c .before .before .if1 .left),
+      not-false (c .before .before .before .before .before .before .args .settled) (c .before .if2 .left),
+      ← c .flag-at2 .ensures,
+    )
 
 pub is-candidate-spec : {M : Type 1} → statement M
 is-candidate-spec =

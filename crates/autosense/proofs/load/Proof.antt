@@ -12,23 +12,41 @@ assess-requires : tie.Need-assess-requires
 assess-requires c κs = search needs
 
 returns-2 : tie.Need-returns-2
-returns-2 c = load-refused _ _ _ (c .before .before .before .if1 .left) (c .before .before .assess .result) (c .before .before .assess .ensures) (c .if2 .taken)
+returns-2 c =
+    let read = c .before .before .assess in
+    load-refused _ _ _ (c .before .before .before .if1 .left) (read .result) (read .ensures) (c .if2 .taken)
 
 sub-rows-of : tie.Need-sub-rows-of
-sub-rows-of c = reading-start (accepted-judged (c .before .before .before .before .before .args .image .now) (c .before .before .before .before .before .args .arguments) (c .before .before .assess .result) (c .before .before .assess .ensures) (c .if2 .left))
+sub-rows-of c =
+    let read = c .before .before .assess in
+    let a = c .before .before .before .before .before .args in
+    reading-start (accepted-judged (a .image .now) (a .arguments) (read .result) (read .ensures) (c .if2 .left))
 
 part-rows-of-start : tie.Need-part-rows-of-start
-part-rows-of-start c = reading-start (accepted-judged (c .before .before .before .before .before .args .image .now) (c .before .before .before .before .before .args .arguments) (c .before .before .assess .result) (c .before .before .assess .ensures) (c .if2 .left))
+part-rows-of-start c =
+    let read = c .before .before .assess in
+    let a = c .before .before .before .before .before .args in
+    reading-start (accepted-judged (a .image .now) (a .arguments) (read .result) (read .ensures) (c .if2 .left))
 
 part-rows-of-end : tie.Need-part-rows-of-end
-part-rows-of-end c = reading-end (accepted-judged (c .before .before .before .before .before .args .image .now) (c .before .before .before .before .before .args .arguments) (c .before .before .assess .result) (c .before .before .assess .ensures) (c .if2 .left))
+part-rows-of-end c =
+    let read = c .before .before .assess in
+    let a = c .before .before .before .before .before .args in
+    reading-end (accepted-judged (a .image .now) (a .arguments) (read .result) (read .ensures) (c .if2 .left))
 
 rows-of-requires : tie.Need-rows-of-requires
-rows-of-requires c κs = let k = accepted-judged (c .before .before .before .before .before .before .args .image .now) (c .before .before .before .before .before .before .args .arguments) (c .before .before .before .assess .result) (c .before .before .before .assess .ensures) (c .before .if2 .left) in
+rows-of-requires c κs =
+    let read = c .before .before .before .assess in
+    let a = c .before .before .before .before .before .before .args in
+    let k = accepted-judged (a .image .now) (a .arguments) (read .result) (read .ensures) (c .before .if2 .left) in
     (reading-blocks k, reading-few-blocks k)
 
 returns-3 : tie.Need-returns-3
-returns-3 c = load-done _ _ _ (c .before .before .before .before .before .before .before .if1 .left) (c .before .before .before .before .before .before .assess .result) (c .before .before .before .before .before .before .assess .ensures) (c .before .before .before .before .if2 .left) (c .before .before .rows-of .result) (c .before .before .rows-of .ensures)
+returns-3 c =
+    let tested = c .before .before in
+    let read = tested .before .before .assess in
+    load-done _ _ _ (tested .before .before .before .if1 .left) (read .result) (read .ensures) (tested .if2 .left) (c .rows-of .result)
+    (c .rows-of .ensures)
 
 pub load-spec : {M : Type 1} → statement M
 load-spec =

@@ -21,18 +21,30 @@ returns-2 c = reached (skip (c .before .before .if1 .left) (stop (ap not (sym (c
 
 returns-3 : tie.Need-returns-3
 unfolding lookCauses
-returns-3 c = reached (skip (c .before .before .before .before .if1 .left) (skip (ap not (sym (c .before .before .before .is-served .ensures)) ∙ c .before .before .if2 .left) (stop (eq-eqb _ _ (c .if3 .taken)))))
+returns-3 c =
+    reached
+    (skip (c .before .before .before .before .if1 .left)
+    (skip (ap not (sym (c .before .before .before .is-served .ensures)) ∙ c .before .before .if2 .left)
+    (stop (eq-eqb _ _ (c .if3 .taken)))))
 
 bad-report-requires : tie.Need-bad-report-requires
 bad-report-requires c κs = search needs
 
 returns-4 : tie.Need-returns-4
 unfolding lookCauses
-returns-4 c = reached (skip (c .before .before .before .before .before .before .if1 .left) (skip (ap not (sym (c .before .before .before .before .before .is-served .ensures)) ∙ c .before .before .before .before .if2 .left) (skip (ne-eqb _ _ (c .before .before .if3 .left)) (stop (sym (c .before .bad-report .ensures) ∙ c .if4 .taken)))))
+returns-4 c =
+    reached
+    (skip (c .before .before .before .before .before .before .if1 .left)
+    (skip (ap not (sym (c .before .before .before .before .before .is-served .ensures)) ∙ c .before .before .before .before .if2 .left)
+    (skip (ne-eqb _ _ (c .before .before .if3 .left)) (stop (sym (c .before .bad-report .ensures) ∙ c .if4 .taken)))))
 
 returns-5 : tie.Need-returns-5
 unfolding lookCauses
-returns-5 c = reached (skip (c .before .before .before .before .before .before .if1 .left) (skip (ap not (sym (c .before .before .before .before .before .is-served .ensures)) ∙ c .before .before .before .before .if2 .left) (skip (ne-eqb _ _ (c .before .before .if3 .left)) (skip (sym (c .before .bad-report .ensures) ∙ c .if4 .left) end))))
+returns-5 c =
+    reached
+    (skip (c .before .before .before .before .before .before .if1 .left)
+    (skip (ap not (sym (c .before .before .before .before .before .is-served .ensures)) ∙ c .before .before .before .before .if2 .left)
+    (skip (ne-eqb _ _ (c .before .before .if3 .left)) (skip (sym (c .before .bad-report .ensures) ∙ c .if4 .left) end))))
 
 pub look-refusal-spec : {M : Type 1} → statement M
 look-refusal-spec =

@@ -11,7 +11,8 @@ use Rattle.autosense.proofs.rows_of.Statement.{statement}
 use Rattle.autosense.proofs.rows_of.Tie as tie
 
 abbrev Inv-loop : tie.InvT-loop
-Inv-loop blocks count row level listed₀ active-invalid₀ rest₀ k₀ listed active-invalid rest k = Filled row level (cut row count blocks) (cut row (count - k) rest) k listed active-invalid × (k ≤ count)
+Inv-loop blocks count row level listed₀ active-invalid₀ rest₀ k₀ listed active-invalid rest k =
+    Filled row level (cut row count blocks) (cut row (count - k) rest) k listed active-invalid × (k ≤ count)
 
 abbrev μ-loop : tie.MeasureT-loop
 μ-loop blocks count row level listed₀ active-invalid₀ rest₀ k₀ listed active-invalid rest k = count - k
@@ -47,10 +48,14 @@ size-of-requires : tie.Need-size-of-requires Inv-loop μ-loop
 size-of-requires c κs = search needs
 
 sub-rest : tie.Need-sub-rest Inv-loop μ-loop
-sub-rest c = next-fits _ _ _ _ (c .before .before .before .before .before .loop .inv .0 .accepted) (c .before .before .before .before .loop-test .taken) (c .before .before .before .judge-block .ensures) (c .size-of .ensures)
+sub-rest c =
+    next-fits _ _ _ _ (c .before .before .before .before .before .loop .inv .0 .accepted)
+    (c .before .before .before .before .loop-test .taken) (c .before .before .before .judge-block .ensures) (c .size-of .ensures)
 
 part-rest-start : tie.Need-part-rest-start Inv-loop μ-loop
-part-rest-start c = next-fits _ _ _ _ (c .before .before .before .before .before .loop .inv .0 .accepted) (c .before .before .before .before .loop-test .taken) (c .before .before .before .judge-block .ensures) (c .size-of .ensures)
+part-rest-start c =
+    next-fits _ _ _ _ (c .before .before .before .before .before .loop .inv .0 .accepted)
+    (c .before .before .before .before .loop-test .taken) (c .before .before .before .judge-block .ensures) (c .size-of .ensures)
 
 part-rest-end : tie.Need-part-rest-end Inv-loop μ-loop
 part-rest-end c = le-refl _
@@ -62,10 +67,17 @@ loop-less : tie.Need-loop-less Inv-loop μ-loop
 loop-less c = search needs
 
 loop-again : tie.Need-loop-again Inv-loop μ-loop
-loop-again c = (rows-more _ _ _ _ (c .before .before .before .before .before .before .loop .inv .0) (c .before .before .before .before .before .loop-test .taken) (c .before .before .before .before .judge-block .ensures) (c .before .before .before .listed-flag .ensures) (c .before .before .invalid-flag .ensures) (c .before .size-of .ensures), search needs)
+loop-again c = (
+  rows-more _ _ _ _ (c .before .before .before .before .before .before .loop .inv .0)
+      (c .before .before .before .before .before .loop-test .taken) (c .before .before .before .before .judge-block .ensures)
+      (c .before .before .before .listed-flag .ensures) (c .before .before .invalid-flag .ensures) (c .before .size-of .ensures),
+  search needs,
+)
 
 returns : tie.Need-returns Inv-loop μ-loop
-returns c = rows-done _ _ _ _ (c .before .loop .inv .0) (c .before .before .before .before .before .args .blocks .now) refl (c .before .before .before .before .before .pre .1) (c .loop-test .left)
+returns c =
+    rows-done _ _ _ _ (c .before .loop .inv .0) (c .before .before .before .before .before .args .blocks .now) refl
+    (c .before .before .before .before .before .pre .1) (c .loop-test .left)
 
 pub rows-of-spec : {M : Type 1} → statement M
 rows-of-spec =

@@ -15,7 +15,13 @@ returns-2 c = simp (not-false (c .before .before .before .before .args .walk .se
 
 returns-3 : tie.Need-returns-3
 unfolding stays
-returns-3 c = simp (not-false (c .before .before .before .before .before .before .args .walk .settled) (c .before .before .before .if1 .left), ne-eqb _ _ (c .before .before .if2 .left), eq-eqb _ _ (c .if3 .taken))
+returns-3 c =
+    let selected = c .before .before in
+    simp (
+      not-false (selected .before .before .before .before .args .walk .settled) (selected .before .if1 .left),
+      ne-eqb _ _ (selected .if2 .left),
+      eq-eqb _ _ (c .if3 .taken),
+    )
 
 slice-aggregate-flag-at : tie.Need-slice-aggregate-flag-at
 slice-aggregate-flag-at c = search needs
@@ -25,14 +31,33 @@ flag-at-requires c κs = search needs
 
 returns-4 : tie.Need-returns-4
 unfolding stays
-returns-4 c = simp (not-false (c .before .before .before .before .before .before .before .before .before .before .args .walk .settled) (c .before .before .before .before .before .before .before .if1 .left), ne-eqb _ _ (c .before .before .before .before .before .before .if2 .left), ne-eqb _ _ (c .before .before .before .before .if3 .left), ← c .before .flag-at .ensures, c .if4 .taken)
+returns-4 c =
+    let other = c .before .before .before .before .before in
+    let selected = other .before .before in
+    simp (
+      not-false (selected .before .before .before .before .args .walk .settled) (selected .before .if1 .left),
+      ne-eqb _ _ (selected .if2 .left),
+      ne-eqb _ _ (other .if3 .left),
+      ← c .before .flag-at .ensures,
+      c .if4 .taken,
+    )
 
 flag-at-requires-2 : tie.Need-flag-at-requires-2
 flag-at-requires-2 c κs = search needs
 
 returns-5 : tie.Need-returns-5
 unfolding stays
-returns-5 c = simp (not-false (c .before .before .before .before .before .before .before .before .before .before .before .args .walk .settled) (c .before .before .before .before .before .before .before .before .if1 .left), ne-eqb _ _ (c .before .before .before .before .before .before .before .if2 .left), ne-eqb _ _ (c .before .before .before .before .before .if3 .left), ← c .before .before .flag-at .ensures, c .before .if4 .left, ← c .flag-at2 .ensures)
+returns-5 c =
+    let other = c .before .before .before .before .before .before in
+    let selected = other .before .before in
+    simp (
+      not-false (selected .before .before .before .before .args .walk .settled) (selected .before .if1 .left),
+      ne-eqb _ _ (selected .if2 .left),
+      ne-eqb _ _ (other .if3 .left),
+      ← c .before .before .flag-at .ensures,
+      c .before .if4 .left,
+      ← c .flag-at2 .ensures,
+    )
 
 pub stays-there-spec : {M : Type 1} → statement M
 stays-there-spec =

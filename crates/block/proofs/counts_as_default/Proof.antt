@@ -21,14 +21,24 @@ is-in-requires c κs = search needs
 
 returns-2 : tie.Need-returns-2
 unfolding countsAsDefault neverDefault
-returns-2 c = simp (sym (c .before .before .before .before .has-bit .ensures) ∙ c .before .before .before .if1 .left, sym (c .before .is-in .ensures) ∙ c .if2 .taken)
+returns-2 c =
+    simp (
+      sym (c .before .before .before .before .has-bit .ensures) ∙ c .before .before .before .if1 .left,
+      sym (c .before .is-in .ensures)
+          ∙ c .if2 .taken,
+    )
 
 has-bit-requires-2 : tie.Need-has-bit-requires-2
 has-bit-requires-2 c κs = search needs
 
 returns-3 : tie.Need-returns-3
 unfolding countsAsDefault neverDefault
-returns-3 c = simp (sym (c .before .before .before .before .before .has-bit .ensures) ∙ c .before .before .before .before .if1 .left, sym (c .before .before .is-in .ensures) ∙ c .before .if2 .left) (c .has-bit2 .ensures)
+returns-3 c =
+    simp (
+      sym (c .before .before .before .before .before .has-bit .ensures)
+          ∙ c .before .before .before .before .if1 .left,
+      sym (c .before .before .is-in .ensures) ∙ c .before .if2 .left,
+    ) (c .has-bit2 .ensures)
 
 pub counts-as-default-spec : {M : Type 1} → statement M
 counts-as-default-spec =

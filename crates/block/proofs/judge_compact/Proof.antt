@@ -6,7 +6,8 @@ use borrow.Author.Needs.{needs}
 use Rattle.rom.specs.Bytes.{pick}
 use Rattle.block.specs.Format.{kindCompact}
 use Rattle.block.specs.Block.{factsOf}
-use Rattle.block.specs.Answer.{judgedAs, found}
+use Rattle.block.specs.Inside.{judgedAs}
+use Rattle.block.specs.Answer.{found}
 use Rattle.block.proofs.Whole.{compact-form, past-end, not-permitted, by-fields, known-form}
 use Rattle.block.proofs.judge_compact.Statement.{statement}
 use Rattle.block.proofs.judge_compact.Tie as tie
@@ -18,14 +19,21 @@ is-permitted-requires : tie.Need-is-permitted-requires
 is-permitted-requires c κs = search needs
 
 returns-2 : tie.Need-returns-2
-returns-2 c = λ level. not-permitted level (compact-form _ _ (c .before .before .before .before .pre .0) (c .before .before .before .before .pre .1)) (c .before .before .if1 .left) refl (known-form level kindCompact (lit≤ tt)) (sym (c .before .is-permitted .ensures) ∙ not-true _ (c .if2 .taken))
+returns-2 c =
+    λ level. not-permitted level (compact-form _ _ (c .before .before .before .before .pre .0) (c .before .before .before .before .pre .1))
+    (c .before .before .if1 .left) refl (known-form level kindCompact (lit≤ tt))
+    (sym (c .before .is-permitted .ensures) ∙ not-true _ (c .if2 .taken))
 
 judge-port-requires : tie.Need-judge-port-requires
 judge-port-requires c κs = search needs
 
 returns-3 : tie.Need-returns-3
 unfolding judgedAs factsOf found pick
-returns-3 c = λ level. c .judge-port .ensures ∙ by-fields level (compact-form _ _ (c .before .before .before .before .before .pre .0) (c .before .before .before .before .before .pre .1)) (c .before .before .before .if1 .left) refl (known-form level kindCompact (lit≤ tt)) (sym (c .before .before .is-permitted .ensures) ∙ not-false _ (c .before .if2 .left))
+returns-3 c = λ level. c .judge-port .ensures
+    ∙ by-fields level
+    (compact-form _ _ (c .before .before .before .before .before .pre .0) (c .before .before .before .before .before .pre .1))
+    (c .before .before .before .if1 .left) refl (known-form level kindCompact (lit≤ tt))
+    (sym (c .before .before .is-permitted .ensures) ∙ not-false _ (c .before .if2 .left))
 
 pub judge-compact-spec : {M : Type 1} → statement M
 judge-compact-spec =

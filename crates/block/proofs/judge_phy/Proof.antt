@@ -1,4 +1,5 @@
--- The counts that are read give the length and the place of the capabilities; a unit is at most two bytes, so no sum is large. Assumes nothing.
+-- The counts that are read give the length and the place of the capabilities; a unit is at most two bytes, so no sum is large. Assumes
+-- nothing.
 use native.Mathlib.Omega.{arith}
 use mathlib.Core.Path.{refl, _∙_}
 use borrow.Author.Needs.{needs}
@@ -24,17 +25,30 @@ mul-sequences : tie.Need-mul-sequences
 mul-sequences c = omega (arith, few (c .before .before .before .pre .1 .0) (c .count-at2 .ensures .1))
 
 add-sequences : tie.Need-add-sequences
-add-sequences c = omega (arith, few (c .before .before .before .pre .1 .0) (c .before .count-at .ensures .1), few (c .before .before .before .pre .1 .0) (c .count-at2 .ensures .1))
+add-sequences c =
+    omega (
+      arith,
+      few (c .before .before .before .pre .1 .0) (c .before .count-at .ensures .1),
+      few (c .before .before .before .pre .1 .0) (c .count-at2 .ensures .1),
+    )
 
 add-if1 : tie.Need-add-if1
 add-if1 c = search needs
 
 add-if1-2 : tie.Need-add-if1-2
-add-if1-2 c = omega (arith, few (c .before .before .before .pre .1 .0) (c .before .count-at .ensures .1), few (c .before .before .before .pre .1 .0) (c .count-at2 .ensures .1))
+add-if1-2 c =
+    omega (
+      arith,
+      few (c .before .before .before .pre .1 .0) (c .before .count-at .ensures .1),
+      few (c .before .before .before .pre .1 .0) (c .count-at2 .ensures .1),
+    )
 
 returns : tie.Need-returns
 unfolding phy
-returns c = wrong-length _ _ (counts-wrong _ _ (c .before .before .count-at .ensures .0) (c .before .count-at2 .ensures .0) _ (c .before .before .before .before .pre .0 .0) (c .before .before .before .before .pre .1 .1) (c .if1 .taken))
+returns c =
+    wrong-length _ _
+    (counts-wrong _ _ (c .before .before .count-at .ensures .0) (c .before .count-at2 .ensures .0) _
+    (c .before .before .before .before .pre .0 .0) (c .before .before .before .before .pre .1 .1) (c .if1 .taken))
 
 add-t11 : tie.Need-add-t11
 add-t11 c = search needs
@@ -53,17 +67,32 @@ advertises-more-requires c κs = search needs
 
 returns-2 : tie.Need-returns-2
 unfolding phy
-returns-2 c = too-much _ _ (counts-right _ _ (c .before .before .before .before .before .before .count-at .ensures .0) (c .before .before .before .before .before .count-at2 .ensures .0) _ (c .before .before .before .before .before .before .before .before .pre .0 .0) (c .before .before .before .before .before .before .before .before .pre .1 .1) (c .before .before .before .before .if1 .left)) refl
-    (advertised _ _ (c .before .before .before .before .before .before .count-at .ensures .0) (c .before .before .before .before .before .count-at2 .ensures .0) (c .before .before .before .word-at .ensures) (c .before .before .word-at2 .ensures) (c .before .advertises-more .ensures) ∙ c .if2 .taken)
+returns-2 c =
+    too-much _ _
+    (counts-right _ _ (c .before .before .before .before .before .before .count-at .ensures .0)
+    (c .before .before .before .before .before .count-at2 .ensures .0) _
+    (c .before .before .before .before .before .before .before .before .pre .0 .0)
+    (c .before .before .before .before .before .before .before .before .pre .1 .1) (c .before .before .before .before .if1 .left)) refl
+    (advertised _ _ (c .before .before .before .before .before .before .count-at .ensures .0)
+    (c .before .before .before .before .before .count-at2 .ensures .0) (c .before .before .before .word-at .ensures)
+    (c .before .before .word-at2 .ensures) (c .before .advertises-more .ensures) ∙ c .if2 .taken)
 
 add-t11-2 : tie.Need-add-t11-2
 add-t11-2 c = search needs
 
 returns-3 : tie.Need-returns-3
 unfolding phy
-returns-3 c = phy-listed _ _ (c .before .before .before .before .before .before .count-at .ensures .0) (c .before .before .before .before .before .count-at2 .ensures .0) _ _ ∙
-    fine _ _ (counts-right _ _ (c .before .before .before .before .before .before .count-at .ensures .0) (c .before .before .before .before .before .count-at2 .ensures .0) _ (c .before .before .before .before .before .before .before .before .pre .0 .0) (c .before .before .before .before .before .before .before .before .pre .1 .1) (c .before .before .before .before .if1 .left)) refl
-    (advertised _ _ (c .before .before .before .before .before .before .count-at .ensures .0) (c .before .before .before .before .before .count-at2 .ensures .0) (c .before .before .before .word-at .ensures) (c .before .before .word-at2 .ensures) (c .before .advertises-more .ensures) ∙ c .if2 .left)
+returns-3 c =
+    phy-listed _ _ (c .before .before .before .before .before .before .count-at .ensures .0)
+    (c .before .before .before .before .before .count-at2 .ensures .0) _ _ ∙
+    fine _ _
+    (counts-right _ _ (c .before .before .before .before .before .before .count-at .ensures .0)
+    (c .before .before .before .before .before .count-at2 .ensures .0) _
+    (c .before .before .before .before .before .before .before .before .pre .0 .0)
+    (c .before .before .before .before .before .before .before .before .pre .1 .1) (c .before .before .before .before .if1 .left)) refl
+    (advertised _ _ (c .before .before .before .before .before .before .count-at .ensures .0)
+    (c .before .before .before .before .before .count-at2 .ensures .0) (c .before .before .before .word-at .ensures)
+    (c .before .before .word-at2 .ensures) (c .before .advertises-more .ensures) ∙ c .if2 .left)
 
 pub judge-phy-spec : {M : Type 1} → statement M
 judge-phy-spec =

@@ -27,7 +27,10 @@ is-in-requires c κs = search needs
 
 returns-2 : tie.Need-returns-2
 unfolding port badPlainCode portCodes
-returns-2 c = bad-code _ _ refl (rw (← (c .before .before .before .before .byte-at .ensures)) (or-left _ (or-right (lt-leb _ _ (c .before .before .before .if1 .left)) (ap not (sym (c .before .is-in .ensures)) ∙ c .if2 .taken))))
+returns-2 c =
+    bad-code _ _ refl
+    (rw (← (c .before .before .before .before .byte-at .ensures))
+    (or-left _ (or-right (lt-leb _ _ (c .before .before .before .if1 .left)) (ap not (sym (c .before .is-in .ensures)) ∙ c .if2 .taken))))
 
 add-t17 : tie.Need-add-t17
 add-t17 c = search needs
@@ -37,7 +40,13 @@ word-at-requires c κs = search needs
 
 returns-3 : tie.Need-returns-3
 unfolding port badPlainCode badCommand portCodes
-returns-3 c = bad-code _ _ refl (rw (← (c .before .before .before .before .before .before .byte-at .ensures)) (or-right (or-none (lt-leb _ _ (c .before .before .before .before .before .if1 .left)) (ap not (sym (c .before .before .before .is-in .ensures)) ∙ c .before .before .if2 .left)) (rw (← (c .before .word-at .ensures), ne-eqb _ _ (c .if3 .taken)))))
+returns-3 c =
+    bad-code _ _ refl
+    (rw (← (c .before .before .before .before .before .before .byte-at .ensures))
+    (or-right
+    (or-none (lt-leb _ _ (c .before .before .before .before .before .if1 .left))
+    (ap not (sym (c .before .before .before .is-in .ensures)) ∙ c .before .before .if2 .left))
+    (rw (← (c .before .word-at .ensures), ne-eqb _ _ (c .if3 .taken)))))
 
 has-bit-requires : tie.Need-has-bit-requires
 has-bit-requires c κs = search needs
@@ -47,8 +56,19 @@ counts-as-default-requires c κs = search needs
 
 returns-4 : tie.Need-returns-4
 unfolding port badPlainCode badCommand portCodes
-returns-4 c = rw (c .before .has-bit .ensures, c .counts-as-default .ensures, c .before .before .before .word-at .ensures, c .before .before .before .before .before .before .before .before .byte-at .ensures)
-    (fine _ _ refl (rw (← (c .before .before .before .before .before .before .before .before .byte-at .ensures)) (or-none (or-none (lt-leb _ _ (c .before .before .before .before .before .before .before .if1 .left)) (ap not (sym (c .before .before .before .before .before .is-in .ensures)) ∙ c .before .before .before .before .if2 .left)) (rw (← (c .before .before .before .word-at .ensures), eq-eqb _ _ (c .before .before .if3 .left))))) refl)
+returns-4 c =
+    rw (
+      c .before .has-bit .ensures,
+      c .counts-as-default .ensures,
+      c .before .before .before .word-at .ensures,
+      c .before .before .before .before .before .before .before .before .byte-at .ensures,
+    )
+    (fine _ _ refl
+    (rw (← (c .before .before .before .before .before .before .before .before .byte-at .ensures))
+    (or-none
+    (or-none (lt-leb _ _ (c .before .before .before .before .before .before .before .if1 .left))
+    (ap not (sym (c .before .before .before .before .before .is-in .ensures)) ∙ c .before .before .before .before .if2 .left))
+    (rw (← (c .before .before .before .word-at .ensures), eq-eqb _ _ (c .before .before .if3 .left))))) refl)
 
 pub judge-port-spec : {M : Type 1} → statement M
 judge-port-spec =

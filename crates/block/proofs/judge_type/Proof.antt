@@ -5,7 +5,8 @@ use lib.Dec.{lit≤}
 use borrow.Author.Needs.{needs}
 use Rattle.rom.specs.Bytes.{pick}
 use Rattle.block.specs.Block.{factsOf}
-use Rattle.block.specs.Answer.{judgedAs, found}
+use Rattle.block.specs.Inside.{judgedAs}
+use Rattle.block.specs.Answer.{found}
 use Rattle.block.proofs.Phy.{type-1, type-3}
 use Rattle.block.proofs.judge_type.Statement.{statement}
 use Rattle.block.proofs.judge_type.Tie as tie

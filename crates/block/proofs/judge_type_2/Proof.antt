@@ -17,7 +17,10 @@ add-if1 c = search needs
 
 returns : tie.Need-returns
 unfolding sia
-returns c = wrong-length _ _ (is-wrong 2 _ (c .before .before .before .before .pre .0) (λ e. (rw (c .before .sia-size .ensures .0, c .before .before .byte-at .ensures) at (c .if1 .taken)) (e ∙ type-2 _)))
+returns c =
+    wrong-length _ _
+    (is-wrong 2 _ (c .before .before .before .before .pre .0)
+    (λ e. (rw (c .before .sia-size .ensures .0, c .before .before .byte-at .ensures) at (c .if1 .taken)) (e ∙ type-2 _)))
 
 add-judge-sia : tie.Need-add-judge-sia
 add-judge-sia c = search needs
@@ -26,7 +29,11 @@ judge-sia-requires : tie.Need-judge-sia-requires
 judge-sia-requires c κs = search needs
 
 returns-2 : tie.Need-returns-2
-returns-2 c = rw (is-right 2 _ (c .before .before .before .before .before .pre .0) (rw (c .before .before .sia-size .ensures .0, c .before .before .before .byte-at .ensures) at (c .before .if1 .left) ∙ sym (type-2 _))) (c .judge-sia .ensures)
+returns-2 c =
+    rw
+    (is-right 2 _ (c .before .before .before .before .before .pre .0)
+    (rw (c .before .before .sia-size .ensures .0, c .before .before .before .byte-at .ensures) at (c .before .if1 .left) ∙ sym (type-2 _)))
+    (c .judge-sia .ensures)
 
 pub judge-type-2-spec : {M : Type 1} → statement M
 judge-type-2-spec =

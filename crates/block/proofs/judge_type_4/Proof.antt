@@ -19,7 +19,9 @@ byte-at-requires c κs = search needs
 
 returns-2 : tie.Need-returns-2
 unfolding symbol badPlainCode lengthFor pick
-returns-2 c = bad-code _ _ (is-right 4 _ (c .before .before .before .before .pre .0) (c .before .before .if1 .left)) (rw (← (c .before .byte-at .ensures)) (or-left _ (le-leb _ _ (c .if2 .taken))))
+returns-2 c =
+    bad-code _ _ (is-right 4 _ (c .before .before .before .before .pre .0) (c .before .before .if1 .left))
+    (rw (← (c .before .byte-at .ensures)) (or-left _ (le-leb _ _ (c .if2 .taken))))
 
 cast-media-code : tie.Need-cast-media-code
 cast-media-code c = search needs
@@ -32,7 +34,12 @@ is-in-requires c κs = search needs
 
 returns-3 : tie.Need-returns-3
 unfolding symbol badPlainCode lengthFor pick symCodes
-returns-3 c = bad-code _ _ (is-right 4 _ (c .before .before .before .before .before .before .before .pre .0) (c .before .before .before .before .before .if1 .left)) (rw (← (c .before .before .before .before .byte-at .ensures)) (or-right (lt-leb _ _ (c .before .before .before .if2 .left)) (ap not (sym (c .before .is-in .ensures)) ∙ c .if3 .taken)))
+returns-3 c =
+    bad-code _ _
+    (is-right 4 _ (c .before .before .before .before .before .before .before .pre .0)
+    (c .before .before .before .before .before .if1 .left))
+    (rw (← (c .before .before .before .before .byte-at .ensures))
+    (or-right (lt-leb _ _ (c .before .before .before .if2 .left)) (ap not (sym (c .before .is-in .ensures)) ∙ c .if3 .taken)))
 
 word-at-requires : tie.Need-word-at-requires
 word-at-requires c κs = search needs
@@ -48,8 +55,19 @@ add-t15 c = search needs
 
 returns-4 : tie.Need-returns-4
 unfolding symbol badPlainCode lengthFor pick symCodes
-returns-4 c = rw (c .before .has-bit .ensures, c .counts-as-default .ensures, c .before .before .word-at .ensures, c .before .before .before .before .before .before .before .byte-at .ensures)
-    (fine _ _ (is-right 4 _ (c .before .before .before .before .before .before .before .before .before .before .pre .0) (c .before .before .before .before .before .before .before .before .if1 .left)) (rw (← (c .before .before .before .before .before .before .before .byte-at .ensures)) (or-none (lt-leb _ _ (c .before .before .before .before .before .before .if2 .left)) (ap not (sym (c .before .before .before .before .is-in .ensures)) ∙ c .before .before .before .if3 .left))) refl)
+returns-4 c =
+    rw (
+      c .before .has-bit .ensures,
+      c .counts-as-default .ensures,
+      c .before .before .word-at .ensures,
+      c .before .before .before .before .before .before .before .byte-at .ensures,
+    )
+    (fine _ _
+    (is-right 4 _ (c .before .before .before .before .before .before .before .before .before .before .pre .0)
+    (c .before .before .before .before .before .before .before .before .if1 .left))
+    (rw (← (c .before .before .before .before .before .before .before .byte-at .ensures))
+    (or-none (lt-leb _ _ (c .before .before .before .before .before .before .if2 .left))
+    (ap not (sym (c .before .before .before .before .is-in .ensures)) ∙ c .before .before .before .if3 .left))) refl)
 
 pub judge-type-4-spec : {M : Type 1} → statement M
 judge-type-4-spec =

@@ -15,18 +15,33 @@ controller-count-requires c κs = search needs
 
 returns : tie.Need-returns
 unfolding argumentCauses addressOf
-returns c = reached (stop (le-leb (controllerCount (c .before .before .before .before .args .image .now)) (c .before .before .before .before .args .arguments .controller) (omega arith)))
+returns c =
+    reached
+    (stop
+    (le-leb (controllerCount (c .before .before .before .before .args .image .now))
+    (c .before .before .before .before .args .arguments .controller) (omega arith)))
 
 row-of-requires : tie.Need-row-of-requires
 row-of-requires c κs = search needs
 
 returns-2 : tie.Need-returns-2
 unfolding argumentCauses addressOf
-returns-2 c = reached (skip (lt-leb (controllerCount (c .before .before .before .before .before .before .args .image .now)) (c .before .before .before .before .before .before .args .arguments .controller) (omega arith)) (stop (no-chip (c .before .before .before .before .before .before .args .arguments .chip) (omega arith))))
+returns-2 c =
+    reached
+    (skip
+    (lt-leb (controllerCount (c .before .before .before .before .before .before .args .image .now))
+    (c .before .before .before .before .before .before .args .arguments .controller) (omega arith))
+    (stop (no-chip (c .before .before .before .before .before .before .args .arguments .chip) (omega arith))))
 
 returns-3 : tie.Need-returns-3
 unfolding argumentCauses addressOf
-returns-3 c = reached (skip (lt-leb (controllerCount (c .before .before .before .before .before .before .before .before .args .image .now)) (c .before .before .before .before .before .before .before .before .args .arguments .controller) (omega arith)) (skip (a-chip (c .before .before .before .before .before .before .before .before .args .arguments .chip) (omega arith)) (stop (lt-ltb newestLevel (c .before .before .before .before .before .before .before .before .args .arguments .level) (omega arith)))))
+returns-3 c =
+    reached
+    (skip
+    (lt-leb (controllerCount (c .before .before .before .before .before .before .before .before .args .image .now))
+    (c .before .before .before .before .before .before .before .before .args .arguments .controller) (omega arith))
+    (skip (a-chip (c .before .before .before .before .before .before .before .before .args .arguments .chip) (omega arith))
+    (stop (lt-ltb newestLevel (c .before .before .before .before .before .before .before .before .args .arguments .level) (omega arith)))))
 
 base-address-requires : tie.Need-base-address-requires
 base-address-requires c κs = search needs
@@ -39,11 +54,41 @@ add-if4 c = search needs
 
 returns-4 : tie.Need-returns-4
 unfolding argumentCauses addressOf
-returns-4 c = reached (skip (lt-leb (controllerCount (c .before .before .before .before .before .before .before .before .before .before .before .args .image .now)) (c .before .before .before .before .before .before .before .before .before .before .before .args .arguments .controller) (omega arith)) (skip (a-chip (c .before .before .before .before .before .before .before .before .before .before .before .args .arguments .chip) (omega arith)) (skip (le-ltb newestLevel (c .before .before .before .before .before .before .before .before .before .before .before .args .arguments .level) (omega arith)) (stop (le-leb (2 ^ 48) (addressOf (c .before .before .before .before .before .before .before .before .before .before .before .args .image .now) (c .before .before .before .before .before .before .before .before .before .before .before .args .arguments .controller)) (omega arith))))))
+returns-4 c =
+    reached
+    (skip
+    (lt-leb (controllerCount (c .before .before .before .before .before .before .before .before .before .before .before .args .image .now))
+    (c .before .before .before .before .before .before .before .before .before .before .before .args .arguments .controller) (omega arith))
+    (skip
+    (a-chip (c .before .before .before .before .before .before .before .before .before .before .before .args .arguments .chip)
+    (omega arith))
+    (skip
+    (le-ltb newestLevel (c .before .before .before .before .before .before .before .before .before .before .before .args .arguments .level)
+    (omega arith))
+    (stop
+    (le-leb (2 ^ 48)
+    (addressOf (c .before .before .before .before .before .before .before .before .before .before .before .args .image .now)
+    (c .before .before .before .before .before .before .before .before .before .before .before .args .arguments .controller))
+    (omega arith))))))
 
 returns-5 : tie.Need-returns-5
 unfolding argumentCauses addressOf
-returns-5 c = reached (skip (lt-leb (controllerCount (c .before .before .before .before .before .before .before .before .before .before .before .args .image .now)) (c .before .before .before .before .before .before .before .before .before .before .before .args .arguments .controller) (omega arith)) (skip (a-chip (c .before .before .before .before .before .before .before .before .before .before .before .args .arguments .chip) (omega arith)) (skip (le-ltb newestLevel (c .before .before .before .before .before .before .before .before .before .before .before .args .arguments .level) (omega arith)) (skip (lt-leb (2 ^ 48) (addressOf (c .before .before .before .before .before .before .before .before .before .before .before .args .image .now) (c .before .before .before .before .before .before .before .before .before .before .before .args .arguments .controller)) (omega arith)) end))))
+returns-5 c =
+    reached
+    (skip
+    (lt-leb (controllerCount (c .before .before .before .before .before .before .before .before .before .before .before .args .image .now))
+    (c .before .before .before .before .before .before .before .before .before .before .before .args .arguments .controller) (omega arith))
+    (skip
+    (a-chip (c .before .before .before .before .before .before .before .before .before .before .before .args .arguments .chip)
+    (omega arith))
+    (skip
+    (le-ltb newestLevel (c .before .before .before .before .before .before .before .before .before .before .before .args .arguments .level)
+    (omega arith))
+    (skip
+    (lt-leb (2 ^ 48)
+    (addressOf (c .before .before .before .before .before .before .before .before .before .before .before .args .image .now)
+    (c .before .before .before .before .before .before .before .before .before .before .before .args .arguments .controller))
+    (omega arith)) end))))
 
 pub argument-refusal-spec : {M : Type 1} → statement M
 argument-refusal-spec =

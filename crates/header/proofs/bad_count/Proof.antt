@@ -22,7 +22,8 @@ byte-at-requires c κs = search needs
 
 returns-3 : tie.Need-returns-3
 returns-3 c = let image = c .before .before .before .before .before .before .args .image .now in
-    rw (c .byte-at .ensures, c .before .reserved-at .ensures .0) (count-fine image (λ z. c .before .before .before .if1 .left (omega arith)) (omega arith))
+    rw (c .byte-at .ensures, c .before .reserved-at .ensures .0)
+    (count-fine image (λ z. c .before .before .before .if1 .left (omega arith)) (omega arith))
 
 pub bad-count-spec : {M : Type 1} → statement M
 bad-count-spec =

@@ -15,7 +15,10 @@ id-crc-requires c κs = search needs
 
 returns : tie.Need-returns
 returns c = let e = c .before .before .before .before in
-    rw (c .before .before .byte-at .ensures, id-value (e .args .image .now) (e .pre) (c .before .id-crc .result) (c .before .id-crc .ensures))
+    rw (
+      c .before .before .byte-at .ensures,
+      id-value (e .args .image .now) (e .pre) (c .before .id-crc .result) (c .before .id-crc .ensures),
+    )
 
 pub bad-id-crc-spec : {M : Type 1} → statement M
 bad-id-crc-spec = tie.close (tie.spec byte-at-requires cast-result id-crc-requires returns)

@@ -12,7 +12,10 @@ srom-crc-requires c κs = search needs
 
 returns : tie.Need-returns
 returns c = let e = c .before .before .before .before in
-    rw (c .before .before .word-at .ensures, srom-value (e .args .image .now) (e .pre) (c .before .srom-crc .result) (c .before .srom-crc .ensures))
+    rw (
+      c .before .before .word-at .ensures,
+      srom-value (e .args .image .now) (e .pre) (c .before .srom-crc .result) (c .before .srom-crc .ensures),
+    )
 
 pub bad-srom-crc-spec : {M : Type 1} → statement M
 bad-srom-crc-spec = tie.close (tie.spec word-at-requires srom-crc-requires returns)

@@ -15,7 +15,11 @@ reserved-at-requires c κs = search needs
 
 returns : tie.Need-returns
 unfolding leafHeaderCauses
-returns c = reached (stop (too-early (c .before .before .before .args .leaf) (reservedAt (c .before .before .before .args .image .now)) (c .before .before .before .args .row) (omega arith)))
+returns c =
+    reached
+    (stop
+    (too-early (c .before .before .before .args .leaf) (reservedAt (c .before .before .before .args .image .now))
+    (c .before .before .before .args .row) (omega arith)))
 
 header-length-requires : tie.Need-header-length-requires
 header-length-requires c κs = search needs
@@ -25,7 +29,12 @@ add-if2 c = search needs
 
 returns-2 : tie.Need-returns-2
 unfolding leafHeaderCauses blocksAt
-returns-2 c = reached (stop (too-late (c .before .before .before .before .before .args .leaf) (reservedAt (c .before .before .before .before .before .args .image .now)) (c .before .before .before .before .before .args .row) (omega arith) (omega arith)))
+returns-2 c =
+    reached
+    (stop
+    (too-late (c .before .before .before .before .before .args .leaf)
+    (reservedAt (c .before .before .before .before .before .args .image .now)) (c .before .before .before .before .before .args .row)
+    (omega arith) (omega arith)))
 
 word-at-requires : tie.Need-word-at-requires
 word-at-requires c κs = search needs
@@ -35,11 +44,33 @@ is-connection-requires c κs = search needs
 
 returns-3 : tie.Need-returns-3
 unfolding leafHeaderCauses blocksAt
-returns-3 c = reached (skip (in-bounds (c .before .before .before .before .before .before .before .before .args .leaf) (reservedAt (c .before .before .before .before .before .before .before .before .args .image .now)) (c .before .before .before .before .before .before .before .before .args .row) (omega arith) (omega arith)) (stop (ap not (sym (c .before .is-connection .ensures ∙ ap (isConnection (c .before .before .before .before .before .before .before .before .args .row)) (c .before .before .word-at .ensures))) ∙ c .if3 .taken)))
+returns-3 c =
+    reached
+    (skip
+    (in-bounds (c .before .before .before .before .before .before .before .before .args .leaf)
+    (reservedAt (c .before .before .before .before .before .before .before .before .args .image .now))
+    (c .before .before .before .before .before .before .before .before .args .row) (omega arith) (omega arith))
+    (stop
+    (ap not
+    (sym
+    (c .before .is-connection .ensures
+    ∙ ap (isConnection (c .before .before .before .before .before .before .before .before .args .row))
+    (c .before .before .word-at .ensures))) ∙ c .if3 .taken)))
 
 returns-4 : tie.Need-returns-4
 unfolding leafHeaderCauses blocksAt
-returns-4 c = reached (skip (in-bounds (c .before .before .before .before .before .before .before .before .args .leaf) (reservedAt (c .before .before .before .before .before .before .before .before .args .image .now)) (c .before .before .before .before .before .before .before .before .args .row) (omega arith) (omega arith)) (skip (ap not (sym (c .before .is-connection .ensures ∙ ap (isConnection (c .before .before .before .before .before .before .before .before .args .row)) (c .before .before .word-at .ensures))) ∙ c .if3 .left) end))
+returns-4 c =
+    reached
+    (skip
+    (in-bounds (c .before .before .before .before .before .before .before .before .args .leaf)
+    (reservedAt (c .before .before .before .before .before .before .before .before .args .image .now))
+    (c .before .before .before .before .before .before .before .before .args .row) (omega arith) (omega arith))
+    (skip
+    (ap not
+    (sym
+    (c .before .is-connection .ensures
+    ∙ ap (isConnection (c .before .before .before .before .before .before .before .before .args .row))
+    (c .before .before .word-at .ensures))) ∙ c .if3 .left) end))
 
 pub leaf-refusal-spec : {M : Type 1} → statement M
 leaf-refusal-spec =

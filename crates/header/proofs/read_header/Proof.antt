@@ -27,7 +27,10 @@ refused-requires-2 c κs = search needs
 
 returns-2 : tie.Need-returns-2
 returns-2 c = let a = c .before .before .before .before .before .before .args in
-    c .refused2 .ensures ∙ by-arguments (a .image .now) (a .arguments) (sym (c .before .before .before .if1 .left) ∙ c .before .before .before .before .image-refusal .ensures) _ (c .before .if2 .taken) (c .before .before .argument-refusal .ensures)
+    c .refused2 .ensures
+    ∙ by-arguments (a .image .now) (a .arguments)
+    (sym (c .before .before .before .if1 .left) ∙ c .before .before .before .before .image-refusal .ensures) _ (c .before .if2 .taken)
+    (c .before .before .argument-refusal .ensures)
 
 row-of-requires : tie.Need-row-of-requires
 row-of-requires c κs = search needs
@@ -59,7 +62,15 @@ refused-requires-3 c κs = search needs
 returns-3 : tie.Need-returns-3
 unfolding leafAt
 returns-3 c = let a = c .before .before .before .before .before .before .before .before .before .before .before .args in
-    c .refused3 .ensures ∙ by-leaf (a .image .now) (a .arguments) (sym (c .before .before .before .before .before .before .before .before .if1 .left) ∙ c .before .before .before .before .before .before .before .before .before .image-refusal .ensures) (sym (c .before .before .before .before .before .before .if2 .left) ∙ c .before .before .before .before .before .before .before .argument-refusal .ensures) _ (c .before .if3 .taken) (c .before .before .leaf-refusal .ensures ∙ ap₂ (λ (r l : ℕ). firstMet (leafHeaderCauses (a .image .now) r l)) (c .before .before .before .before .before .row-of .ensures) (c .before .before .before .word-at .ensures))
+    c .refused3 .ensures
+    ∙ by-leaf (a .image .now) (a .arguments)
+    (sym (c .before .before .before .before .before .before .before .before .if1 .left)
+    ∙ c .before .before .before .before .before .before .before .before .before .image-refusal .ensures)
+    (sym (c .before .before .before .before .before .before .if2 .left)
+    ∙ c .before .before .before .before .before .before .before .argument-refusal .ensures) _ (c .before .if3 .taken)
+    (c .before .before .leaf-refusal .ensures
+    ∙ ap₂ (λ (r l : ℕ). firstMet (leafHeaderCauses (a .image .now) r l)) (c .before .before .before .before .before .row-of .ensures)
+    (c .before .before .before .word-at .ensures))
 
 header-at-requires : tie.Need-header-at-requires
 unfolding leafAt
@@ -68,7 +79,16 @@ header-at-requires c κs = (c .before .before .before .before .row-of .ensures, 
 returns-4 : tie.Need-returns-4
 unfolding leafAt
 returns-4 c = let a = c .before .before .before .before .before .before .before .before .before .before .before .args in
-    c .header-at .ensures ∙ header-found (a .image .now) (a .arguments) (sym (c .before .before .before .before .before .before .before .before .if1 .left) ∙ c .before .before .before .before .before .before .before .before .before .image-refusal .ensures) (sym (c .before .before .before .before .before .before .if2 .left) ∙ c .before .before .before .before .before .before .before .argument-refusal .ensures) (sym (c .before .if3 .left) ∙ (c .before .before .leaf-refusal .ensures ∙ ap₂ (λ (r l : ℕ). firstMet (leafHeaderCauses (a .image .now) r l)) (c .before .before .before .before .before .row-of .ensures) (c .before .before .before .word-at .ensures)))
+    c .header-at .ensures
+    ∙ header-found (a .image .now) (a .arguments)
+    (sym (c .before .before .before .before .before .before .before .before .if1 .left)
+    ∙ c .before .before .before .before .before .before .before .before .before .image-refusal .ensures)
+    (sym (c .before .before .before .before .before .before .if2 .left)
+    ∙ c .before .before .before .before .before .before .before .argument-refusal .ensures)
+    (sym (c .before .if3 .left)
+    ∙ (c .before .before .leaf-refusal .ensures
+    ∙ ap₂ (λ (r l : ℕ). firstMet (leafHeaderCauses (a .image .now) r l)) (c .before .before .before .before .before .row-of .ensures)
+    (c .before .before .before .word-at .ensures)))
 
 pub read-header-spec : {M : Type 1} → statement M
 read-header-spec =

@@ -1,14 +1,14 @@
--- Each entry inside both arrays is printed. Assumes nothing.
+-- Each entry inside both arrays is printed, with its block. Assumes nothing.
 use Prim.Native.Nat.{_-_}
 use borrow.Author.Needs.{needs}
 use Rattle.image_vectors.proofs.print_table.Statement.{statement}
 use Rattle.image_vectors.proofs.print_table.Tie as tie
 
 abbrev Inv-loop : tie.InvT-loop
-Inv-loop kinds offsets listed i₀ i = Unit
+Inv-loop image arguments kinds offsets listed i₀ i = Unit
 
 abbrev μ-loop : tie.MeasureT-loop
-μ-loop kinds offsets listed i₀ i = listed - i
+μ-loop image arguments kinds offsets listed i₀ i = listed - i
 
 loop-holds : tie.Need-loop-holds Inv-loop μ-loop
 loop-holds c = search needs
@@ -27,6 +27,9 @@ shared-slice-read-print-entry-2 c = search needs
 
 print-entry-requires : tie.Need-print-entry-requires Inv-loop μ-loop
 print-entry-requires c κs = search needs
+
+print-block-requires : tie.Need-print-block-requires Inv-loop μ-loop
+print-block-requires c κs = search needs
 
 add-i : tie.Need-add-i Inv-loop μ-loop
 add-i c = search needs
@@ -52,6 +55,7 @@ print-table-spec =
     mul-print-entry-2
     shared-slice-read-print-entry-2
     print-entry-requires
+    print-block-requires
     add-i
     loop-less
     loop-again

@@ -41,7 +41,13 @@ enum-told-3 : tie.Need-enum-told-3
 enum-told-3 c = search needs
 
 returns : tie.Need-returns
-returns c = rw (c .before .before .before .before .before .before .before .b .given .1, c .before .before .before .before .one-of .ensures .0, c .before .before .one-of2 .ensures .0, c .first-number .ensures)
+returns c =
+    rw (
+      c .before .before .before .before .before .before .before .b .given .1,
+      c .before .before .before .before .one-of .ensures .0,
+      c .before .before .one-of2 .ensures .0,
+      c .first-number .ensures,
+    )
 
 returns-2 : tie.Need-returns-2
 returns-2 c = rw (c .before .enum-told .given .1)

@@ -1,7 +1,7 @@
 -- Each return is one of the definition's three cases. Assumes nothing.
 use borrow.Author.Tests.{ne-eqb, eq-eqb}
 use Rattle.rom.specs.Bytes.{pick}
-use Rattle.leaf.specs.Tally.{firstNumber}
+use Rattle.leaf.specs.Inside.{firstNumber}
 use Rattle.leaf.proofs.first_number.Statement.{statement}
 use Rattle.leaf.proofs.first_number.Tie as tie
 

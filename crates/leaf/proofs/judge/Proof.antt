@@ -32,7 +32,8 @@ refused-tally-requires c κs = search needs
 returns : tie.Need-returns Inv-loop μ-loop
 returns c =
     let j = c .before .before .before in
-    judge-refused _ _ _ _ (j .before .before .loop .inv .0) (j .before .loop-test .taken) (j .judge-block .ensures) (c .before .before .number-of .ensures) (c .before .if1 .taken) (c .refused-tally .ensures)
+    judge-refused _ _ _ _ (j .before .before .loop .inv .0) (j .before .loop-test .taken) (j .judge-block .ensures)
+    (c .before .before .number-of .ensures) (c .before .if1 .taken) (c .refused-tally .ensures)
 
 counted-requires : tie.Need-counted-requires Inv-loop μ-loop
 counted-requires c κs = search needs
@@ -43,7 +44,8 @@ size-of-requires c κs = search needs
 sub-rest : tie.Need-sub-rest Inv-loop μ-loop
 sub-rest c =
     let j = c .before .before .before .before in
-    size-fits _ _ _ (j .judge-block .ensures) (c .before .before .before .number-of .ensures) (c .before .before .if1 .left) (c .size-of .ensures)
+    size-fits _ _ _ (j .judge-block .ensures) (c .before .before .before .number-of .ensures) (c .before .before .if1 .left)
+    (c .size-of .ensures)
 
 part-rest-start : tie.Need-part-rest-start Inv-loop μ-loop
 part-rest-start = sub-rest
@@ -60,7 +62,10 @@ loop-less c = search needs
 loop-again : tie.Need-loop-again Inv-loop μ-loop
 loop-again c =
     let j = c .before .before .before .before .before in (
-      judge-more _ _ _ _ (j .before .before .loop .inv .0) (j .before .loop-test .taken) (c .before .before .before .before .before .before .before .before .before .before .fits .count .fits) (j .judge-block .ensures) (c .before .before .before .before .number-of .ensures) (c .before .before .before .if1 .left) (c .before .before .counted .ensures) (c .before .size-of .ensures),
+      judge-more _ _ _ _ (j .before .before .loop .inv .0) (j .before .loop-test .taken)
+          (c .before .before .before .before .before .before .before .before .before .before .fits .count .fits) (j .judge-block .ensures)
+          (c .before .before .before .before .number-of .ensures) (c .before .before .before .if1 .left)
+          (c .before .before .counted .ensures) (c .before .size-of .ensures),
       search needs,
     )
 
@@ -71,10 +76,14 @@ refused-tally-requires-2 : tie.Need-refused-tally-requires-2 Inv-loop μ-loop
 refused-tally-requires-2 c κs = search needs
 
 returns-2 : tie.Need-returns-2 Inv-loop μ-loop
-returns-2 c = judge-18 _ _ _ _ (c .before .before .before .before .loop .inv .0) (c .before .before .before .loop-test .left) (c .before .before .clashes .ensures) (c .before .if2 .taken) (c .refused-tally2 .ensures)
+returns-2 c =
+    judge-18 _ _ _ _ (c .before .before .before .before .loop .inv .0) (c .before .before .before .loop-test .left)
+    (c .before .before .clashes .ensures) (c .before .if2 .taken) (c .refused-tally2 .ensures)
 
 returns-3 : tie.Need-returns-3 Inv-loop μ-loop
-returns-3 c = judge-done _ _ _ _ (c .before .before .before .loop .inv .0) (c .before .before .loop-test .left) (c .before .clashes .ensures) (c .if2 .left)
+returns-3 c =
+    judge-done _ _ _ _ (c .before .before .before .loop .inv .0) (c .before .before .loop-test .left) (c .before .clashes .ensures)
+    (c .if2 .left)
 
 pub judge-spec : {M : Type 1} → statement M
 judge-spec =

@@ -1,6 +1,6 @@
 -- The record is the definition's. Assumes nothing.
 use mathlib.Core.Path.{refl}
-use Rattle.leaf.specs.Tally.{startTally}
+use Rattle.leaf.specs.Inside.{startTally}
 use Rattle.leaf.proofs.start_tally.Statement.{statement}
 use Rattle.leaf.proofs.start_tally.Tie as tie
 

@@ -17,7 +17,8 @@ cast-if2 : tie.Need-cast-if2
 cast-if2 c = search needs
 
 returns-2 : tie.Need-returns-2
-returns-2 c = tidy-leaf _ _ (c .before .before .before .byte-at .ensures) (c .before .before .if1 .left) (c .before .word-at .ensures) (c .if2 .taken)
+returns-2 c =
+    tidy-leaf _ _ (c .before .before .before .byte-at .ensures) (c .before .before .if1 .left) (c .before .word-at .ensures) (c .if2 .taken)
 
 sub-all-zero : tie.Need-sub-all-zero
 sub-all-zero c = search needs
@@ -32,7 +33,9 @@ all-zero-requires : tie.Need-all-zero-requires
 all-zero-requires c κs = search needs
 
 returns-3 : tie.Need-returns-3
-returns-3 c = tidy-zeros _ _ (c .before .before .before .before .before .byte-at .ensures) (c .before .before .before .before .if1 .left) (c .before .before .before .word-at .ensures) (c .before .before .if2 .left) (c .all-zero .ensures)
+returns-3 c =
+    tidy-zeros _ _ (c .before .before .before .before .before .byte-at .ensures) (c .before .before .before .before .if1 .left)
+    (c .before .before .before .word-at .ensures) (c .before .before .if2 .left) (c .all-zero .ensures)
 
 pub is-tidy-spec : {M : Type 1} → statement M
 is-tidy-spec =

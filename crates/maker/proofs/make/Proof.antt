@@ -4,7 +4,8 @@ use mathlib.Core.Path.{refl}
 use borrow.Author.Tests.{not-true, not-false}
 use Rattle.reader.proofs.Readings.{reading-start, reading-end}
 use Rattle.sheet.specs.Image.{newest}
-use Rattle.maker.proofs.Making.{refused-done, make-refused, is-read, blocks-read, end-fits, make-untidy, make-short, make-room, make-done}
+use Rattle.maker.proofs.Making.{refused-done, make-refused, is-read, blocks-read, end-fits, make-untidy, make-short, make-room}
+use Rattle.maker.proofs.Making.{make-done}
 use borrow.Author.Needs.{needs}
 use Rattle.maker.proofs.make.Statement.{statement}
 use Rattle.maker.proofs.make.Tie as tie
@@ -17,7 +18,9 @@ refused-requires c κs = search needs
 
 returns : tie.Need-returns
 unfolding newest
-returns c = refused-done _ _ _ (c .refused .ensures) (c .before .if1 .taken) (make-refused _ _ _ (c .before .before .before .before .assess .ensures) _ (c .before .if1 .taken))
+returns c =
+    refused-done _ _ _ (c .refused .ensures) (c .before .if1 .taken)
+    (make-refused _ _ _ (c .before .before .before .before .assess .ensures) _ (c .before .if1 .taken))
 
 sub-measure : tie.Need-sub-measure
 unfolding newest
@@ -40,7 +43,9 @@ add-is-tidy c = search needs
 
 is-tidy-requires : tie.Need-is-tidy-requires
 unfolding newest
-is-tidy-requires c κs = end-fits _ _ _ (c .before .before .before .before .before .before .assess .ensures) (c .before .before .before .if1 .left) _ (c .before .measure .ensures .0) (c .before .measure .ensures .1 .0)
+is-tidy-requires c κs =
+    end-fits _ _ _ (c .before .before .before .before .before .before .assess .ensures) (c .before .before .before .if1 .left) _
+    (c .before .measure .ensures .0) (c .before .measure .ensures .1 .0)
 
 refused-requires-2 : tie.Need-refused-requires-2
 refused-requires-2 c κs = search needs
@@ -49,7 +54,9 @@ returns-2 : tie.Need-returns-2
 unfolding newest
 returns-2 c = let r = c .before .before .before .before .before .before .before .before .before .assess in
     let m = c .before .before .before .before .measure in
-    refused-done _ _ _ (c .refused2 .ensures) (λ e. omega arith) (make-untidy _ _ _ (r .ensures) (c .before .before .before .before .before .before .if1 .left) _ (m .ensures .0) _ (c .before .before .is-tidy .ensures) (not-true _ (c .before .if2 .taken)))
+    refused-done _ _ _ (c .refused2 .ensures) (λ e. omega arith)
+    (make-untidy _ _ _ (r .ensures) (c .before .before .before .before .before .before .if1 .left) _ (m .ensures .0) _
+    (c .before .before .is-tidy .ensures) (not-true _ (c .before .if2 .taken)))
 
 cast-length : tie.Need-cast-length
 cast-length c = search needs
@@ -70,25 +77,35 @@ returns-3 : tie.Need-returns-3
 unfolding newest
 returns-3 c = let r = c .before .before .before .before .before .before .before .before .before .before .before .before .assess in
     let m = c .before .before .before .before .before .before .before .measure in
-    refused-done _ _ _ (c .refused3 .ensures) (λ e. omega arith) (make-short _ _ _ (r .ensures) (c .before .before .before .before .before .before .before .before .before .if1 .left) _ (m .ensures .0) _ (c .before .before .before .before .before .is-tidy .ensures) (not-false _ (c .before .before .before .before .if2 .left)) (c .before .if3 .taken))
+    refused-done _ _ _ (c .refused3 .ensures) (λ e. omega arith)
+    (make-short _ _ _ (r .ensures) (c .before .before .before .before .before .before .before .before .before .if1 .left) _
+    (m .ensures .0) _ (c .before .before .before .before .before .is-tidy .ensures)
+    (not-false _ (c .before .before .before .before .if2 .left)) (c .before .if3 .taken))
 
 cast-put-sheet : tie.Need-cast-put-sheet
 cast-put-sheet c = search needs
 
 put-sheet-requires : tie.Need-put-sheet-requires
 unfolding newest
-put-sheet-requires c κs = let r = c .before .before .before .before .before .before .before .before .before .before .before .before .before .assess in
+put-sheet-requires c κs =
+    let r = c .before .before .before .before .before .before .before .before .before .before .before .before .before .assess in
     let m = c .before .before .before .before .before .before .before .before .measure in
-    make-room _ _ _ (r .ensures) (c .before .before .before .before .before .before .before .before .before .before .if1 .left) _ (m .ensures .0) _ (c .before .before .before .before .before .before .is-tidy .ensures) (not-false _ (c .before .before .before .before .before .if2 .left)) (c .before .before .if3 .left) _ refl
+    make-room _ _ _ (r .ensures) (c .before .before .before .before .before .before .before .before .before .before .if1 .left) _
+    (m .ensures .0) _ (c .before .before .before .before .before .before .is-tidy .ensures)
+    (not-false _ (c .before .before .before .before .before .if2 .left)) (c .before .before .if3 .left) _ refl
 
 same-length : tie.Need-same-length
 same-length c = search needs
 
 returns-4 : tie.Need-returns-4
 unfolding newest
-returns-4 c = let r = c .before .before .before .before .before .before .before .before .before .before .before .before .before .before .before .before .assess in
-    let m = c .before .before .before .before .before .before .before .before .before .before .before .measure in
-    make-done _ _ _ (r .ensures) (c .before .before .before .before .before .before .before .before .before .before .before .before .before .if1 .left) _ (m .ensures .0) _ (c .before .before .before .before .before .before .before .before .before .is-tidy .ensures) (not-false _ (c .before .before .before .before .before .before .before .before .if2 .left)) (c .before .before .before .before .before .if3 .left) _ refl (c .before .before .put-sheet .ensures)
+returns-4 c =
+    let long = c .before .before .before .before .before in
+    let tidy = long .before .before .before in
+    let measured = tidy .before .before .before in
+    let accepted = measured .before .before in
+    make-done _ _ _ (accepted .before .before .before .assess .ensures) (accepted .if1 .left) _ (measured .measure .ensures .0) _
+    (tidy .before .is-tidy .ensures) (not-false _ (tidy .if2 .left)) (long .if3 .left) _ refl (c .before .before .put-sheet .ensures)
 
 pub make-spec : {M : Type 1} → statement M
 make-spec =

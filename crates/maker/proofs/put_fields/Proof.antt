@@ -29,7 +29,14 @@ same-length : tie.Need-same-length
 same-length c = search needs
 
 returns : tie.Need-returns
-returns c = field-put _ (c .before .before .before .before .before .before .before .before .before .before .before .before .before .before .before .before .before .before .before .pre .0) _ (c .before .before .before .before .before .before .before .before .before .before .before .before .before .before .before .before .before .before .before .pre .1) _ _ (c .before .before .before .before .before .before .before .before .before .before .before .before .before .before .before .put-word .ensures) (c .before .before .before .before .before .before .before .before .before .before .before .put-word2 .ensures) (c .before .before .before .before .before .before .before .put-byte .ensures) (c .before .before .put-bytes .ensures)
+returns c =
+    let maker = c .before .before in
+    let control = maker .before .before .before .before .before in
+    let connection = control .before .before .before .before in
+    let chip = connection .before .before .before .before in
+    let start = chip .before .before .before .before in
+    field-put _ (start .pre .0) _ (start .pre .1) _ _ (chip .put-word .ensures) (connection .put-word2 .ensures)
+    (control .put-byte .ensures) (maker .put-bytes .ensures)
 
 pub put-fields-spec : {M : Type 1} → statement M
 put-fields-spec =

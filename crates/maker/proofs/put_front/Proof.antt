@@ -1,14 +1,14 @@
--- Five puts, one behind the other. Assumes nothing.
+-- Four puts, one behind the other. Assumes nothing.
 use Rattle.maker.proofs.Sheets.{front-put}
 use borrow.Author.Needs.{needs}
 use Rattle.maker.proofs.put_front.Statement.{statement}
 use Rattle.maker.proofs.put_front.Tie as tie
 
-put-byte-requires : tie.Need-put-byte-requires
-put-byte-requires c κs = search needs
+slice-aggregate-put-bytes : tie.Need-slice-aggregate-put-bytes
+slice-aggregate-put-bytes c = search needs
 
-put-byte-requires-2 : tie.Need-put-byte-requires-2
-put-byte-requires-2 c κs = search needs
+put-bytes-requires : tie.Need-put-bytes-requires
+put-bytes-requires c κs = search needs
 
 sub-put-bytes : tie.Need-sub-put-bytes
 sub-put-bytes c = search needs
@@ -19,8 +19,8 @@ part-put-bytes-start c = search needs
 part-put-bytes-end : tie.Need-part-put-bytes-end
 part-put-bytes-end c = search needs
 
-put-bytes-requires : tie.Need-put-bytes-requires
-put-bytes-requires c κs = search needs
+put-bytes-requires-2 : tie.Need-put-bytes-requires-2
+put-bytes-requires-2 c κs = search needs
 
 sub-put-bytes-2 : tie.Need-sub-put-bytes-2
 sub-put-bytes-2 c = search needs
@@ -31,8 +31,8 @@ part-put-bytes-start-2 c = search needs
 part-put-bytes-end-2 : tie.Need-part-put-bytes-end-2
 part-put-bytes-end-2 c = search needs
 
-put-bytes-requires-2 : tie.Need-put-bytes-requires-2
-put-bytes-requires-2 c κs = search needs
+put-bytes-requires-3 : tie.Need-put-bytes-requires-3
+put-bytes-requires-3 c κs = search needs
 
 sub-put-bytes-3 : tie.Need-sub-put-bytes-3
 sub-put-bytes-3 c = search needs
@@ -43,32 +43,39 @@ part-put-bytes-start-3 c = search needs
 part-put-bytes-end-3 : tie.Need-part-put-bytes-end-3
 part-put-bytes-end-3 c = search needs
 
-put-bytes-requires-3 : tie.Need-put-bytes-requires-3
-put-bytes-requires-3 c κs = search needs
+put-bytes-requires-4 : tie.Need-put-bytes-requires-4
+put-bytes-requires-4 c κs = search needs
 
 same-length : tie.Need-same-length
 same-length c = search needs
 
 returns : tie.Need-returns
-returns c = front-put _ (c .before .before .before .before .before .before .before .before .before .before .before .before .before .before .before .before .before .before .before .before .before .before .before .before .before .pre .0) _ (c .before .before .before .before .before .before .before .before .before .before .before .before .before .before .before .before .before .before .before .before .before .before .before .before .before .pre .1) _ _ (c .before .before .before .before .before .before .before .before .before .before .before .before .before .before .before .before .before .before .before .before .before .put-byte .ensures) (c .before .before .before .before .before .before .before .before .before .before .before .before .before .before .before .before .before .put-byte2 .ensures) (c .before .before .before .before .before .before .before .before .before .before .before .before .put-bytes .ensures) (c .before .before .before .before .before .before .before .put-bytes2 .ensures) (c .before .before .put-bytes3 .ensures)
+returns c =
+    let address = c .before .before in
+    let last = address .before .before .before .before .before in
+    let id = last .before .before .before .before .before in
+    let counts = id .before .before .before .before .before in
+    let start = counts .before .before .before .before .before in
+    front-put _ (start .pre .0) _ (start .pre .1) _ _ (counts .put-bytes .ensures) (id .put-bytes2 .ensures) (last .put-bytes3 .ensures)
+    (address .put-bytes4 .ensures)
 
 pub put-front-spec : {M : Type 1} → statement M
 put-front-spec =
     tie.close
     (tie.spec
-    put-byte-requires
-    put-byte-requires-2
+    slice-aggregate-put-bytes
+    put-bytes-requires
     sub-put-bytes
     part-put-bytes-start
     part-put-bytes-end
-    put-bytes-requires
+    put-bytes-requires-2
     sub-put-bytes-2
     part-put-bytes-start-2
     part-put-bytes-end-2
-    put-bytes-requires-2
+    put-bytes-requires-3
     sub-put-bytes-3
     part-put-bytes-start-3
     part-put-bytes-end-3
-    put-bytes-requires-3
+    put-bytes-requires-4
     same-length
     returns)

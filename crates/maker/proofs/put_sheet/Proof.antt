@@ -9,25 +9,36 @@ put-front-requires : tie.Need-put-front-requires
 put-front-requires c κs = head-room (c .before .before .before .before .pre)
 
 put-fields-requires : tie.Need-put-fields-requires
-put-fields-requires c κs = fields-room (c .before .before .before .before .before .before .before .before .pre) (c .before .before .before .put-front .ensures)
+put-fields-requires c κs =
+    fields-room (c .before .before .before .before .before .before .before .before .pre) (c .before .before .before .put-front .ensures)
 
 sub-put-parts : tie.Need-sub-put-parts
-sub-put-parts c = reading-start (its-reading (c .before .before .before .before .before .before .before .before .before .before .before .before .pre))
+sub-put-parts c =
+    reading-start (its-reading (c .before .before .before .before .before .before .before .before .before .before .before .before .pre))
 
 part-put-parts-start : tie.Need-part-put-parts-start
 part-put-parts-start c = sub-put-parts c
 
 part-put-parts-end : tie.Need-part-put-parts-end
-part-put-parts-end c = reading-end (its-reading (c .before .before .before .before .before .before .before .before .before .before .before .before .pre))
+part-put-parts-end c =
+    reading-end (its-reading (c .before .before .before .before .before .before .before .before .before .before .before .before .pre))
 
 put-parts-requires : tie.Need-put-parts-requires
-put-parts-requires c κs = parts-room (c .before .before .before .before .before .before .before .before .before .before .before .before .before .pre) (c .before .before .before .before .before .before .before .before .put-front .ensures) (c .before .before .before .before .put-fields .ensures)
+put-parts-requires c κs =
+    parts-room (c .before .before .before .before .before .before .before .before .before .before .before .before .before .pre)
+    (c .before .before .before .before .before .before .before .before .put-front .ensures)
+    (c .before .before .before .before .put-fields .ensures)
 
 same-length : tie.Need-same-length
 same-length c = search needs
 
 returns : tie.Need-returns
-returns c = sheet-put (c .before .before .before .before .before .before .before .before .before .before .before .before .before .before .before .before .pre) (c .before .before .before .before .before .before .before .before .before .before .before .put-front .ensures) (c .before .before .before .before .before .before .before .put-fields .ensures) (c .before .before .put-parts .ensures)
+returns c =
+    let parts = c .before .before in
+    let fields = parts .before .before .before .before .before in
+    let front = fields .before .before .before .before in
+    let start = front .before .before .before .before .before in
+    sheet-put (start .pre) (front .put-front .ensures) (fields .put-fields .ensures) (parts .put-parts .ensures)
 
 pub put-sheet-spec : {M : Type 1} → statement M
 put-sheet-spec =

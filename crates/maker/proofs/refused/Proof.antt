@@ -1,6 +1,6 @@
 -- By its definition. Assumes nothing.
 use mathlib.Core.Path.{refl}
-use Rattle.maker.specs.Answer.{refusedMade}
+use Rattle.maker.specs.Inside.{refusedMade}
 use Rattle.maker.proofs.refused.Statement.{statement}
 use Rattle.maker.proofs.refused.Tie as tie
 

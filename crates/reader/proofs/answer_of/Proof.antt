@@ -1,6 +1,6 @@
 -- Field by field. Assumes nothing.
 use mathlib.Core.Path.{refl}
-use Rattle.reader.specs.Reading.{answerFrom}
+use Rattle.reader.specs.Inside.{answerFrom}
 use Rattle.reader.proofs.answer_of.Statement.{statement}
 use Rattle.reader.proofs.answer_of.Tie as tie
 

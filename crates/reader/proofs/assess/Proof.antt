@@ -15,7 +15,8 @@ returns : tie.Need-returns
 unfolding blockCount
 returns c = let known = c .before in
     let a = known .before .args in
-    c .assess-for .ensures ∙ no-array (a .image .now) (a .arguments) (known .shared-slice-known .given (startFor (a .image .now) (a .arguments) - 1) .fits)
+    c .assess-for .ensures
+    ∙ no-array (a .image .now) (a .arguments) (known .shared-slice-known .given (startFor (a .image .now) (a .arguments) - 1) .fits)
 
 pub assess-spec : {M : Type 1} → statement M
 assess-spec = tie.close (tie.spec assess-for-requires returns)

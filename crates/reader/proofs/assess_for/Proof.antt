@@ -15,7 +15,8 @@ refused-requires c κs = search needs
 returns : tie.Need-returns
 returns c = let a = c .before .before .before .before .args in
     let h = c .before .before .read-header in
-    c .refused .ensures ∙ assess-header (a .image .now) (a .arguments) (a .kinds) (a .offsets) (h .result) (h .ensures) (c .before .if1 .taken)
+    c .refused .ensures
+    ∙ assess-header (a .image .now) (a .arguments) (a .kinds) (a .offsets) (h .result) (h .ensures) (c .before .if1 .taken)
 
 cast-if2 : tie.Need-cast-if2
 cast-if2 c = search needs
@@ -26,7 +27,9 @@ refused-requires-2 c κs = search needs
 returns-2 : tie.Need-returns-2
 returns-2 c = let a = c .before .before .before .before .before .args in
     let h = c .before .before .before .read-header in
-    c .refused2 .ensures ∙ assess-kinds (a .image .now) (a .arguments) (a .kinds) (a .offsets) (h .result) (h .ensures) (c .before .before .if1 .left) (c .before .if2 .taken)
+    c .refused2 .ensures
+    ∙ assess-kinds (a .image .now) (a .arguments) (a .kinds) (a .offsets) (h .result) (h .ensures) (c .before .before .if1 .left)
+    (c .before .if2 .taken)
 
 cast-if3 : tie.Need-cast-if3
 cast-if3 c = search needs
@@ -37,7 +40,9 @@ refused-requires-3 c κs = search needs
 returns-3 : tie.Need-returns-3
 returns-3 c = let a = c .before .before .before .before .before .before .args in
     let h = c .before .before .before .before .read-header in
-    c .refused3 .ensures ∙ assess-offsets (a .image .now) (a .arguments) (a .kinds) (a .offsets) (h .result) (h .ensures) (c .before .before .before .if1 .left) (c .before .before .if2 .left) (c .before .if3 .taken)
+    c .refused3 .ensures
+    ∙ assess-offsets (a .image .now) (a .arguments) (a .kinds) (a .offsets) (h .result) (h .ensures)
+    (c .before .before .before .if1 .left) (c .before .before .if2 .left) (c .before .if3 .taken)
 
 sub-judge : tie.Need-sub-judge
 sub-judge c = let a = c .before .before .before .before .before .args in
@@ -63,7 +68,11 @@ refused-requires-4 c κs = search needs
 returns-4 : tie.Need-returns-4
 returns-4 c = let a = c .before .before .before .before .before .before .before .before .before .args in
     let h = c .before .before .before .before .before .before .before .read-header in
-    c .refused4 .ensures ∙ assess-leaf (a .image .now) (a .arguments) (a .kinds) (a .offsets) (h .result) (h .ensures) (c .before .before .before .before .before .before .if1 .left) (c .before .before .before .before .before .if2 .left) (c .before .before .before .before .if3 .left) (c .before .before .judge .result) (c .before .before .judge .ensures) (c .before .if4 .taken)
+    c .refused4 .ensures
+    ∙ assess-leaf (a .image .now) (a .arguments) (a .kinds) (a .offsets) (h .result) (h .ensures)
+    (c .before .before .before .before .before .before .if1 .left) (c .before .before .before .before .before .if2 .left)
+    (c .before .before .before .before .if3 .left) (c .before .before .judge .result) (c .before .before .judge .ensures)
+    (c .before .if4 .taken)
 
 answer-of-requires : tie.Need-answer-of-requires
 answer-of-requires c κs = search needs
@@ -71,7 +80,10 @@ answer-of-requires c κs = search needs
 returns-5 : tie.Need-returns-5
 returns-5 c = let a = c .before .before .before .before .before .before .before .before .before .args in
     let h = c .before .before .before .before .before .before .before .read-header in
-    assess-done (a .image .now) (a .arguments) (a .kinds) (a .offsets) (h .result) (h .ensures) (c .before .before .before .before .before .before .if1 .left) (c .before .before .before .before .before .if2 .left) (c .before .before .before .before .if3 .left) (c .before .before .judge .result) (c .before .before .judge .ensures) (c .before .if4 .left) (c .answer-of .result) (c .answer-of .ensures)
+    assess-done (a .image .now) (a .arguments) (a .kinds) (a .offsets) (h .result) (h .ensures)
+    (c .before .before .before .before .before .before .if1 .left) (c .before .before .before .before .before .if2 .left)
+    (c .before .before .before .before .if3 .left) (c .before .before .judge .result) (c .before .before .judge .ensures)
+    (c .before .if4 .left) (c .answer-of .result) (c .answer-of .ensures)
 
 pub assess-for-spec : {M : Type 1} → statement M
 assess-for-spec =

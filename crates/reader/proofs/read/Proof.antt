@@ -5,7 +5,8 @@ use denote.Ref.{now}
 use Rattle.header.specs.Header.{rowFor}
 use Rattle.leaf.specs.Leaf.{kindAt, startAt}
 use Rattle.reader.specs.Reading.{readKinds, readOffsets}
-use Rattle.reader.proofs.Readings.{answer-read, unchanged, accepted-read, reading-start, reading-end, reading-blocks, reading-listed, reading-short, room-kinds, room-offsets, filled-in}
+use Rattle.reader.proofs.Readings.{answer-read, unchanged, accepted-read, reading-start, reading-end, reading-blocks, reading-listed}
+use Rattle.reader.proofs.Readings.{reading-short, room-kinds, room-offsets, filled-in}
 use mathlib.Core.Path.{_∙_}
 use borrow.Author.Needs.{needs}
 use Rattle.reader.proofs.read.Statement.{statement}
@@ -17,23 +18,36 @@ assess-for-requires c κs = search needs
 returns : tie.Need-returns
 unfolding readKinds readOffsets
 returns c = let a = c .before .before .before .before .before .before .before .args in
-    let r = c .before .before .before .assess-for in
-    (answer-read (a .image .now) (a .arguments) (length (a .kinds .now)) (length (a .offsets .now)) (r .result) (r .ensures), (unchanged (a .image .now) (a .arguments) (length (a .kinds .now)) (length (a .offsets .now)) (r .result) (r .ensures) (kindAt (rowFor (a .arguments))) (a .kinds .now) (c .if1 .taken), unchanged (a .image .now) (a .arguments) (length (a .kinds .now)) (length (a .offsets .now)) (r .result) (r .ensures) startAt (a .offsets .now) (c .if1 .taken)))
+    let r = c .before .before .before .assess-for in (
+      answer-read (a .image .now) (a .arguments) (length (a .kinds .now)) (length (a .offsets .now)) (r .result) (r .ensures),
+      (
+        unchanged (a .image .now) (a .arguments) (length (a .kinds .now)) (length (a .offsets .now)) (r .result) (r .ensures)
+            (kindAt (rowFor (a .arguments))) (a .kinds .now) (c .if1 .taken),
+        unchanged (a .image .now) (a .arguments) (length (a .kinds .now)) (length (a .offsets .now)) (r .result) (r .ensures) startAt
+            (a .offsets .now) (c .if1 .taken),
+      ),
+    )
 
 sub-fill : tie.Need-sub-fill
 sub-fill c = let a = c .before .before .before .before .before .before .before .args in
     let r = c .before .before .before .assess-for in
-    reading-start (accepted-read (a .image .now) (a .arguments) (length (a .kinds .now)) (length (a .offsets .now)) (r .result) (r .ensures) (c .if1 .left))
+    reading-start
+    (accepted-read (a .image .now) (a .arguments) (length (a .kinds .now)) (length (a .offsets .now)) (r .result) (r .ensures)
+    (c .if1 .left))
 
 part-fill-start : tie.Need-part-fill-start
 part-fill-start c = let a = c .before .before .before .before .before .before .before .args in
     let r = c .before .before .before .assess-for in
-    reading-start (accepted-read (a .image .now) (a .arguments) (length (a .kinds .now)) (length (a .offsets .now)) (r .result) (r .ensures) (c .if1 .left))
+    reading-start
+    (accepted-read (a .image .now) (a .arguments) (length (a .kinds .now)) (length (a .offsets .now)) (r .result) (r .ensures)
+    (c .if1 .left))
 
 part-fill-end : tie.Need-part-fill-end
 part-fill-end c = let a = c .before .before .before .before .before .before .before .args in
     let r = c .before .before .before .assess-for in
-    reading-end (accepted-read (a .image .now) (a .arguments) (length (a .kinds .now)) (length (a .offsets .now)) (r .result) (r .ensures) (c .if1 .left))
+    reading-end
+    (accepted-read (a .image .now) (a .arguments) (length (a .kinds .now)) (length (a .offsets .now)) (r .result) (r .ensures)
+    (c .if1 .left))
 
 cast-fill : tie.Need-cast-fill
 cast-fill c = search needs
@@ -42,8 +56,17 @@ fill-requires : tie.Need-fill-requires
 fill-requires c κs = let a = c .before .before .before .before .before .before .before .before .before .before .before .args in
     let r = c .before .before .before .before .before .before .before .assess-for in
     let z = c .before .before .before .before .if1 .left in
-    let k = accepted-read (a .image .now) (a .arguments) (length (a .kinds .now)) (length (a .offsets .now)) (r .result) (r .ensures) z in
-    (reading-blocks k, (reading-listed k, (room-kinds (a .image .now) (a .arguments) (length (a .kinds .now)) (length (a .offsets .now)) (r .result) (r .ensures) z, room-offsets (a .image .now) (a .arguments) (length (a .kinds .now)) (length (a .offsets .now)) (r .result) (r .ensures) z, reading-short k)))
+    let k = accepted-read (a .image .now) (a .arguments) (length (a .kinds .now)) (length (a .offsets .now)) (r .result) (r .ensures) z in (
+      reading-blocks k,
+      (
+        reading-listed k,
+        (
+          room-kinds (a .image .now) (a .arguments) (length (a .kinds .now)) (length (a .offsets .now)) (r .result) (r .ensures) z,
+          room-offsets (a .image .now) (a .arguments) (length (a .kinds .now)) (length (a .offsets .now)) (r .result) (r .ensures) z,
+          reading-short k,
+        ),
+      ),
+    )
 
 same-length : tie.Need-same-length
 same-length c = search needs
@@ -53,14 +76,22 @@ same-length-2 c = search needs
 
 returns-2 : tie.Need-returns-2
 unfolding readKinds readOffsets
-returns-2 c = let a = c .before .before .before .before .before .before .before .before .before .before .before .before .before .before .before .before .args in
-    let r = c .before .before .before .before .before .before .before .before .before .before .before .before .assess-for in
-    let z = c .before .before .before .before .before .before .before .before .before .if1 .left in
-    let e = c .before .before .before .before .fill .ensures in (
+returns-2 c =
+    let filled = c .before .before .before .before in
+    let tested = filled .before .before .before .before .before in
+    let read = tested .before .before .before in
+    let a = read .before .before .before .before .args in
+    let r = read .assess-for in
+    let z = tested .if1 .left in
+    let e = filled .fill .ensures in (
       answer-read (a .image .now) (a .arguments) (length (a .kinds .now)) (length (a .offsets .now)) (r .result) (r .ensures),
       (
-        e .0 ∙ filled-in (a .image .now) (a .arguments) (length (a .kinds .now)) (length (a .offsets .now)) (r .result) (r .ensures) z kindAt (a .kinds .now),
-        e .1 ∙ filled-in (a .image .now) (a .arguments) (length (a .kinds .now)) (length (a .offsets .now)) (r .result) (r .ensures) z (λ (row : ℕ). startAt) (a .offsets .now),
+        e .0
+            ∙ filled-in (a .image .now) (a .arguments) (length (a .kinds .now)) (length (a .offsets .now)) (r .result) (r .ensures) z kindAt
+            (a .kinds .now),
+        e .1
+            ∙ filled-in (a .image .now) (a .arguments) (length (a .kinds .now)) (length (a .offsets .now)) (r .result) (r .ensures) z
+            (λ (row : ℕ). startAt) (a .offsets .now),
       ),
     )
 

@@ -27,7 +27,7 @@ part-result-end c = let a = c .before .before .before .args in
 returns : tie.Need-returns
 returns c = let a = c .before .before .before .before .args in
     let p = c .before .before .view-part in
-    part-bytes (a .image .now) (a .arguments) (a .entry) (p .result) (p .ensures)
+    (part-bytes (a .image .now) (a .arguments) (a .entry) (p .result) (p .ensures), rw (p .ensures))
 
 pub view-spec : {M : Type 1} → statement M
 view-spec =

@@ -1,7 +1,8 @@
 -- The entry is found in the accepted leaf. Assumes nothing.
 use Prim.Native.Nat.{_-_}
 use mathlib.Core.Path.{_∙_}
-use Rattle.reader.proofs.Readings.{accepted-judged, reading-start, reading-end, reading-blocks, reading-listed, reading-short, no-part, a-part}
+use Rattle.reader.proofs.Readings.{accepted-judged, reading-start, reading-end, reading-blocks, reading-listed, reading-short}
+use Rattle.reader.proofs.Readings.{no-part, a-part}
 use borrow.Author.Needs.{needs}
 use Rattle.reader.proofs.view_part.Statement.{statement}
 use Rattle.reader.proofs.view_part.Tie as tie

@@ -9,16 +9,16 @@ use Rattle.sheet_vectors.proofs.print_front.Tie as tie
 returns : tie.Need-returns
 returns c = search needs
 
-slice-aggregate-print-bytes : tie.Need-slice-aggregate-print-bytes
-slice-aggregate-print-bytes c =
+slice-aggregate-print-line : tie.Need-slice-aggregate-print-line
+slice-aggregate-print-line c =
     let s = c .before .before .before in sym (length-take-le (s .args .length) (s .args .bytes .now) (omega arith))
 
-print-bytes-requires : tie.Need-print-bytes-requires
-print-bytes-requires c κs = search needs
+print-line-requires : tie.Need-print-line-requires
+print-line-requires c κs = search needs
 
 returns-2 : tie.Need-returns-2
 returns-2 c = search needs
 
 pub print-front-spec : {M : Type 1} → statement M
 print-front-spec =
-    tie.close (tie.spec returns slice-aggregate-print-bytes print-bytes-requires returns-2)
+    tie.close (tie.spec returns slice-aggregate-print-line print-line-requires returns-2)

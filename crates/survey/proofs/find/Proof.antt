@@ -6,7 +6,7 @@ use native.Mathlib.Nat.{sub-zero}
 use mathlib.Core.Path.{_≡_, refl}
 use denote.Ref.{now}
 use Rattle.block.proofs.Whole.{size-small}
-use Rattle.survey.specs.Survey.{placeFrom}
+use Rattle.survey.specs.Inside.{placeFrom}
 use Rattle.survey.proofs.Stepping.{find-more, find-done}
 use Rattle.survey.proofs.find.Statement.{statement}
 use Rattle.survey.proofs.find.Tie as tie

@@ -61,7 +61,8 @@ loop-again c =
     let t = j .before in
     let n = i .before .number-of in
     let z = c .before .size-of in (
-      refused-later _ _ _ _ (t .before .loop .inv .0) (t .loop-test .taken) (j .judge-block .ensures) (n .ensures) (i .if1 .left) (z .ensures),
+      refused-later _ _ _ _ (t .before .loop .inv .0) (t .loop-test .taken) (j .judge-block .ensures) (n .ensures) (i .if1 .left)
+          (z .ensures),
       search needs,
     )
 

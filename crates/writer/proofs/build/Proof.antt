@@ -32,7 +32,8 @@ returns : tie.Need-returns
 returns c =
     let start = c .before .before .before .before .before .before .before in
     let past = c .before .before .before .before in
-    built-is (start .args .sheet .now) (start .pre) _ _ _ _ (past .before .frame .ensures) (past .identify .ensures) (c .before .before .put-leaf .ensures) (c .seal .ensures)
+    built-is (start .args .sheet .now) (start .pre) _ _ _ _ (past .before .frame .ensures) (past .identify .ensures)
+    (c .before .before .put-leaf .ensures) (c .seal .ensures)
 
 pub build-spec : {M : Type 1} → statement M
 build-spec =

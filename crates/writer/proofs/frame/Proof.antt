@@ -1,6 +1,4 @@
 -- The parts of the sheet stand where the image has them. Assumes nothing.
-use native.Mathlib.Omega.{arith}
-use lib.ListN.{length-set, length-take}
 use Rattle.writer.proofs.Images.{frame-is}
 use borrow.Author.Needs.{needs}
 use Rattle.writer.proofs.frame.Statement.{statement}
@@ -55,7 +53,7 @@ part-put-bytes-end-3 : tie.Need-part-put-bytes-end-3
 part-put-bytes-end-3 c = search needs
 
 put-bytes-requires-3 : tie.Need-put-bytes-requires-3
-put-bytes-requires-3 c κs = simp (length-set, length-take) (omega arith)
+put-bytes-requires-3 c κs = search needs
 
 slice-aggregate-put-word : tie.Need-slice-aggregate-put-word
 slice-aggregate-put-word c = search needs
@@ -83,8 +81,14 @@ put-bytes-requires-4 c κs = search needs
 
 returns : tie.Need-returns
 returns c =
-    let start = c .before .before .before .before .before .before .before .before .before .before .before .before .before .before .before .before .before .before .before .before .before in
-    cc (frame-is (start .args .sheet .now) (start .pre))
+    let maker = c .before in
+    let leaf = maker .before .before .before .before in
+    let address = leaf .before .before .before in
+    let last = address .before .before .before .before in
+    let id = last .before .before .before .before in
+    let start = id .before .before .before .before .before in
+    frame-is (start .args .sheet .now) (start .pre) (id .before .before .before .blank .ensures) (id .put-bytes .ensures)
+    (last .put-bytes2 .ensures) (address .put-bytes3 .ensures) (leaf .put-word .ensures) (maker .put-bytes4 .ensures)
 
 pub frame-spec : {M : Type 1} → statement M
 frame-spec =

@@ -49,7 +49,9 @@ sum-of-requires : tie.Need-sum-of-requires
 sum-of-requires c κs = simp length-take (omega arith)
 
 returns-2 : tie.Need-returns-2
-returns-2 c = sum-decides _ _ _ (c .before .before .before .before .count-at .ensures .0) (c .before .before .before .count-at2 .ensures .0) _ (c .before .before .if1 .left) (c .sum-of .ensures)
+returns-2 c =
+    sum-decides _ _ _ (c .before .before .before .before .count-at .ensures .0) (c .before .before .before .count-at2 .ensures .0) _
+    (c .before .before .if1 .left) (c .sum-of .ensures)
 
 pub is-sheet-spec : {M : Type 1} → statement M
 is-sheet-spec =

@@ -23,7 +23,9 @@ row-of-requires c κs = search needs
 
 returns : tie.Need-returns
 unfolding sheetFrom
-returns c = record-7 (sheetFrom (c .before .before .before .before .args .sheet .now)) _ (c .before .row-of .ensures ∙ ap rowOf (c .before .before .word-at .ensures)) (c .if1 .taken)
+returns c =
+    record-7 (sheetFrom (c .before .before .before .before .args .sheet .now)) _
+    (c .before .row-of .ensures ∙ ap rowOf (c .before .before .word-at .ensures)) (c .if1 .taken)
 
 byte-at-requires : tie.Need-byte-at-requires
 byte-at-requires c κs = search needs
@@ -36,7 +38,9 @@ unfolding sheetFrom
 returns-2 c =
     let seen = c .before .before .before .before in
     let start = seen .before .before .before in
-    record-25 (sheetFrom (start .args .sheet .now)) _ (seen .row-of .ensures ∙ ap rowOf (seen .before .word-at .ensures)) (c .before .before .before .if1 .left) _ (c .before .stray-control .ensures ∙ ap (strayControl (seen .row-of .result)) (c .before .before .byte-at .ensures)) (c .if2 .taken)
+    record-25 (sheetFrom (start .args .sheet .now)) _ (seen .row-of .ensures ∙ ap rowOf (seen .before .word-at .ensures))
+    (c .before .before .before .if1 .left) _ (c .before .stray-control .ensures
+    ∙ ap (strayControl (seen .row-of .result)) (c .before .before .byte-at .ensures)) (c .if2 .taken)
 
 count-at-requires : tie.Need-count-at-requires
 count-at-requires c κs = search needs
@@ -69,25 +73,37 @@ part-refusal-of-end : tie.Need-part-refusal-of-end
 part-refusal-of-end c = search needs
 
 sub-refusal-of-2 : tie.Need-sub-refusal-of-2
-sub-refusal-of-2 c = let l = cut-fits _ (c .before .before .before .before .before .before .before .before .before .before .pre) _ (c .before .before .count-at .ensures .0) in omega arith
+sub-refusal-of-2 c =
+    let l = cut-fits _ (c .before .before .before .before .before .before .before .before .before .before .pre) _
+    (c .before .before .count-at .ensures .0) in omega arith
 
 part-refusal-of-start-2 : tie.Need-part-refusal-of-start-2
-part-refusal-of-start-2 c = let l = cut-fits _ (c .before .before .before .before .before .before .before .before .before .before .pre) _ (c .before .before .count-at .ensures .0) in omega arith
+part-refusal-of-start-2 c =
+    let l = cut-fits _ (c .before .before .before .before .before .before .before .before .before .before .pre) _
+    (c .before .before .count-at .ensures .0) in omega arith
 
 part-refusal-of-end-2 : tie.Need-part-refusal-of-end-2
 part-refusal-of-end-2 c = search needs
 
 sub-refusal-of-3 : tie.Need-sub-refusal-of-3
-sub-refusal-of-3 c = cut-fits _ (c .before .before .before .before .before .before .before .before .before .before .before .pre) _ (c .before .before .before .count-at .ensures .0)
+sub-refusal-of-3 c =
+    cut-fits _ (c .before .before .before .before .before .before .before .before .before .before .before .pre) _
+    (c .before .before .before .count-at .ensures .0)
 
 part-refusal-of-start-3 : tie.Need-part-refusal-of-start-3
-part-refusal-of-start-3 c = cut-fits _ (c .before .before .before .before .before .before .before .before .before .before .before .pre) _ (c .before .before .before .count-at .ensures .0)
+part-refusal-of-start-3 c =
+    cut-fits _ (c .before .before .before .before .before .before .before .before .before .before .before .pre) _
+    (c .before .before .before .count-at .ensures .0)
 
 part-refusal-of-end-3 : tie.Need-part-refusal-of-end-3
 part-refusal-of-end-3 c = search needs
 
 refusal-of-requires : tie.Need-refusal-of-requires
-refusal-of-requires c κs = (cut-parts _ (c .before .before .before .before .before .before .before .before .before .before .before .before .pre) _ (c .before .before .before .before .count-at .ensures .0), (c .before .before .before .before .count-at .ensures .1, omega arith))
+refusal-of-requires c κs = (
+  cut-parts _ (c .before .before .before .before .before .before .before .before .before .before .before .before .pre) _
+      (c .before .before .before .before .count-at .ensures .0),
+  (c .before .before .before .before .count-at .ensures .1, omega arith),
+)
 
 returns-3 : tie.Need-returns-3
 unfolding sheetFrom
@@ -95,8 +111,13 @@ returns-3 c =
     let counted = c .before .before .before .before .before in
     let seen = counted .before .before .before .before .before in
     let start = seen .before .before .before in
-    record-entries (sheetFrom (start .args .sheet .now)) _ (seen .row-of .ensures ∙ ap rowOf (seen .before .word-at .ensures)) (counted .before .before .before .before .if1 .left) _ (counted .before .before .stray-control .ensures ∙ ap (strayControl (seen .row-of .result)) (counted .before .before .before .byte-at .ensures)) _ _ (counted .before .if2 .left) (c .before .before .before .before .header-length .ensures .0)
-    (c .refusal-of .ensures ∙ ap (λ (l : List Entry). firstMet (entryCauses (seen .row-of .result) (30 + c .before .before .before .before .header-length .result) l)) (cut-entries _ (start .pre) _ (counted .count-at .ensures .0)))
+    let head = c .before .before .before .before .header-length in
+    let stray = counted .before .before .stray-control .ensures
+    ∙ ap (strayControl (seen .row-of .result)) (counted .before .before .before .byte-at .ensures) in
+    let entries = cut-entries _ (start .pre) _ (counted .count-at .ensures .0) in
+    record-entries (sheetFrom (start .args .sheet .now)) _ (seen .row-of .ensures ∙ ap rowOf (seen .before .word-at .ensures))
+    (counted .before .before .before .before .if1 .left) _ stray _ _ (counted .before .if2 .left) (head .ensures .0)
+    (c .refusal-of .ensures ∙ ap (λ (l : List Entry). firstMet (entryCauses (seen .row-of .result) (30 + head .result) l)) entries)
 
 pub record-refusal-spec : {M : Type 1} → statement M
 record-refusal-spec =

@@ -2,8 +2,9 @@
 use native.Mathlib.Omega.{arith}
 use Prim.Native.Nat.{ℕ}
 use mathlib.Core.Path.{ap, _∙_}
-use Rattle.sheet.specs.Lists.{wordBytes, put}
-use Rattle.writer.specs.Inside.{sealed}
+use Rattle.rom.specs.Store.{wordBytes, put}
+use Rattle.rom.proofs.Put.{laid-word}
+use Rattle.writer.specs.Inside.{withSromCrc}
 use Rattle.writer.proofs.Checksums.{srom-value}
 use borrow.Author.Needs.{needs}
 use Rattle.writer.proofs.seal.Statement.{statement}
@@ -22,8 +23,11 @@ put-word-requires : tie.Need-put-word-requires
 put-word-requires c κs = search needs
 
 returns : tie.Need-returns
-unfolding sealed
-returns c = c .before .put-word .ensures ∙ ap (λ (v : ℕ). put (c .before .before .before .before .before .args .t1) 126 (wordBytes v)) (srom-value (c .before .before .before .before .before .args .t1) _ (omega arith) (c .before .before .before .srom-crc .ensures))
+unfolding withSromCrc
+returns c =
+    c .before .put-word .ensures ∙ laid-word (c .before .before .before .before .before .args .t1) 126 _ (omega arith)
+    ∙ ap (λ (v : ℕ). put (c .before .before .before .before .before .args .t1) 126 (wordBytes v))
+    (srom-value (c .before .before .before .before .before .args .t1) _ (omega arith) (c .before .before .before .srom-crc .ensures))
 
 pub seal-spec : {M : Type 1} → statement M
 seal-spec =

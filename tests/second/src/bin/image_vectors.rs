@@ -6,7 +6,7 @@
 use second::cases::cases;
 use second::images::{Card, DAMAGES, Image, Sample};
 use second::random::Random;
-use second::reader::{Arguments, read};
+use second::reader::{Arguments, read_all, view};
 use std::{env, fs, io, process};
 
 const RECORD_COUNT: usize = 400;
@@ -65,7 +65,8 @@ fn record(arguments: Arguments, image: &Image) -> Vec<u8> {
     [first.as_slice(), image].concat()
 }
 
-/// The answer, its numbers up to the address in hex, and the table; or the refusal's number.
+/// The answer, its numbers up to the address in hex, and the table, each entry with its view's bytes
+/// in hex; or the refusal's number.
 fn line(record: &[u8]) -> String {
     let (first, image) = record.split_at(4);
     let arguments = Arguments {
@@ -73,15 +74,18 @@ fn line(record: &[u8]) -> String {
         controller: first[2],
         level: first[3],
     };
-    let (mut kinds, mut offsets) = ([0; 255], [0; 255]);
-    let answer = read(image, arguments, &mut kinds, &mut offsets);
+    let (answer, entries) = read_all(image, arguments);
     if answer.number != 0 {
         return format!("refused {}\n", answer.number);
     }
-    let entries = kinds.iter().zip(offsets).take(answer.listed.into());
-    let table: String = entries
-        .map(|(kind, offset)| format!(" {kind}@{offset}"))
-        .collect();
+    let entry = |(entry, (kind, offset)): (usize, &(u16, u16))| {
+        let block: String = view(image, arguments, entry)
+            .iter()
+            .map(|byte| format!("{byte:02x}"))
+            .collect();
+        format!(" {kind}@{offset}:{block}")
+    };
+    let table: String = entries.iter().enumerate().map(entry).collect();
     let [_, connection, control, address, counts @ ..] = answer.values();
     let counts = counts.map(|count| count.to_string()).join(" ");
     format!("accepted {connection:04x} {control:02x} {address:012x} {counts}{table}\n")
@@ -111,7 +115,8 @@ mod tests {
         let case = &cases()[1];
         assert_eq!(
             line(&record(case.arguments, &case.image)),
-            "accepted 0800 00 08002b000000 3 2 0 1 255 2@42 2@33\n"
+            "accepted 0800 00 08002b000000 3 2 0 1 255 \
+             2@42:86020101000200 2@33:86020001000200\n"
         );
     }
 }

@@ -9,11 +9,11 @@ const PATTERN: u16 = 0xA5A5;
 /// The answer and the entries of the table, kind and offset. The elements after it are checked to
 /// be unchanged, and all of them where the reading is refused.
 fn read_table(image: &[u8], arguments: Arguments) -> (Answer, Vec<(u16, u16)>) {
-    let (mut kinds, mut offsets) = ([PATTERN; 255], [PATTERN; 255]);
+    let (mut kinds, mut offsets) = ([PATTERN; HIGHEST_COUNT], [PATTERN; HIGHEST_COUNT]);
     let answer = read(image, arguments, &mut kinds, &mut offsets);
     let listed = usize::from(answer.listed);
-    assert_eq!(kinds[listed..], [PATTERN; 255][listed..]);
-    assert_eq!(offsets[listed..], [PATTERN; 255][listed..]);
+    assert_eq!(kinds[listed..], [PATTERN; HIGHEST_COUNT][listed..]);
+    assert_eq!(offsets[listed..], [PATTERN; HIGHEST_COUNT][listed..]);
     let table = kinds.into_iter().zip(offsets).take(listed).collect();
     (answer, table)
 }
@@ -55,7 +55,7 @@ fn document_cases() {
                 assert_eq!(table, entries, "case {}", case.name);
                 assert_eq!(answer.skipped, skipped, "case {}", case.name);
                 assert_eq!(answer.resets, 0, "case {}", case.name);
-                assert_eq!(answer.default_number, 255, "case {}", case.name);
+                assert_eq!(answer.default_number, NO_DEFAULT, "case {}", case.name);
             }
             Expected::Refused(number) => {
                 assert_eq!(answer, refused(number), "case {}", case.name);
@@ -307,7 +307,7 @@ fn no_blocks() {
         let expected = Answer {
             connection: 0x0800,
             address: 0x0800_2B00_0000,
-            default_number: 255,
+            default_number: NO_DEFAULT,
             ..refused(0)
         };
         assert_eq!(answer, expected);
@@ -393,7 +393,7 @@ fn past_the_limit() {
 /// "14 extended length 0", at every level, also as the leaf's last byte.
 #[test]
 fn extended_length_zero() {
-    for level in 0..=6 {
+    for level in 0..=NEWEST_LEVEL {
         for chip in [21140, 21142, 21143, 21145] {
             let arguments = Arguments::at_level(chip, level);
             assert_eq!(number(&tidy(chip, &[&[0x80]]), arguments), 14);
@@ -428,7 +428,7 @@ fn permitted_for_the_chip() {
     ];
     for (chip, row) in permitted {
         for ((kind, block), is_permitted) in right_blocks()[1..].iter().zip(row) {
-            for level in 0..=6 {
+            for level in 0..=NEWEST_LEVEL {
                 let is_known = *kind == COMPACT || *kind < level.into();
                 let answer = read_table(&tidy(chip, &[block]), Arguments::at_level(chip, level)).0;
                 let expected = match (is_known, is_permitted) {
@@ -687,7 +687,7 @@ fn defaults() {
                 let unknown = block::extended(9, &[]);
                 let (one, none) = (maker(code, command), maker(code, 0));
                 let image = tidy(chip, &[&unknown, &none, &one]);
-                let expected = if counts { 2 } else { 255 };
+                let expected = if counts { 2 } else { NO_DEFAULT };
                 let answer = read_table(&image, Arguments::newest(chip)).0;
                 assert_eq!(answer.default_number, expected, "{one:02x?}");
                 let expected = if counts { 18 } else { 0 };
@@ -701,7 +701,7 @@ fn defaults() {
         read_table(&image, Arguments::at_level(21143, 4))
             .0
             .default_number,
-        255
+        NO_DEFAULT
     );
     assert_eq!(
         read_table(&image, Arguments::at_level(21143, 5))
@@ -757,7 +757,7 @@ fn whole_answer() {
     let arguments = Arguments {
         chip: 21140,
         controller: 1,
-        level: 6,
+        level: NEWEST_LEVEL,
     };
     let (answer, table) = read_table(&card.image(), arguments);
     let expected = Answer {

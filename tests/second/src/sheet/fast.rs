@@ -4,11 +4,13 @@ use super::{
     ADDRESS, CHIP, CONNECTION, CONTROL, COUNT, DEVICE, ID, KINDS, LONGEST_BODY, MAKER, Made,
     TIDY_LEAF, TOTAL, VERSION,
 };
-use crate::crc::{ID_CRC_OFFSET, IMAGE_LENGTH, SROM_CRC_OFFSET, fast::id_crc, fast::srom_crc};
+use crate::crc::fast::{id_crc, srom_crc};
+use crate::crc::{ID_CRC_OFFSET, ID_LAST_OFFSET, IMAGE_LENGTH, SROM_CRC_OFFSET};
 use crate::reader::fast::{each_block, each_block_unframed};
 use crate::reader::{
-    Arguments, CHIPS, COMPACT, EXT, EXTENDED, LEAF_LIMIT, MEDIA_21041, Refusal, first_block,
-    header_size, is_version, kind, refuse_if, word,
+    ADDRESS_OFFSET, Arguments, CHIPS, COMPACT, CONTROLLERS_OFFSET, COUNT_OFFSET, EXT, EXTENDED,
+    LEAF_LIMIT, MEDIA_21041, Refusal, VERSION_OFFSET, first_block, header_size, is_version, kind,
+    refuse_if, word,
 };
 
 type Image = [u8; IMAGE_LENGTH];
@@ -57,11 +59,11 @@ fn try_write(sheet: &[u8], image_length: usize) -> Result<Image, Refusal> {
 fn head(sheet: &[u8], chip: u16) -> Image {
     let mut image = [0; IMAGE_LENGTH];
     image[..16].copy_from_slice(&sheet[ID..ID + 16]);
-    image[17] = sheet[ID + 16];
-    image[18] = sheet[VERSION];
-    image[19] = 1;
-    image[20..27].copy_from_slice(&sheet[ADDRESS..=DEVICE]);
-    image[27] = TIDY_LEAF as u8;
+    image[ID_LAST_OFFSET] = sheet[ID + 16];
+    image[VERSION_OFFSET] = sheet[VERSION];
+    image[COUNT_OFFSET] = 1;
+    image[ADDRESS_OFFSET..=CONTROLLERS_OFFSET].copy_from_slice(&sheet[ADDRESS..=DEVICE]);
+    image[CONTROLLERS_OFFSET + 1] = TIDY_LEAF as u8;
     image[TIDY_LEAF..TIDY_LEAF + 2].copy_from_slice(&sheet[CONNECTION..CONNECTION + 2]);
     if chip == 21140 {
         image[TIDY_LEAF + 2] = sheet[CONTROL];
@@ -116,8 +118,8 @@ fn try_make(image: &[u8], chip: u16, buffer: &mut [u8]) -> Result<usize, Refusal
         let is_extended = chip != 21041 && image[block.start] & EXTENDED != 0;
         total += block.size - if is_extended { 2 } else { 0 };
     })?;
-    let is_tidy = image[19] == 1
-        && word(image, 27) == TIDY_LEAF as u16
+    let is_tidy = image[COUNT_OFFSET] == 1
+        && word(image, CONTROLLERS_OFFSET + 1) == TIDY_LEAF as u16
         && image[end..LEAF_LIMIT].iter().all(|&byte| byte == 0);
     refuse_if(!is_tidy, Refusal::NotTidy)?;
     let count = usize::from(answer.blocks);
@@ -126,9 +128,9 @@ fn try_make(image: &[u8], chip: u16, buffer: &mut [u8]) -> Result<usize, Refusal
     sheet[COUNT] = answer.blocks;
     sheet[TOTAL] = total as u8;
     sheet[ID..ID + 16].copy_from_slice(&image[..16]);
-    sheet[ID + 16] = image[17];
-    sheet[VERSION] = image[18];
-    sheet[ADDRESS..=DEVICE].copy_from_slice(&image[20..27]);
+    sheet[ID + 16] = image[ID_LAST_OFFSET];
+    sheet[VERSION] = image[VERSION_OFFSET];
+    sheet[ADDRESS..=DEVICE].copy_from_slice(&image[ADDRESS_OFFSET..=CONTROLLERS_OFFSET]);
     sheet[CHIP..CHIP + 2].copy_from_slice(&chip.to_le_bytes());
     sheet[CONNECTION..CONNECTION + 2].copy_from_slice(&answer.connection.to_le_bytes());
     sheet[CONTROL] = answer.control;

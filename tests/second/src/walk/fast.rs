@@ -38,8 +38,8 @@ fn try_load(walk: Walk, image: &[u8], arguments: Arguments) -> Result<Walk, Refu
     let mut loaded = Walk::FRESH;
     let answer = fast::each_block(image, arguments, usize::MAX, |number, block| {
         let number = usize::from(number);
-        loaded.listed[number] = block.is_listed().into();
-        loaded.active_invalid[number] = block.is_active_invalid.into();
+        loaded.rows.listed[number] = block.is_listed().into();
+        loaded.rows.active_invalid[number] = block.is_active_invalid.into();
     })?;
     loaded.loaded = true;
     loaded.connection = answer.connection;
@@ -75,12 +75,14 @@ fn stays(walk: &Walk, report: &[u8]) -> bool {
         return false;
     }
     let selected = usize::from(walk.selected);
-    walk.connection == POWER_UP_ONLY || walk.active_invalid[selected] == 1 || report[selected] == 1
+    walk.connection == POWER_UP_ONLY
+        || walk.rows.active_invalid[selected] == 1
+        || report[selected] == 1
 }
 
 fn candidate(walk: &Walk, report: &[u8]) -> Option<usize> {
     let is_candidate = |block: usize| {
-        walk.listed[block] == 1 && !(walk.settled && walk.active_invalid[block] == 1)
+        walk.rows.listed[block] == 1 && !(walk.settled && walk.rows.active_invalid[block] == 1)
     };
     (0..report.len())
         .rev()

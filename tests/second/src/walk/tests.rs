@@ -3,6 +3,7 @@ use crate::calls::{self, Call, Habits};
 use crate::cases::cases;
 use crate::images::{Card, Image, Sample, block};
 use crate::random::Random;
+use crate::reader::{CHIPS, NEWEST_LEVEL, connections, read_all};
 
 fn image(chip: u16, connection: u16, blocks: Vec<Vec<u8>>) -> Image {
     Card::tidy(chip, connection, blocks).image()
@@ -79,8 +80,10 @@ fn loaded_rows() {
         loaded: true,
         connection: 0x0800,
         blocks: 6,
-        listed: row(&[1, 0, 1, 0, 1, 1]),
-        active_invalid: row(&[1, 0, 0, 0, 0, 1]),
+        rows: Rows {
+            listed: row(&[1, 0, 1, 0, 1, 1]),
+            active_invalid: row(&[1, 0, 0, 0, 0, 1]),
+        },
         default_number: 2,
         settled: false,
         selected: NONE,
@@ -90,8 +93,10 @@ fn loaded_rows() {
     assert_eq!(loaded(&image, Arguments::newest(21143)).walk(), expected);
     // A reader that does not know type 4 sees neither property, nor the default.
     let expected = Walk {
-        listed: row(&[0, 0, 0, 0, 1]),
-        active_invalid: row(&[]),
+        rows: Rows {
+            listed: row(&[0, 0, 0, 0, 1]),
+            active_invalid: row(&[]),
+        },
         default_number: NONE,
         ..expected
     };
@@ -120,9 +125,8 @@ fn clearing() {
 fn refused_loads() {
     for case in cases() {
         let mut walk = Autosense::default();
-        let (mut kinds, mut offsets) = ([0; 255], [0; 255]);
         let arguments = case.arguments;
-        let answer = crate::reader::read(&case.image, arguments, &mut kinds, &mut offsets);
+        let (answer, _) = read_all(&case.image, arguments);
         assert_eq!(walk.load(&case.image, arguments), answer.number);
         assert_eq!(walk.walk().loaded, answer.number == 0);
         let mut walk = compacts(0x0800, &[0]);
@@ -138,8 +142,8 @@ fn refused_loads() {
 #[test]
 fn served_types() {
     assert_eq!(Autosense::default().look(&[]), 20);
-    for chip in crate::reader::CHIPS {
-        for connection in crate::reader::connections(chip) {
+    for chip in CHIPS {
+        for connection in connections(chip) {
             let is_served = [0x0800, 0x8800, 0x0900].contains(&connection);
             for report in [&[][..], &[2], &[0], &[1]] {
                 let blocks = vec![block::extended(9, &[])];
@@ -279,7 +283,7 @@ fn conditions_are_needed() {
     let pair = |command| {
         let blocks = vec![sia.clone(), block::symbol(3, 0, 0, command)];
         let image = image(21143, 0x0800, blocks);
-        [6, 4].map(|level| loaded(&image, Arguments::at_level(21143, level)))
+        [NEWEST_LEVEL, 4].map(|level| loaded(&image, Arguments::at_level(21143, level)))
     };
     let [mut newest, mut older] = pair(0x4000);
     assert_eq!(selections(&mut newest, &[&[0, 0]]), [1]);
@@ -347,15 +351,16 @@ fn settling() {
         calls::mark(&mut random, &mut sample.card);
         let image = sample.card.image();
         let mut walk = loaded(&image, sample.arguments);
-        let row = walk.walk();
-        let habits = Habits::new(&mut random, row.blocks.into());
+        let before = walk.walk();
+        let habits = Habits::new(&mut random, before.blocks.into());
         let report = habits.links(&mut random);
         assert_eq!(walk.look(&report), 0);
-        let up = (0..report.len()).filter(|&block| report[block] == 1 && row.listed[block] == 1);
+        let is_listed = |block: usize| before.rows.listed[block] == 1;
+        let up = (0..report.len()).filter(|&block| report[block] == 1 && is_listed(block));
         let last = up.max().map(|block| block as u8);
         let after = walk.walk();
         assert_eq!(after.settled, last.is_some());
-        assert_eq!(after.selected, last.unwrap_or(row.default_number));
+        assert_eq!(after.selected, last.unwrap_or(before.default_number));
         met += usize::from(after.settled);
     }
     assert!(met > 5_000, "only {met} walks settled");

@@ -12,7 +12,8 @@ use Rattle.block.proofs.chip.is_connection.Tie as tie
 
 -- the table of the code: short rows are filled up with their first code, 0
 table : List (List ℕ)
-table = (connections21041 ++ replicate 11 0) ∷ (connections21140 ++ replicate 1 0) ∷ connections21142 ∷ connections21142 ∷ connections21142 ∷ []
+table = (connections21041 ++ replicate 11 0) ∷ (connections21140 ++ replicate 1 0) ∷ connections21142 ∷ connections21142 ∷ connections21142
+    ∷ []
 
 returns : tie.Need-returns
 unfolding isConnection connectionRows
@@ -29,7 +30,8 @@ is-in-requires c κs = search needs
 
 returns-2 : tie.Need-returns-2
 unfolding isConnection connectionRows connections21041 connections21140 connections21142 isIn table
-returns-2 c = c .is-in .ensures ∙ same-members table connectionRows tt (c .before .before .before .before .args .row) (c .before .before .before .before .args .code)
+returns-2 c = c .is-in .ensures
+    ∙ same-members table connectionRows tt (c .before .before .before .before .args .row) (c .before .before .before .before .args .code)
 
 pub is-connection-spec : {M : Type 1} → statement M
 is-connection-spec = tie.close (tie.spec returns mul-is-in index-1-is-in is-in-requires returns-2)

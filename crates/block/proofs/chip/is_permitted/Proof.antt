@@ -29,7 +29,8 @@ is-in-requires c κs = search needs
 
 returns-2 : tie.Need-returns-2
 unfolding isPermitted permittedRows isIn table
-returns-2 c = c .is-in .ensures ∙ same-members table permittedRows tt (c .before .before .before .before .args .row) (c .before .before .before .before .args .kind)
+returns-2 c = c .is-in .ensures
+    ∙ same-members table permittedRows tt (c .before .before .before .before .args .row) (c .before .before .before .before .args .kind)
 
 pub is-permitted-spec : {M : Type 1} → statement M
 is-permitted-spec = tie.close (tie.spec returns mul-is-in index-1-is-in is-in-requires returns-2)

@@ -21,7 +21,9 @@ cast-result : tie.Need-cast-result
 cast-result c = search needs
 
 returns-3 : tie.Need-returns-3
-returns-3 c = c .byte-at2 .ensures ∙ sym (extended-form _ _ (c .before .before .before .if1 .left) (rw (c .before .before .byte-at .ensures) at (c .before .if2 .left)) .is-kind)
+returns-3 c = c .byte-at2 .ensures
+    ∙ sym
+    (extended-form _ _ (c .before .before .before .if1 .left) (rw (c .before .before .byte-at .ensures) at (c .before .if2 .left)) .is-kind)
 
 pub kind-at-spec : {M : Type 1} → statement M
 kind-at-spec =

@@ -13,7 +13,8 @@ sia-size-requires : tie.Need-sia-size-requires
 sia-size-requires c κs = search needs
 
 returns : tie.Need-returns
-returns c = rw (c .before .if1 .taken) (c .sia-size .ensures .0 ∙ ap siaSize (c .before .before .byte-at .ensures) ∙ sym (form-21041 _ .is-size))
+returns c =
+    rw (c .before .if1 .taken) (c .sia-size .ensures .0 ∙ ap siaSize (c .before .before .byte-at .ensures) ∙ sym (form-21041 _ .is-size))
 
 returns-2 : tie.Need-returns-2
 returns-2 c = sym (compact-form _ _ (c .before .if1 .left) (rw (c .before .before .byte-at .ensures) at (c .if2 .taken)) .is-size)
@@ -26,7 +27,9 @@ add-result c = search needs
 
 returns-3 : tie.Need-returns-3
 unfolding lengthOf
-returns-3 c = rw (c .before .before .byte-at .ensures) (sym (extended-form _ _ (c .before .if1 .left) (rw (c .before .before .byte-at .ensures) at (c .if2 .left)) .is-size))
+returns-3 c =
+    rw (c .before .before .byte-at .ensures)
+    (sym (extended-form _ _ (c .before .if1 .left) (rw (c .before .before .byte-at .ensures) at (c .if2 .left)) .is-size))
 
 pub size-at-spec : {M : Type 1} → statement M
 size-at-spec =

@@ -21,7 +21,8 @@ returns : tie.Need-returns
 returns c =
     let s = c .before in
     let a = s .args in
-    id-entry (a .table .now) (bitXor (a .register) (a .byte)) (s .pre) (mixed-lt (a .register) (a .byte) (s .fits .register .fits) (s .fits .byte .fits))
+    id-entry (a .table .now) (bitXor (a .register) (a .byte)) (s .pre)
+    (mixed-lt (a .register) (a .byte) (s .fits .register .fits) (s .fits .byte .fits))
     ∙ sym (byte-at-once (a .register) (a .byte) (s .fits .register .fits) (s .fits .byte .fits))
 
 pub feed-spec : {M : Type 1} → statement M

@@ -30,7 +30,8 @@ returns c =
     let known = low .before .before in
     let a = known .before .args in
     word-fed (a .image .now) (a .w .0) (a .register) _ _ _ _ _ _ (known .shared-slice-known .given (2 * a .w .0) .fits)
-    (low .before .low-byte .ensures) (low .byte-at .ensures) (high .before .high-byte .ensures) (high .byte-at2 .ensures) (c .before .feed .ensures) (c .feed2 .ensures)
+    (low .before .low-byte .ensures) (low .byte-at .ensures) (high .before .high-byte .ensures) (high .byte-at2 .ensures)
+    (c .before .feed .ensures) (c .feed2 .ensures)
 
 pub feed-word-spec : {M : Type 1} → statement M
 feed-word-spec =

@@ -4,7 +4,7 @@ use mathlib.Core.Path.{_≡_}
 use native.Mathlib.Omega.{arith}
 use borrow.Author.Needs.{needs}
 use Rattle.crc.specs.Crc.{idWords, ones}
-use Rattle.crc.specs.Tables.{idTable}
+use Rattle.crc.specs.Inside.{idTable}
 use Rattle.crc.proofs.Identity.{words-next, words-done}
 use Rattle.crc.proofs.id.of.Statement.{statement}
 use Rattle.crc.proofs.id.of.Tie as tie

@@ -1,6 +1,6 @@
 -- The constant is the table that antt computes. Assumes nothing.
 use mathlib.Core.Path.{refl}
-use Rattle.crc.specs.Tables.{idTable}
+use Rattle.crc.specs.Inside.{idTable}
 use Rattle.crc.proofs.id.table.Statement.{statement}
 use Rattle.crc.proofs.id.table.Tie as tie
 

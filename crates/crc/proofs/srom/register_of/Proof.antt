@@ -9,8 +9,7 @@ use native.Mathlib.Omega.{arith}
 use borrow.Author.Needs.{needs}
 use Rattle.rom.specs.Geometry.{checkedLength}
 use Rattle.crc.specs.Crc.{ones}
-use Rattle.crc.specs.Reflected.{reflected, turns, bytesIn}
-use Rattle.crc.specs.Tables.{sromTable}
+use Rattle.crc.specs.Inside.{reflected, turns, bytesIn, sromTable}
 use Rattle.crc.proofs.Mirror.{first-byte, next-byte, last-byte, mirror-ones}
 use Rattle.crc.proofs.srom.register_of.Statement.{statement}
 use Rattle.crc.proofs.srom.register_of.Tie as tie
@@ -18,7 +17,8 @@ use Rattle.crc.proofs.srom.register_of.Tie as tie
 abbrev Inv-loop : tie.InvT-loop
 Inv-loop image table mixed₀ at₀ mixed at =
     (at ≤ checkedLength)
-    × (bytesIn reflected (turns reflected 8 mixed) (drop at (take checkedLength image)) ≡ bytesIn reflected (ones 32) (take checkedLength image))
+    × (bytesIn reflected (turns reflected 8 mixed) (drop at (take checkedLength image))
+    ≡ bytesIn reflected (ones 32) (take checkedLength image))
     × (table ≡ sromTable)
 
 abbrev μ-loop : tie.MeasureT-loop
@@ -36,8 +36,12 @@ cast-mixed c = search needs
 loop-holds : tie.Need-loop-holds Inv-loop μ-loop
 loop-holds c =
     let known = c .before .before in
-    let e = known .before in
-    (omega arith, first-byte reflected checkedLength (e .args .image .now) (e .pre) (ones 32) _ (lit< tt) (known .shared-slice-known .given 0 .fits) (ap (bitXor (ones 32)) (c .byte-at .ensures)), c .before .table .ensures)
+    let e = known .before in (
+      omega arith,
+      first-byte reflected checkedLength (e .args .image .now) (e .pre) (ones 32) _ (lit< tt) (known .shared-slice-known .given 0 .fits)
+          (ap (bitXor (ones 32)) (c .byte-at .ensures)),
+      c .before .table .ensures,
+    )
 
 byte-at-requires-2 : tie.Need-byte-at-requires-2 Inv-loop μ-loop
 byte-at-requires-2 c κs = search needs
@@ -58,7 +62,8 @@ loop-again c =
     let e = known .before in (
       omega arith,
       next-byte reflected checkedLength (e .args .image .now) (e .pre) (l .at) (l .mixed) (c .turned .result) _ (omega arith)
-          (known .shared-slice-known .given (l .at) .fits) (c .turned .ensures ∙ ap (bitXor (turns reflected 8 (l .mixed))) (c .before .byte-at2 .ensures)) (l .inv .1),
+          (known .shared-slice-known .given (l .at) .fits)
+          (c .turned .ensures ∙ ap (bitXor (turns reflected 8 (l .mixed))) (c .before .byte-at2 .ensures)) (l .inv .1),
       l .inv .2,
     )
 

@@ -1,6 +1,6 @@
 -- The constant is the table that antt computes. Assumes nothing.
 use mathlib.Core.Path.{refl}
-use Rattle.crc.specs.Tables.{sromTable}
+use Rattle.crc.specs.Inside.{sromTable}
 use Rattle.crc.proofs.srom.table.Statement.{statement}
 use Rattle.crc.proofs.srom.table.Tie as tie
 

@@ -1,7 +1,7 @@
 -- Eight steps at once are the table's entry at the eight low bits, XOR the rest. Assumes nothing.
 use Prim.Native.Nat.{_/_, _%_}
 use native.Mathlib.Omega.{arith}
-use Rattle.crc.specs.Reflected.{reflected, turns}
+use Rattle.crc.specs.Inside.{reflected, turns}
 use Rattle.crc.proofs.Tabulated.{srom-entry}
 use Rattle.crc.proofs.Xor.{by-table, xor-assoc}
 use borrow.Author.Needs.{needs}
@@ -20,7 +20,11 @@ element-copy-out-result c = search needs
 returns : tie.Need-returns
 returns c =
     let a = c .before .args in
-    cc (srom-entry (a .table .now) (a .mixed % 256) (c .before .pre) (omega arith), by-table reflected 8 (a .mixed), xor-assoc (turns reflected 8 (a .mixed % 256)) (a .mixed / 256) (a .next))
+    cc (
+      srom-entry (a .table .now) (a .mixed % 256) (c .before .pre) (omega arith),
+      by-table reflected 8 (a .mixed),
+      xor-assoc (turns reflected 8 (a .mixed % 256)) (a .mixed / 256) (a .next),
+    )
 
 pub turned-spec : {M : Type 1} → statement M
 turned-spec = tie.close (tie.spec cast-result mul-result element-copy-out-result returns)

@@ -23,18 +23,26 @@ opening-length-requires : tie.Need-opening-length-requires Inv-loop μ-loop
 opening-length-requires c κs = search needs
 
 add-used : tie.Need-add-used Inv-loop μ-loop
-add-used c = let h = turn-inside _ _ _ (c .before .before .before .loop .inv) (c .before .before .loop-test .taken) (c .before .size-at .ensures) (c .opening-length .ensures) in
+add-used c =
+    let h = turn-inside _ _ _ (c .before .before .before .loop .inv) (c .before .before .loop-test .taken) (c .before .size-at .ensures)
+    (c .opening-length .ensures) in
     omega (arith, c .before .before .before .loop .inv .inside)
 
 sub-total : tie.Need-sub-total Inv-loop μ-loop
-sub-total c = turn-opens _ _ _ (c .before .before .before .loop .inv) (c .before .before .loop-test .taken) (c .before .size-at .ensures) (c .opening-length .ensures)
+sub-total c =
+    turn-opens _ _ _ (c .before .before .before .loop .inv) (c .before .before .loop-test .taken) (c .before .size-at .ensures)
+    (c .opening-length .ensures)
 
 add-total : tie.Need-add-total Inv-loop μ-loop
-add-total c = let h = turn-inside _ _ _ (c .before .before .before .loop .inv) (c .before .before .loop-test .taken) (c .before .size-at .ensures) (c .opening-length .ensures) in
+add-total c =
+    let h = turn-inside _ _ _ (c .before .before .before .loop .inv) (c .before .before .loop-test .taken) (c .before .size-at .ensures)
+    (c .opening-length .ensures) in
     omega (arith, c .before .before .before .loop .inv .inside, c .before .before .before .loop .inv .less)
 
 sub-rest : tie.Need-sub-rest Inv-loop μ-loop
-sub-rest c = turn-inside _ _ _ (c .before .before .before .loop .inv) (c .before .before .loop-test .taken) (c .before .size-at .ensures) (c .opening-length .ensures)
+sub-rest c =
+    turn-inside _ _ _ (c .before .before .before .loop .inv) (c .before .before .loop-test .taken) (c .before .size-at .ensures)
+    (c .opening-length .ensures)
 
 part-rest-start : tie.Need-part-rest-start Inv-loop μ-loop
 part-rest-start c = sub-rest c
@@ -49,7 +57,9 @@ loop-less : tie.Need-loop-less Inv-loop μ-loop
 loop-less c = search needs
 
 loop-again : tie.Need-loop-again Inv-loop μ-loop
-loop-again c = turn-more _ _ _ (c .before .before .before .before .loop .inv) (c .before .before .before .loop-test .taken) (c .before .before .size-at .ensures) (c .before .opening-length .ensures)
+loop-again c =
+    turn-more _ _ _ (c .before .before .before .before .loop .inv) (c .before .before .before .loop-test .taken)
+    (c .before .before .size-at .ensures) (c .before .opening-length .ensures)
 
 returns : tie.Need-returns Inv-loop μ-loop
 returns c = measuring-end _ _ _ (c .before .loop .inv) (c .loop-test .left)

@@ -24,7 +24,9 @@ opening-length-requires : tie.Need-opening-length-requires Inv-loop μ-loop
 opening-length-requires c κs = search needs
 
 sub-body : tie.Need-sub-body Inv-loop μ-loop
-sub-body c = next-body (c .before .before .before .loop .inv) (c .before .before .loop-test .taken) (c .before .size-at .ensures) (c .opening-length .ensures) .opens
+sub-body c =
+    next-body (c .before .before .before .loop .inv) (c .before .before .loop-test .taken) (c .before .size-at .ensures)
+    (c .opening-length .ensures) .opens
 
 sub-put-bytes : tie.Need-sub-put-bytes Inv-loop μ-loop
 sub-put-bytes c = sub-body (c .before)
@@ -33,19 +35,28 @@ part-put-bytes-start : tie.Need-part-put-bytes-start Inv-loop μ-loop
 part-put-bytes-start c = sub-body (c .before)
 
 part-put-bytes-end : tie.Need-part-put-bytes-end Inv-loop μ-loop
-part-put-bytes-end c = fill-inside bodies (c .before .before .before .before .loop .inv) (c .before .before .before .loop-test .taken) (c .before .before .size-at .ensures)
+part-put-bytes-end c =
+    fill-inside bodies (c .before .before .before .before .loop .inv) (c .before .before .before .loop-test .taken)
+    (c .before .before .size-at .ensures)
 
 put-bytes-requires : tie.Need-put-bytes-requires Inv-loop μ-loop
-put-bytes-requires c κs = let b = next-body (c .before .before .before .before .before .loop .inv) (c .before .before .before .before .loop-test .taken) (c .before .before .before .size-at .ensures) (c .before .before .opening-length .ensures) in
-    fill-room bodies (c .before .before .before .before .before .loop .inv) (c .before .before .before .before .loop-test .taken) (b .bytes)
+put-bytes-requires c κs = search needs
 
 add-to : tie.Need-add-to Inv-loop μ-loop
-add-to c = let b = next-body (c .before .before .before .before .before .before .before .before .loop .inv) (c .before .before .before .before .before .before .before .loop-test .taken) (c .before .before .before .before .before .before .size-at .ensures) (c .before .before .before .before .before .opening-length .ensures) in
-    let h = fill-room bodies (c .before .before .before .before .before .before .before .before .loop .inv) (c .before .before .before .before .before .before .before .loop-test .taken) (b .bytes) in
+add-to c =
+    let b = next-body (c .before .before .before .before .before .before .before .before .loop .inv)
+    (c .before .before .before .before .before .before .before .loop-test .taken)
+    (c .before .before .before .before .before .before .size-at .ensures)
+    (c .before .before .before .before .before .opening-length .ensures) in
+    let h = fill-room bodies (c .before .before .before .before .before .before .before .before .loop .inv)
+    (c .before .before .before .before .before .before .before .loop-test .taken) (b .bytes) in
     omega (arith, b .long, c .before .before .before .before .before .before .before .before .loop .inv .same)
 
 sub-rest : tie.Need-sub-rest Inv-loop μ-loop
-sub-rest c = fill-inside bodies (c .before .before .before .before .before .before .before .before .loop .inv) (c .before .before .before .before .before .before .before .loop-test .taken) (c .before .before .before .before .before .before .size-at .ensures)
+sub-rest c =
+    fill-inside bodies (c .before .before .before .before .before .before .before .before .loop .inv)
+    (c .before .before .before .before .before .before .before .loop-test .taken)
+    (c .before .before .before .before .before .before .size-at .ensures)
 
 part-rest-start : tie.Need-part-rest-start Inv-loop μ-loop
 part-rest-start c = sub-rest c
@@ -60,8 +71,15 @@ loop-less : tie.Need-loop-less Inv-loop μ-loop
 loop-less c = search needs
 
 loop-again : tie.Need-loop-again Inv-loop μ-loop
-loop-again c = let b = next-body (c .before .before .before .before .before .before .before .before .before .loop .inv) (c .before .before .before .before .before .before .before .before .loop-test .taken) (c .before .before .before .before .before .before .before .size-at .ensures) (c .before .before .before .before .before .before .opening-length .ensures) in
-    fill-more bodies (c .before .before .before .before .before .before .before .before .before .loop .inv) (c .before .before .before .before .before .before .before .before .loop-test .taken) _ (c .before .before .before .before .before .before .before .size-at .ensures) (b .bytes) (b .long) (c .before .before .before .put-bytes .ensures)
+loop-again c =
+    let b = next-body (c .before .before .before .before .before .before .before .before .before .loop .inv)
+    (c .before .before .before .before .before .before .before .before .loop-test .taken)
+    (c .before .before .before .before .before .before .before .size-at .ensures)
+    (c .before .before .before .before .before .before .opening-length .ensures) in
+    fill-more bodies (c .before .before .before .before .before .before .before .before .before .loop .inv)
+    (c .before .before .before .before .before .before .before .before .loop-test .taken) _
+    (c .before .before .before .before .before .before .before .size-at .ensures) (b .bytes) (b .long)
+    (c .before .before .before .put-bytes .ensures)
 
 same-length : tie.Need-same-length Inv-loop μ-loop
 same-length c = c .before .loop .inv .same

@@ -4,7 +4,7 @@ use Prim.Native.Nat.{_-_}
 use native.Mathlib.Omega.{arith}
 use native.Mathlib.Nat.{le-refl}
 use mathlib.Core.Path.{refl, ap}
-use Rattle.sheet.specs.Lists.{wordBytes}
+use Rattle.rom.specs.Store.{wordBytes}
 use Rattle.sheet.specs.Sheet.{kindBytes}
 use Rattle.maker.proofs.Filling.{kinds, Filling, filling-start, filling-end, fill-room, fill-inside, fill-more}
 use Rattle.maker.proofs.parts.put_kinds.Statement.{statement}
@@ -23,19 +23,22 @@ kind-at-requires : tie.Need-kind-at-requires Inv-loop μ-loop
 kind-at-requires c κs = search needs
 
 put-word-requires : tie.Need-put-word-requires Inv-loop μ-loop
-unfolding wordBytes
-put-word-requires c κs = fill-room kinds (c .before .before .before .loop .inv) (c .before .before .loop-test .taken) (ap wordBytes (c .before .kind-at .ensures))
+put-word-requires c κs = search needs
 
 add-to : tie.Need-add-to Inv-loop μ-loop
 unfolding wordBytes
-add-to c = let h = fill-room kinds (c .before .before .before .before .before .before .loop .inv) (c .before .before .before .before .before .loop-test .taken) (ap wordBytes (c .before .before .before .before .kind-at .ensures)) in
+add-to c =
+    let h = fill-room kinds (c .before .before .before .before .before .before .loop .inv)
+    (c .before .before .before .before .before .loop-test .taken) (ap wordBytes (c .before .before .before .before .kind-at .ensures)) in
     omega (arith, c .before .before .before .before .before .before .loop .inv .same)
 
 size-at-requires : tie.Need-size-at-requires Inv-loop μ-loop
 size-at-requires c κs = search needs
 
 sub-rest : tie.Need-sub-rest Inv-loop μ-loop
-sub-rest c = fill-inside kinds (c .before .before .before .before .before .before .before .loop .inv) (c .before .before .before .before .before .before .loop-test .taken) (c .size-at .ensures)
+sub-rest c =
+    fill-inside kinds (c .before .before .before .before .before .before .before .loop .inv)
+    (c .before .before .before .before .before .before .loop-test .taken) (c .size-at .ensures)
 
 part-rest-start : tie.Need-part-rest-start Inv-loop μ-loop
 part-rest-start c = sub-rest c
@@ -51,7 +54,11 @@ loop-less c = search needs
 
 loop-again : tie.Need-loop-again Inv-loop μ-loop
 unfolding wordBytes
-loop-again c = fill-more kinds (c .before .before .before .before .before .before .before .before .loop .inv) (c .before .before .before .before .before .before .before .loop-test .taken) _ (c .before .size-at .ensures) (ap wordBytes (c .before .before .before .before .before .before .kind-at .ensures)) refl (c .before .before .before .before .put-word .ensures)
+loop-again c =
+    fill-more kinds (c .before .before .before .before .before .before .before .before .loop .inv)
+    (c .before .before .before .before .before .before .before .loop-test .taken) _ (c .before .size-at .ensures)
+    (ap wordBytes (c .before .before .before .before .before .before .kind-at .ensures)) refl
+    (c .before .before .before .before .put-word .ensures)
 
 same-length : tie.Need-same-length Inv-loop μ-loop
 same-length c = c .before .loop .inv .same

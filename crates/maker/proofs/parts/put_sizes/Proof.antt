@@ -25,23 +25,31 @@ opening-length-requires : tie.Need-opening-length-requires Inv-loop μ-loop
 opening-length-requires c κs = search needs
 
 sub-body : tie.Need-sub-body Inv-loop μ-loop
-sub-body c = next-body (c .before .before .before .loop .inv) (c .before .before .loop-test .taken) (c .before .size-at .ensures) (c .opening-length .ensures) .opens
+sub-body c =
+    next-body (c .before .before .before .loop .inv) (c .before .before .loop-test .taken) (c .before .size-at .ensures)
+    (c .opening-length .ensures) .opens
 
-cast-put-byte : tie.Need-cast-put-byte Inv-loop μ-loop
-cast-put-byte c = let b = next-body (c .before .before .before .before .loop .inv) (c .before .before .before .loop-test .taken) (c .before .before .size-at .ensures) (c .before .opening-length .ensures) in
+cast-body : tie.Need-cast-body Inv-loop μ-loop
+cast-body c =
+    let b = next-body (c .before .before .before .loop .inv) (c .before .before .loop-test .taken) (c .before .size-at .ensures)
+    (c .opening-length .ensures) in
     omega (arith, b .small)
 
 put-byte-requires : tie.Need-put-byte-requires Inv-loop μ-loop
-put-byte-requires c κs = let b = next-body (c .before .before .before .before .loop .inv) (c .before .before .before .loop-test .taken) (c .before .before .size-at .ensures) (c .before .opening-length .ensures) in
-    fill-room sizes (c .before .before .before .before .loop .inv) (c .before .before .before .loop-test .taken) (b .count)
+put-byte-requires c κs = search needs
 
 add-to : tie.Need-add-to Inv-loop μ-loop
-add-to c = let b = next-body (c .before .before .before .before .before .before .before .loop .inv) (c .before .before .before .before .before .before .loop-test .taken) (c .before .before .before .before .before .size-at .ensures) (c .before .before .before .before .opening-length .ensures) in
-    let h = fill-room sizes (c .before .before .before .before .before .before .before .loop .inv) (c .before .before .before .before .before .before .loop-test .taken) (b .count) in
-    omega (arith, c .before .before .before .before .before .before .before .loop .inv .same)
+add-to c =
+    let turn = c .before .before .before .before in
+    let b = next-body (turn .before .before .before .loop .inv) (turn .before .before .loop-test .taken) (turn .before .size-at .ensures)
+    (turn .opening-length .ensures) in
+    let h = fill-room sizes (turn .before .before .before .loop .inv) (turn .before .before .loop-test .taken) (b .count) in
+    omega (arith, turn .before .before .before .loop .inv .same)
 
 sub-rest : tie.Need-sub-rest Inv-loop μ-loop
-sub-rest c = fill-inside sizes (c .before .before .before .before .before .before .before .loop .inv) (c .before .before .before .before .before .before .loop-test .taken) (c .before .before .before .before .before .size-at .ensures)
+sub-rest c =
+    let turn = c .before .before .before .before in
+    fill-inside sizes (turn .before .before .before .loop .inv) (turn .before .before .loop-test .taken) (turn .before .size-at .ensures)
 
 part-rest-start : tie.Need-part-rest-start Inv-loop μ-loop
 part-rest-start c = sub-rest c
@@ -56,8 +64,12 @@ loop-less : tie.Need-loop-less Inv-loop μ-loop
 loop-less c = search needs
 
 loop-again : tie.Need-loop-again Inv-loop μ-loop
-loop-again c = let b = next-body (c .before .before .before .before .before .before .before .before .loop .inv) (c .before .before .before .before .before .before .before .loop-test .taken) (c .before .before .before .before .before .before .size-at .ensures) (c .before .before .before .before .before .opening-length .ensures) in
-    fill-more sizes (c .before .before .before .before .before .before .before .before .loop .inv) (c .before .before .before .before .before .before .before .loop-test .taken) _ (c .before .before .before .before .before .before .size-at .ensures) (b .count) refl (c .before .before .before .put-byte .ensures)
+loop-again c =
+    let turn = c .before .before .before .before .before in
+    let b = next-body (turn .before .before .before .loop .inv) (turn .before .before .loop-test .taken) (turn .before .size-at .ensures)
+    (turn .opening-length .ensures) in
+    fill-more sizes (turn .before .before .before .loop .inv) (turn .before .before .loop-test .taken) _ (turn .before .size-at .ensures)
+    (b .count) refl (c .before .before .before .put-byte .ensures)
 
 same-length : tie.Need-same-length Inv-loop μ-loop
 same-length c = c .before .loop .inv .same
@@ -75,7 +87,7 @@ put-sizes-spec =
     size-at-requires
     opening-length-requires
     sub-body
-    cast-put-byte
+    cast-body
     put-byte-requires
     add-to
     sub-rest

@@ -14,7 +14,8 @@ use Rattle.reader.proofs.table.fill.Tie as tie
 
 abbrev Inv-loop : tie.InvT-loop
 Inv-loop blocks start count row level listed kinds₀ offsets₀ rest₀ k₀ at₀ free₀ kinds offsets rest k at free =
-    Filling row level (placed row start (cut row count blocks)) (cut row (count - k) rest) at free kinds₀ offsets₀ kinds offsets × (k ≤ count) × (at + length rest ≤ start + length blocks)
+    Filling row level (placed row start (cut row count blocks)) (cut row (count - k) rest) at free kinds₀ offsets₀ kinds offsets
+    × (k ≤ count) × (at + length rest ≤ start + length blocks)
 
 abbrev μ-loop : tie.MeasureT-loop
 μ-loop blocks start count row level listed kinds₀ offsets₀ rest₀ k₀ at₀ free₀ kinds offsets rest k at free =
@@ -22,8 +23,24 @@ abbrev μ-loop : tie.MeasureT-loop
 
 loop-holds : tie.Need-loop-holds Inv-loop μ-loop
 unfolding tableOf
-loop-holds c = let a = c .before .before .before .pre in
-    (rw sub-zero (record { accepted = a .0; filled = record { kinds = refl; offsets = refl; places = a .1 .0; room-k = a .1 .1 .0; room-o = a .1 .1 .1; same-k = refl; same-o = refl } }), search needs, le-refl _)
+loop-holds c = let a = c .before .before .before .pre in (
+  rw sub-zero
+      (record {
+        accepted = a .0;
+        filled =
+            record {
+              kinds = refl;
+              offsets = refl;
+              places = a .1 .0;
+              room-k = a .1 .1 .0;
+              room-o = a .1 .1 .1;
+              same-k = refl;
+              same-o = refl;
+            };
+      }),
+  search needs,
+  le-refl _,
+)
 
 judge-block-requires : tie.Need-judge-block-requires Inv-loop μ-loop
 judge-block-requires c κs = search needs
@@ -31,8 +48,12 @@ judge-block-requires c κs = search needs
 place-requires : tie.Need-place-requires Inv-loop μ-loop
 place-requires c κs =
     let j = c .before .before in
-    let l = j .before .before .loop in
-    (fill-place _ _ _ _ (l .inv .0) (j .before .loop-test .taken) (j .judge-block .ensures), l .inv .0 .filled .room-k, l .inv .0 .filled .room-o, omega (arith, l .inv .2, c .before .before .before .before .before .before .before .before .pre .1 .1))
+    let l = j .before .before .loop in (
+      fill-place _ _ _ _ (l .inv .0) (j .before .loop-test .taken) (j .judge-block .ensures),
+      l .inv .0 .filled .room-k,
+      l .inv .0 .filled .room-o,
+      omega (arith, l .inv .2, c .before .before .before .before .before .before .before .before .pre .1 .1),
+    )
 
 size-of-requires : tie.Need-size-of-requires Inv-loop μ-loop
 size-of-requires c κs = search needs
@@ -40,7 +61,8 @@ size-of-requires c κs = search needs
 sub-rest : tie.Need-sub-rest Inv-loop μ-loop
 sub-rest c =
     let j = c .before .before .before .before .before .before .before .before in
-    next-fits _ _ _ _ (j .before .before .loop .inv .0 .accepted) (j .before .loop-test .taken) (j .judge-block .ensures) (c .size-of .ensures)
+    next-fits _ _ _ _ (j .before .before .loop .inv .0 .accepted) (j .before .loop-test .taken) (j .judge-block .ensures)
+    (c .size-of .ensures)
 
 part-rest-start : tie.Need-part-rest-start Inv-loop μ-loop
 part-rest-start = sub-rest
@@ -52,8 +74,13 @@ add-at : tie.Need-add-at Inv-loop μ-loop
 add-at c =
     let j = c .before .before .before .before .before .before .before .before .before in
     let f : c .before .size-of .result ≤ length (now (j .before .before .loop .rest)) =
-    next-fits _ _ _ _ (j .before .before .loop .inv .0 .accepted) (j .before .loop-test .taken) (j .judge-block .ensures) (c .before .size-of .ensures) in
-    omega (arith, j .before .before .loop .inv .2, c .before .before .before .before .before .before .before .before .before .before .before .before .before .before .before .pre .1 .1)
+    next-fits _ _ _ _ (j .before .before .loop .inv .0 .accepted) (j .before .loop-test .taken) (j .judge-block .ensures)
+    (c .before .size-of .ensures) in
+    omega (
+      arith,
+      j .before .before .loop .inv .2,
+      c .before .before .before .before .before .before .before .before .before .before .before .before .before .before .before .pre .1 .1,
+    )
 
 add-k : tie.Need-add-k Inv-loop μ-loop
 add-k c = search needs

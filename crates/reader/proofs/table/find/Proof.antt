@@ -15,7 +15,8 @@ use Rattle.reader.proofs.table.find.Tie as tie
 
 abbrev Inv-loop : tie.InvT-loop
 Inv-loop blocks start count row level listed entry rest₀ k₀ at₀ behind₀ rest k at behind =
-    Finding row level (tableOf row level count start blocks) (cut row (count - k) rest) at behind entry × (k ≤ count) × (at + length rest ≤ start + length blocks)
+    Finding row level (tableOf row level count start blocks) (cut row (count - k) rest) at behind entry × (k ≤ count)
+    × (at + length rest ≤ start + length blocks)
 
 abbrev μ-loop : tie.MeasureT-loop
 μ-loop blocks start count row level listed entry rest₀ k₀ at₀ behind₀ rest k at behind = count - k
@@ -25,8 +26,11 @@ returns c = sym (part-none _ _ _ (omega (arith, c .before .before .pre .1 .0)))
 
 loop-holds : tie.Need-loop-holds Inv-loop μ-loop
 unfolding tableOf
-loop-holds c = let a = c .before .before .pre in
-    (rw sub-zero (record { accepted = a .0; kept = record { counted = a .1 .0; there = c .if1 .left; same = refl } }), search needs, le-refl _)
+loop-holds c = let a = c .before .before .pre in (
+  rw sub-zero (record { accepted = a .0; kept = record { counted = a .1 .0; there = c .if1 .left; same = refl } }),
+  search needs,
+  le-refl _,
+)
 
 judge-block-requires : tie.Need-judge-block-requires Inv-loop μ-loop
 judge-block-requires c κs = search needs
@@ -39,17 +43,21 @@ listed-of-requires c κs = search needs
 
 sub-behind : tie.Need-sub-behind Inv-loop μ-loop
 sub-behind c =
-    let j = c .before .before in find-behind _ _ _ _ (j .before .before .loop .inv .0) (j .before .loop-test .taken) (j .judge-block .ensures) (c .listed-of .ensures)
+    let j = c .before .before in
+    find-behind _ _ _ _ (j .before .before .loop .inv .0) (j .before .loop-test .taken) (j .judge-block .ensures)
+    (c .listed-of .ensures)
 
 returns-2 : tie.Need-returns-2 Inv-loop μ-loop
 returns-2 c =
     let j = c .before .before .before in
-    find-here _ _ _ _ (j .before .before .loop .inv .0) (j .before .loop-test .taken) (j .judge-block .ensures) (c .before .before .size-of .ensures) (c .before .listed-of .ensures) (c .if2 .taken)
+    find-here _ _ _ _ (j .before .before .loop .inv .0) (j .before .loop-test .taken) (j .judge-block .ensures)
+    (c .before .before .size-of .ensures) (c .before .listed-of .ensures) (c .if2 .taken)
 
 sub-rest : tie.Need-sub-rest Inv-loop μ-loop
 sub-rest c =
     let j = c .before .before .before in
-    next-fits _ _ _ _ (j .before .before .loop .inv .0 .accepted) (j .before .loop-test .taken) (j .judge-block .ensures) (c .before .before .size-of .ensures)
+    next-fits _ _ _ _ (j .before .before .loop .inv .0 .accepted) (j .before .loop-test .taken) (j .judge-block .ensures)
+    (c .before .before .size-of .ensures)
 
 part-rest-start : tie.Need-part-rest-start Inv-loop μ-loop
 part-rest-start = sub-rest
@@ -61,7 +69,8 @@ add-at : tie.Need-add-at Inv-loop μ-loop
 add-at c =
     let j = c .before .before .before .before in
     let f : c .before .before .before .size-of .result ≤ length (now (j .before .before .loop .rest)) =
-    next-fits _ _ _ _ (j .before .before .loop .inv .0 .accepted) (j .before .loop-test .taken) (j .judge-block .ensures) (c .before .before .before .size-of .ensures) in
+    next-fits _ _ _ _ (j .before .before .loop .inv .0 .accepted) (j .before .loop-test .taken) (j .judge-block .ensures)
+    (c .before .before .before .size-of .ensures) in
     omega (arith, j .before .before .loop .inv .2, c .before .before .before .before .before .before .before .before .before .pre .1 .1)
 
 add-k : tie.Need-add-k Inv-loop μ-loop

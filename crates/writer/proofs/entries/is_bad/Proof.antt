@@ -17,7 +17,9 @@ is-bad-body-requires : tie.Need-is-bad-body-requires
 is-bad-body-requires c κs = search needs
 
 returns-3 : tie.Need-returns-3
-returns-3 c = bad-body _ _ _ (c .before .before .before .if1 .left) _ (c .before .before .is-other-family .ensures) _ (c .before .if2 .left) (c .is-bad-body .ensures)
+returns-3 c =
+    bad-body _ _ _ (c .before .before .before .if1 .left) _ (c .before .before .is-other-family .ensures) _ (c .before .if2 .left)
+    (c .is-bad-body .ensures)
 
 pub is-bad-spec : {M : Type 1} → statement M
 is-bad-spec =

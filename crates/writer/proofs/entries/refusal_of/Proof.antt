@@ -10,13 +10,16 @@ use Rattle.writer.proofs.entries.refusal_of.Statement.{statement}
 use Rattle.writer.proofs.entries.refusal_of.Tie as tie
 
 abbrev Inv-loop : tie.InvT-loop
-Inv-loop row start count kinds sizes bodies left₀ kind-rest₀ size-rest₀ body-rest₀ end₀ left kind-rest size-rest body-rest end = Sized row start (entriesFrom count kinds sizes bodies) left kind-rest size-rest body-rest end
+Inv-loop row start count kinds sizes bodies left₀ kind-rest₀ size-rest₀ body-rest₀ end₀ left kind-rest size-rest body-rest end =
+    Sized row start (entriesFrom count kinds sizes bodies) left kind-rest size-rest body-rest end
 
 abbrev μ-loop : tie.MeasureT-loop
 μ-loop row start count kinds sizes bodies left₀ kind-rest₀ size-rest₀ body-rest₀ end₀ left kind-rest size-rest body-rest end = left
 
 loop-holds : tie.Need-loop-holds Inv-loop μ-loop
-loop-holds c = sized-start _ _ _ _ _ _ (c .before .before .before .pre .1 .0) (c .before .before .before .pre .1 .1) (c .before .before .before .pre .0)
+loop-holds c =
+    sized-start _ _ _ _ _ _ (c .before .before .before .pre .1 .0) (c .before .before .before .pre .1 .1)
+    (c .before .before .before .pre .0)
 
 word-at-requires : tie.Need-word-at-requires Inv-loop μ-loop
 word-at-requires c κs = search needs
@@ -27,7 +30,8 @@ count-at-requires c κs = search needs
 slice-aggregate-is-bad : tie.Need-slice-aggregate-is-bad Inv-loop μ-loop
 slice-aggregate-is-bad c =
     let turn = c .before in
-    sym (next-body _ _ _ (turn .before .before .before .loop .body-rest .now) _ _ (turn .before .before .loop-test .taken) (turn .before .before .before .loop .inv .parts) (turn .before .word-at .ensures) (turn .count-at .ensures .0))
+    sym (next-body _ _ _ (turn .before .before .before .loop .body-rest .now) _ _ (turn .before .before .loop-test .taken)
+    (turn .before .before .before .loop .inv .parts) (turn .before .word-at .ensures) (turn .count-at .ensures .0))
 
 is-bad-requires : tie.Need-is-bad-requires Inv-loop μ-loop
 is-bad-requires c κs = search needs
@@ -35,7 +39,9 @@ is-bad-requires c κs = search needs
 returns : tie.Need-returns Inv-loop μ-loop
 returns c =
     let turn = c .before .before .before in
-    sized-bad _ _ _ _ _ _ (turn .before .before .loop-test .taken) (turn .before .before .before .loop .inv .parts) (turn .before .word-at .ensures) (turn .count-at .ensures .0) (turn .before .before .before .loop .inv) (sym (c .if1 .taken) ∙ c .before .is-bad .ensures)
+    sized-bad _ _ _ _ _ _ (turn .before .before .loop-test .taken) (turn .before .before .before .loop .inv .parts)
+    (turn .before .word-at .ensures) (turn .count-at .ensures .0) (turn .before .before .before .loop .inv)
+    (sym (c .if1 .taken) ∙ c .before .is-bad .ensures)
 
 opening-size-requires : tie.Need-opening-size-requires Inv-loop μ-loop
 opening-size-requires c κs = search needs
@@ -43,27 +49,35 @@ opening-size-requires c κs = search needs
 add-end : tie.Need-add-end Inv-loop μ-loop
 add-end c =
     let turn = c .before .before .before .before in
-    let h = sized-room _ _ _ _ _ _ (turn .before .before .loop-test .taken) (turn .before .before .before .loop .inv .parts) (turn .before .word-at .ensures) (turn .count-at .ensures .0) (turn .before .before .before .loop .inv) _ (c .opening-size .ensures) (turn .count-at .ensures .1) in omega arith
+    let h = sized-room _ _ _ _ _ _ (turn .before .before .loop-test .taken) (turn .before .before .before .loop .inv .parts)
+    (turn .before .word-at .ensures) (turn .count-at .ensures .0) (turn .before .before .before .loop .inv) _ (c .opening-size .ensures)
+    (turn .count-at .ensures .1) in omega arith
 
 add-end-2 : tie.Need-add-end-2 Inv-loop μ-loop
 add-end-2 c =
     let turn = c .before .before .before .before in
-    let h = sized-room _ _ _ _ _ _ (turn .before .before .loop-test .taken) (turn .before .before .before .loop .inv .parts) (turn .before .word-at .ensures) (turn .count-at .ensures .0) (turn .before .before .before .loop .inv) _ (c .opening-size .ensures) (turn .count-at .ensures .1) in omega arith
+    let h = sized-room _ _ _ _ _ _ (turn .before .before .loop-test .taken) (turn .before .before .before .loop .inv .parts)
+    (turn .before .word-at .ensures) (turn .count-at .ensures .0) (turn .before .before .before .loop .inv) _ (c .opening-size .ensures)
+    (turn .count-at .ensures .1) in omega arith
 
 sub-kind-rest : tie.Need-sub-kind-rest Inv-loop μ-loop
-sub-kind-rest c = parts-next _ _ _ _ (c .before .before .before .before .before .before .loop-test .taken) (c .before .before .before .before .before .before .before .loop .inv .parts) .kind
+sub-kind-rest c =
+    parts-next _ _ _ _ (c .before .before .before .before .before .before .loop-test .taken)
+    (c .before .before .before .before .before .before .before .loop .inv .parts) .kind
 
 part-kind-rest-start : tie.Need-part-kind-rest-start Inv-loop μ-loop
-part-kind-rest-start c = parts-next _ _ _ _ (c .before .before .before .before .before .before .loop-test .taken) (c .before .before .before .before .before .before .before .loop .inv .parts) .kind
+part-kind-rest-start c = sub-kind-rest c
 
 part-kind-rest-end : tie.Need-part-kind-rest-end Inv-loop μ-loop
 part-kind-rest-end c = le-refl _
 
 sub-size-rest : tie.Need-sub-size-rest Inv-loop μ-loop
-sub-size-rest c = parts-next _ _ _ _ (c .before .before .before .before .before .before .before .loop-test .taken) (c .before .before .before .before .before .before .before .before .loop .inv .parts) .size
+sub-size-rest c =
+    parts-next _ _ _ _ (c .before .before .before .before .before .before .before .loop-test .taken)
+    (c .before .before .before .before .before .before .before .before .loop .inv .parts) .size
 
 part-size-rest-start : tie.Need-part-size-rest-start Inv-loop μ-loop
-part-size-rest-start c = parts-next _ _ _ _ (c .before .before .before .before .before .before .before .loop-test .taken) (c .before .before .before .before .before .before .before .before .loop .inv .parts) .size
+part-size-rest-start c = sub-size-rest c
 
 part-size-rest-end : tie.Need-part-size-rest-end Inv-loop μ-loop
 part-size-rest-end c = le-refl _
@@ -71,12 +85,11 @@ part-size-rest-end c = le-refl _
 sub-body-rest : tie.Need-sub-body-rest Inv-loop μ-loop
 sub-body-rest c =
     let past = c .before .before .before .before .before .before in
-    next-fits _ _ _ _ _ _ (past .before .before .loop-test .taken) (past .before .before .before .loop .inv .parts) (past .before .word-at .ensures) (past .count-at .ensures .0)
+    next-fits _ _ _ _ _ _ (past .before .before .loop-test .taken) (past .before .before .before .loop .inv .parts)
+    (past .before .word-at .ensures) (past .count-at .ensures .0)
 
 part-body-rest-start : tie.Need-part-body-rest-start Inv-loop μ-loop
-part-body-rest-start c =
-    let past = c .before .before .before .before .before .before in
-    next-fits _ _ _ _ _ _ (past .before .before .loop-test .taken) (past .before .before .before .loop .inv .parts) (past .before .word-at .ensures) (past .count-at .ensures .0)
+part-body-rest-start c = sub-body-rest c
 
 part-body-rest-end : tie.Need-part-body-rest-end Inv-loop μ-loop
 part-body-rest-end c = le-refl _
@@ -90,7 +103,10 @@ loop-less c = search needs
 loop-again : tie.Need-loop-again Inv-loop μ-loop
 loop-again c =
     let turn = c .before .before .before .before .before .before .before in
-    sized-more _ _ _ _ _ _ (turn .before .before .loop-test .taken) (turn .before .before .before .loop .inv .parts) (turn .before .word-at .ensures) (turn .count-at .ensures .0) (turn .before .before .before .loop .inv) _ (c .before .before .before .opening-size .ensures) (turn .count-at .ensures .1) (sym (c .before .before .before .before .if1 .left) ∙ c .before .before .before .before .before .is-bad .ensures)
+    sized-more _ _ _ _ _ _ (turn .before .before .loop-test .taken) (turn .before .before .before .loop .inv .parts)
+    (turn .before .word-at .ensures) (turn .count-at .ensures .0) (turn .before .before .before .loop .inv) _
+    (c .before .before .before .opening-size .ensures) (turn .count-at .ensures .1)
+    (sym (c .before .before .before .before .if1 .left) ∙ c .before .before .before .before .before .is-bad .ensures)
 
 returns-2 : tie.Need-returns-2 Inv-loop μ-loop
 returns-2 c = sized-long (c .before .before .loop .inv) (c .before .loop-test .left) (c .if2 .taken)

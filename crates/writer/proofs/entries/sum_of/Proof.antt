@@ -31,7 +31,8 @@ loop-less : tie.Need-loop-less Inv-loop μ-loop
 loop-less c = search needs
 
 loop-again : tie.Need-loop-again Inv-loop μ-loop
-loop-again c = omega (arith, sum-more (c .before .before .before .before .args .sizes .now) (c .before .before .loop .i) (c .before .loop-test .taken))
+loop-again c =
+    omega (arith, sum-more (c .before .before .before .before .args .sizes .now) (c .before .before .loop .i) (c .before .loop-test .taken))
 
 returns : tie.Need-returns Inv-loop μ-loop
 returns c = omega (arith, sum-none (c .before .before .before .args .sizes .now) (c .before .loop .i) (c .loop-test .left))

@@ -10,7 +10,8 @@ use Rattle.writer.proofs.leaf_writer.put_entries.Statement.{statement}
 use Rattle.writer.proofs.leaf_writer.put_entries.Tie as tie
 
 abbrev Inv-loop : tie.InvT-loop
-Inv-loop room₀ start count kinds sizes bodies left₀ kind-rest₀ size-rest₀ body-rest₀ to₀ room left kind-rest size-rest body-rest to = Filled room₀ start (entriesFrom count kinds sizes bodies) room left kind-rest size-rest body-rest to
+Inv-loop room₀ start count kinds sizes bodies left₀ kind-rest₀ size-rest₀ body-rest₀ to₀ room left kind-rest size-rest body-rest to =
+    Filled room₀ start (entriesFrom count kinds sizes bodies) room left kind-rest size-rest body-rest to
 
 abbrev μ-loop : tie.MeasureT-loop
 μ-loop room₀ start count kinds sizes bodies left₀ kind-rest₀ size-rest₀ body-rest₀ to₀ room left kind-rest size-rest body-rest to = left
@@ -27,27 +28,33 @@ count-at-requires c κs = search needs
 slice-aggregate-put-entry : tie.Need-slice-aggregate-put-entry Inv-loop μ-loop
 slice-aggregate-put-entry c =
     let turn = c .before .before in
-    sym (next-body _ _ _ (turn .before .before .before .loop .body-rest .now) _ _ (turn .before .before .loop-test .taken) (turn .before .before .before .loop .inv .parts) (turn .before .word-at .ensures) (turn .count-at .ensures .0))
+    sym (next-body _ _ _ (turn .before .before .before .loop .body-rest .now) _ _ (turn .before .before .loop-test .taken)
+    (turn .before .before .before .loop .inv .parts) (turn .before .word-at .ensures) (turn .count-at .ensures .0))
 
 put-entry-requires : tie.Need-put-entry-requires Inv-loop μ-loop
 put-entry-requires c κs =
     let turn = c .before .before in
-    filled-fits _ _ _ _ _ _ (turn .before .before .loop-test .taken) (turn .before .before .before .loop .inv .parts) (turn .before .word-at .ensures) (turn .count-at .ensures .0) (turn .before .before .before .loop .inv)
+    filled-fits _ _ _ _ _ _ (turn .before .before .loop-test .taken) (turn .before .before .before .loop .inv .parts)
+    (turn .before .word-at .ensures) (turn .count-at .ensures .0) (turn .before .before .before .loop .inv)
 
 sub-kind-rest : tie.Need-sub-kind-rest Inv-loop μ-loop
-sub-kind-rest c = parts-next _ _ _ _ (c .before .before .before .before .before .before .before .loop-test .taken) (c .before .before .before .before .before .before .before .before .loop .inv .parts) .kind
+sub-kind-rest c =
+    parts-next _ _ _ _ (c .before .before .before .before .before .before .before .loop-test .taken)
+    (c .before .before .before .before .before .before .before .before .loop .inv .parts) .kind
 
 part-kind-rest-start : tie.Need-part-kind-rest-start Inv-loop μ-loop
-part-kind-rest-start c = parts-next _ _ _ _ (c .before .before .before .before .before .before .before .loop-test .taken) (c .before .before .before .before .before .before .before .before .loop .inv .parts) .kind
+part-kind-rest-start c = sub-kind-rest c
 
 part-kind-rest-end : tie.Need-part-kind-rest-end Inv-loop μ-loop
 part-kind-rest-end c = le-refl _
 
 sub-size-rest : tie.Need-sub-size-rest Inv-loop μ-loop
-sub-size-rest c = parts-next _ _ _ _ (c .before .before .before .before .before .before .before .before .loop-test .taken) (c .before .before .before .before .before .before .before .before .before .loop .inv .parts) .size
+sub-size-rest c =
+    parts-next _ _ _ _ (c .before .before .before .before .before .before .before .before .loop-test .taken)
+    (c .before .before .before .before .before .before .before .before .before .loop .inv .parts) .size
 
 part-size-rest-start : tie.Need-part-size-rest-start Inv-loop μ-loop
-part-size-rest-start c = parts-next _ _ _ _ (c .before .before .before .before .before .before .before .before .loop-test .taken) (c .before .before .before .before .before .before .before .before .before .loop .inv .parts) .size
+part-size-rest-start c = sub-size-rest c
 
 part-size-rest-end : tie.Need-part-size-rest-end Inv-loop μ-loop
 part-size-rest-end c = le-refl _
@@ -55,12 +62,11 @@ part-size-rest-end c = le-refl _
 sub-body-rest : tie.Need-sub-body-rest Inv-loop μ-loop
 sub-body-rest c =
     let past = c .before .before .before .before .before .before .before in
-    next-fits _ _ _ _ _ _ (past .before .before .loop-test .taken) (past .before .before .before .loop .inv .parts) (past .before .word-at .ensures) (past .count-at .ensures .0)
+    next-fits _ _ _ _ _ _ (past .before .before .loop-test .taken) (past .before .before .before .loop .inv .parts)
+    (past .before .word-at .ensures) (past .count-at .ensures .0)
 
 part-body-rest-start : tie.Need-part-body-rest-start Inv-loop μ-loop
-part-body-rest-start c =
-    let past = c .before .before .before .before .before .before .before in
-    next-fits _ _ _ _ _ _ (past .before .before .loop-test .taken) (past .before .before .before .loop .inv .parts) (past .before .word-at .ensures) (past .count-at .ensures .0)
+part-body-rest-start c = sub-body-rest c
 
 part-body-rest-end : tie.Need-part-body-rest-end Inv-loop μ-loop
 part-body-rest-end c = le-refl _
@@ -74,13 +80,16 @@ loop-less c = search needs
 loop-again : tie.Need-loop-again Inv-loop μ-loop
 loop-again c =
     let turn = c .before .before .before .before .before .before .before .before in
-    filled-more _ _ _ _ _ _ (turn .before .before .loop-test .taken) (turn .before .before .before .loop .inv .parts) (turn .before .word-at .ensures) (turn .count-at .ensures .0) (turn .before .before .before .loop .inv) _ _ (c .before .before .before .before .before .put-entry .ensures .0) (c .before .before .before .before .before .put-entry .ensures .1)
+    filled-more _ _ _ _ _ _ (turn .before .before .loop-test .taken) (turn .before .before .before .loop .inv .parts)
+    (turn .before .word-at .ensures) (turn .count-at .ensures .0) (turn .before .before .before .loop .inv) _ _
+    (c .before .before .before .before .before .put-entry .ensures .0) (c .before .before .before .before .before .put-entry .ensures .1)
 
 same-length : tie.Need-same-length Inv-loop μ-loop
 same-length c = c .before .loop .inv .same
 
 returns : tie.Need-returns Inv-loop μ-loop
-returns c = filled-end (c .before .loop .inv) (c .loop-test .left) (omega (arith, c .before .before .before .before .before .before .pre .fits))
+returns c =
+    filled-end (c .before .loop .inv) (c .loop-test .left) (omega (arith, c .before .before .before .before .before .before .pre .fits))
 
 pub put-entries-spec : {M : Type 1} → statement M
 put-entries-spec =

@@ -31,7 +31,8 @@ returns : tie.Need-returns
 returns c =
     let start = c .before .before .before .before .before .before .before .before .before .before in
     let past = c .before .before .before .before .before in
-    head-21140 (start .args .sheet .now) (start .args .row) _ (start .args .room .now) _ (start .pre .0) (past .before .word-at .ensures) (start .pre .1) (past .put-word .ensures) (c .before .before .if1 .taken)
+    head-21140 (start .args .sheet .now) (start .args .row) _ (start .args .room .now) _ (start .pre .0) (past .before .word-at .ensures)
+    (start .pre .1) (past .put-word .ensures) (c .before .before .if1 .taken)
 
 shared-slice-read-room-3 : tie.Need-shared-slice-read-room-3
 shared-slice-read-room-3 c = search needs
@@ -46,7 +47,8 @@ returns-2 : tie.Need-returns-2
 returns-2 c =
     let start = c .before .before .before .before .before .before .before .before .before in
     let past = c .before .before .before .before in
-    head-other (start .args .sheet .now) (start .args .row) _ (start .args .room .now) _ (start .pre .0) (past .before .word-at .ensures) (start .pre .1) (past .put-word .ensures) (c .before .if1 .left)
+    head-other (start .args .sheet .now) (start .args .row) _ (start .args .room .now) _ (start .pre .0) (past .before .word-at .ensures)
+    (start .pre .1) (past .put-word .ensures) (c .before .if1 .left)
 
 pub put-head-spec : {M : Type 1} → statement M
 put-head-spec =

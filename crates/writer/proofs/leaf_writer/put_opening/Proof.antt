@@ -13,22 +13,31 @@ returns : tie.Need-returns
 returns c = no-opening _ _ _ _ _ (c .before .before .before .before .pre) (c .before .opening-size .ensures) (c .if1 .taken)
 
 cast-room : tie.Need-cast-room
-cast-room c = let e = opening-small _ _ _ _ _ (c .before .before .before .before .pre) (c .before .opening-size .ensures) (c .if1 .left) in omega arith
+cast-room c =
+    let e = opening-small _ _ _ _ _ (c .before .before .before .before .pre) (c .before .opening-size .ensures) (c .if1 .left) in
+    omega arith
 
 add-room : tie.Need-add-room
-add-room c = let e = opening-small _ _ _ _ _ (c .before .before .before .before .pre) (c .before .opening-size .ensures) (c .if1 .left) in omega arith
+add-room c =
+    let e = opening-small _ _ _ _ _ (c .before .before .before .before .pre) (c .before .opening-size .ensures) (c .if1 .left) in
+    omega arith
 
 slice-write-room : tie.Need-slice-write-room
-slice-write-room c = let n = opening-room _ _ _ _ _ (c .before .before .before .before .pre) (c .before .opening-size .ensures) (c .if1 .left) in omega arith
+slice-write-room c =
+    let n = opening-room _ _ _ _ _ (c .before .before .before .before .pre) (c .before .opening-size .ensures) (c .if1 .left) in omega arith
 
 cast-room-2 : tie.Need-cast-room-2
-cast-room-2 c = let e = opening-small _ _ _ _ _ (c .before .before .before .before .pre) (c .before .opening-size .ensures) (c .if1 .left) in omega arith
+cast-room-2 c =
+    let e = opening-small _ _ _ _ _ (c .before .before .before .before .pre) (c .before .opening-size .ensures) (c .if1 .left) in
+    omega arith
 
 add-room-2 : tie.Need-add-room-2
 add-room-2 c = search needs
 
 slice-write-room-2 : tie.Need-slice-write-room-2
-slice-write-room-2 c = let n = opening-room _ _ _ _ _ (c .before .before .before .before .pre) (c .before .opening-size .ensures) (c .if1 .left) in simp length-set (omega arith)
+slice-write-room-2 c =
+    let n = opening-room _ _ _ _ _ (c .before .before .before .before .pre) (c .before .opening-size .ensures) (c .if1 .left) in
+    simp length-set (omega arith)
 
 same-length : tie.Need-same-length
 same-length c = search needs

@@ -1,0 +1,65 @@
+-- What the contracts of the sheet maker's inner functions cite.
+use Prim.Native.Nat.{ℕ, _+_, _≤_}
+use mathlib.Core.Path.{_≡_}
+use mathlib.Core.List.{List, [], _∷_, _++_, map}
+use mathlib.Core.Bool.{Bool, _&&_}
+use lib.ListN.{length, take, drop}
+use lib.Dec.{eqb}
+use Rattle.rom.specs.Geometry.{leavesEnd, addressAt}
+use Rattle.rom.specs.Store.{wordBytes}
+use Rattle.rom.specs.Refusal.{firstMet}
+use Rattle.block.specs.Format.{newestLevel}
+use Rattle.header.specs.Image.{controllerCount, leafAt}
+use Rattle.leaf.specs.Leaf.{cut, blockCauses}
+use Rattle.reader.specs.declared.Answer.{Answer}
+use Rattle.reader.specs.declared.Reading.{Reading}
+use Rattle.reader.specs.Reading.{judgedReading}
+use Rattle.sheet.specs.Lists.{allZero}
+use Rattle.sheet.specs.Record.{Entry}
+use Rattle.sheet.specs.Sheet.{bodyBytes}
+use Rattle.sheet.specs.Image.{leafStart, entryFrom, sizes, upToLeavesEnd, newest, imageFrom}
+use Rattle.sheet.specs.Make.{sheetFor}
+use Rattle.maker.specs.declared.Made.{Made}
+use Rattle.maker.specs.declared.parts.Measured.{Measured}
+
+-- a refusal's number, and no length
+unfoldable pub refusedMade : ℕ → Made
+refusedMade n = record { number = n; length = 0 }
+
+-- ## A leaf's blocks
+
+-- so many blocks at the front of a leaf's rest, accepted at the newest level
+abbrev pub AcceptedBlocks : ℕ → ℕ → List ℕ → Type 0
+AcceptedBlocks row count s = firstMet (blockCauses row newestLevel (cut row count s)) ≡ 0
+
+-- what they mean
+unfoldable pub entriesOf : ℕ → ℕ → List ℕ → List Entry
+entriesOf row count s = map (entryFrom row) (cut row count s)
+
+-- the bytes that they take, and those of their bodies
+unfoldable pub measuredOf : ℕ → ℕ → List ℕ → Measured
+measuredOf row count s = record { size = sizes row (cut row count s); bodies = length (bodyBytes (entriesOf row count s)) }
+
+-- n = 1, leaf at 30, zeros from a place up to 123
+unfoldable pub isTidyFrom : ℕ → List ℕ → Bool
+isTidyFrom end image =
+    eqb (controllerCount image) 1 && (eqb (leafAt image 0) leafStart && allZero (upToLeavesEnd end image))
+
+-- ## Bytes laid into a sheet
+
+-- bytes 0 to 26 of a sheet: the sizes, ID bytes 0 to 15, ID byte 17 and the version, the address and the device number
+unfoldable pub frontBytes : ℕ → ℕ → List ℕ → List ℕ
+frontBytes count total image =
+    (count ∷ []) ++ ((total ∷ []) ++ (take 16 image ++ (take 2 (drop 17 image) ++ take 7 (drop addressAt image))))
+
+-- bytes 27 to 33: the chip, the connection type, the control byte and the maker's bytes
+unfoldable pub fieldBytes : ℕ → Answer → List ℕ → List ℕ
+fieldBytes chip answer image =
+    wordBytes chip ++ (wordBytes (answer .connection) ++ ((answer .control ∷ []) ++ take 2 (drop leavesEnd image)))
+
+-- an image that is read, the total of its body bytes, and a buffer that has room for its sheet
+pub record Sheetable (sheet image : List ℕ) (chip : ℕ) (reading : Reading) (total : ℕ) : Type 0 where
+  pub read : reading ≡ judgedReading image (newest chip)
+  pub accepted : reading .answer .number ≡ 0
+  pub bodies : total ≡ length (bodyBytes (imageFrom chip image .entries))
+  pub room : length (sheetFor image chip) ≤ length sheet

@@ -1,0 +1,59 @@
+-- The definitions of readings, walks and sheets, opened together for what computes: `unfolding reading-computes` and so on.
+use Rattle.crc.specs.Crc.{sromCrc, idCrc}
+use Rattle.block.specs.Format.{connections21041, connections21140, connections21142, connectionRows, isConnection}
+use Rattle.header.specs.Image.{versions, controllerCount, reservedAt, baseAddress, addressOf, leafAt, headerLength, controlByte, blocksAt}
+use Rattle.header.specs.Image.{blockCount}
+use Rattle.header.specs.Image.{restFrom, badCount, imageCauses, argumentCauses, leafHeaderCauses}
+use Rattle.header.specs.Header.{headerCauses}
+use Rattle.leaf.proofs.Computes.{leaf-computes}
+use Rattle.reader.specs.Table.{tabled}
+use Rattle.reader.specs.Reading.{leafCausesFor, judgeCauses, refusedAnswer, acceptedAnswer, answerFor, judgeAnswer, readCauses, readAnswer}
+use Rattle.reader.specs.Reading.{readInto}
+use Rattle.reader.specs.Reading.{readKinds, readOffsets}
+use Rattle.autosense.specs.Walk.{served, isServed, noFlags, flags, blockIs, flagAt, isInvalid, noRows, rowsOf, freshWalk, loadedWalk}
+use Rattle.autosense.specs.Walk.{lastBelow}
+use Rattle.autosense.specs.Walk.{anyBelow, stays, isCandidate, firstUp, upIn, chosen, switched, stepped, badReport, lookCauses, loadCauses}
+use Rattle.autosense.specs.Walk.{walkedTo, loadFor, lookFor}
+use Rattle.older.specs.Calls.{call, seen, after, run}
+use Rattle.older.specs.Written.{answerOf, entries, tableIn}
+use Rattle.rom.specs.Store.{wordBytes}
+use Rattle.sheet.specs.Lists.{sum, allZero, padded, over}
+use Rattle.sheet.specs.Sheet.{headOf, kindBytes, sizeBytes, bodyBytes, partsOf, sheetOf, entriesFrom, sheetFrom, isSheet}
+use Rattle.sheet.specs.Image.{frontWith, frontOf, isWhole, openingOf, encodes, controlBytes, leafHeadOf, leafOf, coveredOf, imageOf, newest}
+use Rattle.sheet.specs.Image.{openingLength, bodyOf, imageFrom, sizes, leafEnd, upToLeavesEnd, isTidy}
+use Rattle.sheet.specs.Write.{isOtherFamily, isBadBody, isBad, anyBad, strayControl, cannotHold, recordCauses, writeCauses, writeNumber}
+use Rattle.sheet.specs.Write.{written}
+use Rattle.sheet.specs.Make.{makeCauses, makeNumber, makeLength, made}
+use Rattle.worked.specs.Cases.{unsealed, sealed, imageWith}
+
+-- a whole image, and why it is refused
+unfoldable pub image-computes : Unit {0}
+unfolding leaf-computes sromCrc idCrc
+    connections21041 connections21140 connections21142 connectionRows isConnection
+    versions controllerCount reservedAt baseAddress addressOf leafAt headerLength controlByte blocksAt blockCount restFrom badCount
+    imageCauses argumentCauses leafHeaderCauses headerCauses leafCausesFor judgeCauses
+    unsealed sealed imageWith
+image-computes = tt
+
+-- what is read of it
+unfoldable pub reading-computes : Unit {0}
+unfolding image-computes refusedAnswer acceptedAnswer answerFor judgeAnswer readCauses readAnswer tabled readInto readKinds readOffsets
+    answerOf entries tableIn
+reading-computes = tt
+
+-- and walks of it
+unfoldable pub walk-computes : Unit {0}
+unfolding reading-computes served isServed noFlags flags blockIs flagAt isInvalid noRows rowsOf freshWalk loadedWalk
+    lastBelow anyBelow stays isCandidate firstUp upIn chosen switched stepped badReport
+    lookCauses loadCauses walkedTo loadFor lookFor call seen after run
+walk-computes = tt
+
+-- sheets and their images
+unfoldable pub sheet-computes : Unit {0}
+unfolding image-computes wordBytes sum allZero padded over
+    headOf kindBytes sizeBytes bodyBytes partsOf sheetOf entriesFrom sheetFrom isSheet
+    frontWith frontOf isWhole openingOf encodes controlBytes leafHeadOf leafOf coveredOf imageOf
+    newest openingLength bodyOf imageFrom sizes leafEnd upToLeavesEnd isTidy
+    isOtherFamily isBadBody isBad anyBad strayControl cannotHold recordCauses writeCauses writeNumber written
+    makeCauses makeNumber makeLength made
+sheet-computes = tt

@@ -1,0 +1,60 @@
+-- What computes: the worked cases, sheets with their images, and why demand 3's two conditions on the walks are needed.
+use Prim.Native.Nat.{ℕ, _<_}
+use mathlib.Core.Path.{_≡_}
+use mathlib.Core.List.{List, [], _∷_, _++_, map}
+use mathlib.Core.Bool.{false}
+use lib.ListN.{replicate}
+use Rattle.rom.specs.Refusal.{firstMet}
+use Rattle.block.specs.Format.{newestLevel}
+use Rattle.header.specs.declared.Arguments.{Arguments}
+use Rattle.header.specs.Header.{atLevel}
+use Rattle.reader.specs.Reading.{judgeCauses, judgeAnswer}
+use Rattle.autosense.specs.Walk.{freshWalk}
+use Rattle.older.specs.Calls.{Call, Down, run}
+use Rattle.older.specs.Levels.{removedBlock}
+use Rattle.sheet.specs.Write.{writeNumber}
+use Rattle.sheet.specs.Make.{makeNumber, makeLength, made}
+use Rattle.worked.specs.Cases as whole
+use Rattle.worked.specs.Sheets as sheets
+use Rattle.worked.specs.Sheets.{changes, try, long, wide, case21143, untidy}
+
+-- cases a to k, as whole images: each is answered as it says
+abbrev pub ImagesWorked : Type 0
+ImagesWorked = map whole.worked whole.imageCases ≡ whole.imageCases
+
+-- sheets and images are each other's, and changes of them are refused as they say
+abbrev pub SheetsWorked : Type 0
+SheetsWorked =
+    (map sheets.runSheet sheets.sheetCases ≡ sheets.sheetCases)
+    × (map try changes ≡ changes)
+    × (map (λ n. writeNumber (long n) 128) (91 ∷ 92 ∷ []) ≡ 0 ∷ 26 ∷ [])
+    × (map (λ n. writeNumber (wide n) 128) (89 ∷ 90 ∷ 126 ∷ 127 ∷ []) ≡ 0 ∷ 26 ∷ 26 ∷ 25 ∷ [])
+    × (writeNumber (case21143 .sheet) 127 ≡ 1)
+    × (makeLength (case21143 .image) 21143 57 ≡ 55)
+    × (made (case21143 .image) 21143 (replicate 57 1) ≡ case21143 .sheet ++ 1 ∷ 1 ∷ [])
+    × (makeNumber (case21143 .image) 21143 54 ≡ 12)
+    × (makeNumber untidy 21143 57 ≡ 27)
+
+-- ## Without either condition of demand 3, two walks differ
+
+-- an image that the newest reader accepts, an older level, and calls after which the two walks are not alike
+pub record Differ : Type 0 where
+  pub image : List ℕ
+  pub arguments : Arguments
+  pub older : ℕ
+  pub calls : List Call
+  pub below : older < newestLevel
+  pub accepted : firstMet (judgeCauses image (atLevel arguments newestLevel)) ≡ 0
+  pub differ : run image (atLevel arguments newestLevel) freshWalk calls ≡ run image (atLevel arguments older) freshWalk calls → ⊥
+
+-- a removed default, though no removed entry is up at a look that the newest walk accepts
+pub record RemovedDefault : Type 0 where
+  pub walks : Differ
+  pub down : Down (removedBlock (walks .image) (walks .arguments) (walks .older)) (walks .image)
+      (atLevel (walks .arguments) newestLevel) freshWalk (walks .calls)
+
+-- a removed entry up, though the default is none
+pub record RemovedUp : Type 0 where
+  pub walks : Differ
+  pub «default» : removedBlock (walks .image) (walks .arguments) (walks .older)
+      (judgeAnswer (walks .image) (atLevel (walks .arguments) newestLevel) .«default_number») ≡ false
