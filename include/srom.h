@@ -25,9 +25,10 @@ extern "C" {
 /* ---- Numbers ---- */
 
 enum {
-    SROM_IMAGE_LENGTH = 128, /* bytes of an image */
-    SROM_NEWEST_LEVEL = 6,   /* a reader of level n knows the extended types below n */
-    SROM_NONE = 255          /* no default block, no selected block */
+    SROM_IMAGE_LENGTH = 128,  /* bytes of an image */
+    SROM_LONGEST_SHEET = 398, /* bytes of the longest sheet of an accepted image */
+    SROM_NEWEST_LEVEL = 6,    /* a reader of level n knows the extended types below n */
+    SROM_NONE = 255           /* no default block, no selected block */
 };
 
 /* Why a call is refused. */
@@ -47,7 +48,7 @@ enum {
     SROM_ARRAY_TOO_SHORT = 12,     /* lent array shorter than the block count, or sheet buffer too short */
     SROM_BLOCK_OUTSIDE = 13,       /* block past byte 123 */
     SROM_BAD_BLOCK_TYPE = 14,      /* extended length 0, or a compact block or known type that the chip does not permit */
-    SROM_BAD_BLOCK_LENGTH = 15,    /* length wrong for the type */
+    SROM_BAD_BLOCK_LENGTH = 15,    /* length wrong for the type, or a sequence's count (g or r) past the block's end */
     SROM_BAD_BLOCK_CODE = 16,      /* media code or reserved bits */
     SROM_BAD_ADVERTISEMENT = 17,   /* a PHY advertises what it is not capable of */
     SROM_CLASHING_BLOCKS = 18,     /* two resets, a reset and a PHY that resets, or two defaults */
@@ -134,17 +135,17 @@ typedef struct srom_rows {
     uint8_t active_invalid[128]; /* 1 for an entry with Active_Invalid */
 } srom_rows;
 
-/* A walk's state, passed and returned by value. */
+/* A walk's state, passed and returned by value. A load sets the first five fields, and a look changes the last four. */
 typedef struct srom_walk {
     bool loaded;
     uint16_t connection;
     uint8_t blocks;
     srom_rows rows;
     uint8_t default_number; /* or SROM_NONE */
-    bool settled;
-    uint8_t selected;       /* block number, or SROM_NONE */
-    uint16_t looks;
-    uint16_t switches;
+    bool settled;           /* whether a look since the load has selected an entry because its link was up */
+    uint8_t selected;       /* block number that the last look selected, or SROM_NONE; SROM_NONE before the first look */
+    uint16_t looks;         /* looks accepted since the load */
+    uint16_t switches;      /* how many of them selected another block than was selected before, none counting as one */
 } srom_walk;
 
 typedef struct srom_walked {
@@ -159,9 +160,13 @@ srom_walk srom_fresh(void);
 srom_walked srom_load(srom_walk walk, const uint8_t *image, size_t image_length, srom_arguments arguments);
 
 /*
- * Looks at the links, one byte a block, 1 up and 0 down; later bytes are ignored. A settled walk stays on its block where the
- * connection type is SROM_AUTOSENSE_ONCE, or the block has Active_Invalid, or its link is up. Otherwise it takes the first
- * entry in table order whose link is up (once settled, among those without Active_Invalid), or the default, or none.
+ * Looks at the links, one byte a block, 1 up and 0 down; later bytes are ignored.
+ * 1. A settled walk with a block selected stays on it where the connection type is SROM_AUTOSENSE_ONCE, or the block has
+ *    Active_Invalid, or its link is up.
+ * 2. Otherwise it selects the first entry in table order whose link is up (once settled, among those without Active_Invalid)
+ *    and is settled from then on. With none up it selects the default, or none where there is no default, which neither
+ *    settles nor unsettles it.
+ * 3. Looks rise by 1, and switches too if the selection is another than before; from none to a block, or back, is a switch.
  * Refusals: 20, 22, 23, 19.
  */
 srom_walked srom_look(srom_walk walk, const uint8_t *report, size_t report_length);
@@ -170,6 +175,31 @@ srom_walked srom_look(srom_walk walk, const uint8_t *report, size_t report_lengt
 srom_walked srom_clear(srom_walk walk);
 
 /* ---- Sheets ---- */
+
+/*
+ * A sheet says what an image of one controller holds, without what can be worked out: CRCs, offsets, lengths of blocks. Words
+ * stand low byte first. N is the number of blocks, T the sum of the body sizes, and a sheet has exactly 34 + 3 * N + T bytes:
+ *
+ *     byte        holds
+ *     0           N
+ *     1           T
+ *     2 to 17     bytes 0 to 15 of the ID block
+ *     18          byte 17 of the ID block (byte 16 is the ID CRC)
+ *     19          version, 3 or 4
+ *     20 to 25    station address, most significant byte first
+ *     26          device number
+ *     27, 28      chip (word), its decimal number
+ *     29, 30      connection type (word)
+ *     31          general purpose control byte; 0 but for the 21140
+ *     32, 33      the maker's bytes, 124 and 125 of the image
+ *     34          N kinds (words): an extended block's type, SROM_KIND_COMPACT or SROM_KIND_21041
+ *     34 + 2 * N  N body sizes (bytes)
+ *     34 + 3 * N  T bytes, the N bodies: an extended block without its length and its type, any other block whole
+ *
+ * Kinds, sizes and bodies stand in the order of block numbers. The blocks of an image stand from byte 33 to byte 123 at most,
+ * and a block has 3 bytes of the sheet beside its body. So a byte of a block comes to 4 bytes of the sheet at most, in the
+ * 21041's blocks of one byte, and SROM_LONGEST_SHEET is the length with 91 of those: 34 + 3 * 91 + 91.
+ */
 
 /*
  * Writes the image of a sheet: one controller, its leaf at byte 30, both CRCs, zeros elsewhere. The image is unchanged on a
@@ -184,7 +214,8 @@ typedef struct srom_made {
 
 /*
  * Makes the sheet of a tidy image, blocks of unknown types included. Bytes of the buffer behind the sheet are unchanged; on a
- * refusal all of them are. Writing the sheet gives the image back, and a sheet that was written comes back byte for byte.
+ * refusal all of them are. Writing the sheet gives the image back, and a sheet that was written comes back byte for byte. A
+ * buffer of SROM_LONGEST_SHEET bytes is long enough for every image.
  * Refusals: those of srom_read without 12, for controller 0 at the newest level, then 27, then 12.
  */
 srom_made srom_make_sheet(const uint8_t *image, size_t image_length, uint16_t chip, uint8_t *buffer, size_t buffer_length);

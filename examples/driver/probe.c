@@ -48,30 +48,56 @@ static uint8_t list_media(const uint8_t *image, srom_arguments arguments)
     return SROM_ACCEPTED;
 }
 
+/* A row of 0 and 1 as a report; how many bytes it has. */
+static size_t report_of(const char *links, uint8_t report[MOST_LINKS])
+{
+    size_t count = 0;
+    for (; links[count] != '\0' && count < MOST_LINKS; count++)
+        report[count] = (uint8_t)(links[count] - '0');
+    return count;
+}
+
+/* Why a look leaves a walk on its block; NULL where it chooses anew. */
+static const char *why_it_stays(srom_walk walk, const uint8_t *report)
+{
+    if (!walk.settled || walk.selected == SROM_NONE)
+        return NULL;
+    if (report[walk.selected] == 1)
+        return "whose link is up";
+    if (walk.connection == SROM_AUTOSENSE_ONCE)
+        return "since the connection type senses once";
+    if (walk.rows.active_invalid[walk.selected] == 1)
+        return "since it has Active_Invalid";
+    return NULL;
+}
+
+/* What an accepted look did. Any entry may be taken until the walk settles, then those without Active_Invalid. */
+static void print_step(srom_walk before, srom_walk after, const uint8_t *report)
+{
+    const char *stays = why_it_stays(before, report);
+    if (stays != NULL)
+        printf("stays on block %u, %s", (unsigned)after.selected, stays);
+    else if (after.selected == SROM_NONE)
+        printf("no medium, since none that may be taken is up and there is no default");
+    else if (report[after.selected] == 1)
+        printf("block %u, the first in table order that may be taken and is up", (unsigned)after.selected);
+    else
+        printf("block %u, the default, since none that may be taken is up", (unsigned)after.selected);
+    printf("; %s\n", after.settled ? "settled" : "not settled");
+}
+
 /* One look with a row of 0 and 1. */
 static srom_walked look(srom_walk walk, const char *links)
 {
     uint8_t report[MOST_LINKS];
-    size_t count = 0;
-    for (; links[count] != '\0' && count < MOST_LINKS; count++)
-        report[count] = (uint8_t)(links[count] - '0');
-    return srom_look(walk, report, count);
-}
-
-static void print_selection(const char *links, srom_walked seen, srom_walk before)
-{
+    size_t count = report_of(links, report);
+    srom_walked seen = srom_look(walk, report, count);
     printf("links %s: ", links);
-    if (seen.number != SROM_ACCEPTED)
-        printf("refused %u", (unsigned)seen.number);
-    else if (seen.walk.selected == SROM_NONE)
-        printf("no medium");
-    else if (seen.walk.selected == before.selected && before.settled)
-        printf("stays on block %u", (unsigned)seen.walk.selected);
-    else if (!seen.walk.settled)
-        printf("block %u, the default, since no link is up", (unsigned)seen.walk.selected);
+    if (seen.number == SROM_ACCEPTED)
+        print_step(walk, seen.walk, report);
     else
-        printf("block %u, the first in table order that may be taken and is up", (unsigned)seen.walk.selected);
-    printf("\n");
+        printf("refused %u\n", (unsigned)seen.number);
+    return seen;
 }
 
 static bool read_image(const char *name, uint8_t image[SROM_IMAGE_LENGTH])
@@ -100,10 +126,7 @@ int main(int argc, char **argv)
     if (list_media(image, arguments) != SROM_ACCEPTED)
         return 1;
     srom_walked walked = srom_load(srom_fresh(), image, SROM_IMAGE_LENGTH, arguments);
-    for (int i = 4; i < argc && walked.number == SROM_ACCEPTED; i++) {
-        srom_walk before = walked.walk;
-        walked = look(before, argv[i]);
-        print_selection(argv[i], walked, before);
-    }
+    for (int i = 4; i < argc && walked.number == SROM_ACCEPTED; i++)
+        walked = look(walked.walk, argv[i]);
     return walked.number == SROM_ACCEPTED && walked.walk.selected != SROM_NONE ? 0 : 1;
 }

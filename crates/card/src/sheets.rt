@@ -1,5 +1,4 @@
 // `card sheet` and `card write`: an image to its sheet, and a sheet to its image.
-use block::NEWEST_LEVEL;
 use console::output;
 use console::status;
 use reader::Arguments;
@@ -50,10 +49,10 @@ fn show_untidy(image: &[u8]) {
     }
 }
 
-// Makes the sheet of an image.
-pub fn make(image: &[u8], chip: u16, place: usize, force: bool) -> u8 {
+// Makes the sheet of an image, as the newest reader reads it for controller 0.
+pub fn make(image: &[u8], arguments: Arguments, place: usize, force: bool) -> u8 {
     let mut room = [0u8; ROOM];
-    let made = maker::make(image, chip, &mut room);
+    let made = maker::make(image, arguments.chip, &mut room);
     let number = made.number;
     if number == refusal::ACCEPTED {
         return save(part(&room, 0, made.length), place, force);
@@ -63,11 +62,6 @@ pub fn make(image: &[u8], chip: u16, place: usize, force: bool) -> u8 {
         show_untidy(image);
         return status::REFUSED;
     }
-    let arguments = Arguments {
-        chip,
-        controller: 0,
-        level: NEWEST_LEVEL,
-    };
     report::show_refused(image, arguments, number);
     status::REFUSED
 }

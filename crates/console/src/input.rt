@@ -2,7 +2,7 @@
 use crate::arguments::complain;
 use crate::arguments::is_word;
 use crate::arguments::suggest;
-use crate::hexadecimal;
+use hexadecimal::held::ROOM;
 use libc::STDIN_FILENO;
 use text::line;
 use text::slice::part;
@@ -10,25 +10,25 @@ use text::slice::part;
 // The bytes of a file, or that there are none to be had, which has been said.
 pub struct Input {
     pub found: bool,
-    pub bytes: [u8; hexadecimal::ROOM],
+    pub bytes: [u8; ROOM],
     pub length: usize,
 }
 
 fn nothing() -> Input {
     Input {
         found: false,
-        bytes: [0; hexadecimal::ROOM],
+        bytes: [0; ROOM],
         length: 0,
     }
 }
 
 fn refuse(what: &[u8], place: usize) -> Input {
     complain(what, place);
-    suggest(b"expected raw bytes, or text as ethtool -e, hexdump -C or xxd print it");
+    suggest(b"expected raw bytes, or hexadecimal text; ./card help names its forms");
     nothing()
 }
 
-fn refuse_line(problem: u8, place: usize) -> Input {
+fn refuse_text(problem: u8, place: usize) -> Input {
     if problem == hexadecimal::NO_OFFSET {
         return refuse(b"found a line that no offset begins", place);
     }
@@ -36,7 +36,10 @@ fn refuse_line(problem: u8, place: usize) -> Input {
         return refuse(b"found an offset that is not the next byte's", place);
     }
     if problem == hexadecimal::NO_BYTE {
-        return refuse(b"found no byte of two digits where one belongs", place);
+        return refuse(b"found no byte or word where one belongs", place);
+    }
+    if problem == hexadecimal::NO_BYTES {
+        return refuse(b"found text that is not hexadecimal", place);
     }
     refuse(b"found more than 1,024 bytes", place)
 }
@@ -45,7 +48,7 @@ fn raw(source: &[u8]) -> Input {
     let mut input = nothing();
     let mut i = 0;
     while i < source.len() {
-        if hexadecimal::ROOM <= i {
+        if ROOM <= i {
             return input;
         }
         input.bytes[i] = source[i];
@@ -56,21 +59,29 @@ fn raw(source: &[u8]) -> Input {
     input
 }
 
+// The line with which something is wrong.
+fn show_line(source: &[u8], number: u32) {
+    let line = line::of(b"      found in line #: ", [number as u64, 0, 0, 0]);
+    line.text(part(text::line_number(source, number), 0, 54))
+        .complain();
+}
+
 fn decoded(source: &[u8], place: usize) -> Input {
-    let decoded = hexadecimal::decode(source);
-    let problem = decoded.problem;
+    let reading = hexadecimal::decode(source);
+    let held = reading.held;
+    let problem = held.problem;
     if problem == hexadecimal::FINE {
-        let bytes = decoded.bytes;
+        let bytes = held.bytes;
         return Input {
             found: true,
             bytes,
-            length: decoded.length,
+            length: held.length,
         };
     }
-    let input = refuse_line(problem, place);
-    let line = line::of(b"      found in line #: ", [decoded.line as u64, 0, 0, 0]);
-    line.text(part(text::line_number(source, decoded.line), 0, 56))
-        .complain();
+    let input = refuse_text(problem, place);
+    if problem != hexadecimal::NO_BYTES {
+        show_line(source, reading.line);
+    }
     input
 }
 
@@ -81,7 +92,7 @@ fn told_apart(source: &[u8], place: usize) -> Input {
     if text::is_text(source) {
         return decoded(source, place);
     }
-    if hexadecimal::ROOM < source.len() {
+    if ROOM < source.len() {
         return refuse(b"found more than 1,024 bytes", place);
     }
     raw(source)

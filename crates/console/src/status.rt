@@ -1,4 +1,6 @@
 // What the program ends with.
+ghost use mathlib.Core.Path.{_≡_};
+ghost use Rattle.console.specs.Status.{statusOf};
 
 // The image or sheet is accepted.
 pub const ACCEPTED: u8 = 0;
@@ -21,7 +23,9 @@ pub fn report(status: u8) {
     }
 }
 
-pub fn of(accepted: bool) -> u8 {
+pub fn of(accepted: bool) -> u8
+    ensures { λ r. ⌜ r ≡ statusOf accepted ⌝ }
+{
     if accepted {
         return ACCEPTED;
     }

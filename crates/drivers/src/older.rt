@@ -2,7 +2,6 @@
 use block::NEWEST_LEVEL;
 use reader::Answer;
 use reader::Arguments;
-use report::library;
 use report::words;
 use rom::refusal;
 use survey::Place;
@@ -26,15 +25,16 @@ fn at_level(arguments: Arguments, level: u8) -> Arguments {
     }
 }
 
-fn column(level: u8) -> usize {
-    FIRST + WIDTH * (level as usize)
+// How many levels stand side by side: those up to the reader's.
+fn columns(arguments: Arguments) -> u8 {
+    if NEWEST_LEVEL < arguments.level {
+        return NEWEST_LEVEL + 1;
+    }
+    arguments.level + 1
 }
 
-fn is_known(kind: u16, level: u8) -> bool {
-    if block::KIND_COMPACT <= kind {
-        return true;
-    }
-    kind < (level as u16)
+fn column(level: u8) -> usize {
+    FIRST + WIDTH * (level as usize)
 }
 
 // ## A row for each block
@@ -54,13 +54,14 @@ fn entry_at(offsets: &[u16], start: u16) -> u64 {
 // What a level makes of a block: the number of its entry, a reset, or '-' where it does not know the type. Nothing where it
 // refuses the image.
 fn cell(line: Line, image: &[u8], arguments: Arguments, place: Place) -> Line {
+    let mut kinds = [0u16; 255];
     let mut offsets = [0u16; 255];
-    let answer = library::read(image, arguments, &mut offsets);
+    let answer = reader::read(image, arguments, &mut kinds, &mut offsets);
     let end = column(arguments.level);
     if answer.number != refusal::ACCEPTED {
         return line;
     }
-    let known = is_known(place.kind, arguments.level);
+    let known = report::is_known(place.kind, arguments.level);
     if !known {
         return line.right_text(b"-", end);
     }
@@ -71,9 +72,10 @@ fn cell(line: Line, image: &[u8], arguments: Arguments, place: Place) -> Line {
 }
 
 fn cells(line: Line, image: &[u8], arguments: Arguments, place: Place) -> Line {
+    let columns = columns(arguments);
     let mut line = line;
     let mut level = 0u8;
-    while level <= NEWEST_LEVEL {
+    while level < columns {
         line = cell(line, image, at_level(arguments, level), place);
         level += 1;
     }
@@ -84,7 +86,7 @@ fn block_words(line: Line, bytes: &[u8], kind: u16) -> Line {
     if kind == 5 {
         return line.text(b"reset");
     }
-    let known = is_known(kind, NEWEST_LEVEL);
+    let known = report::is_known(kind, NEWEST_LEVEL);
     if !known {
         return line.with(b"type #", [kind as u64, 0, 0, 0]);
     }
@@ -92,11 +94,21 @@ fn block_words(line: Line, bytes: &[u8], kind: u16) -> Line {
 }
 
 fn show_block(image: &[u8], arguments: Arguments, number: u8) {
-    let place = library::block_place(image, arguments, number);
-    let bytes = library::block_bytes(image, place);
+    let place = survey::block_place(image, arguments, number);
+    let bytes = report::block_bytes(image, place);
     let line = line::of(b"  block # at #", [number as u64, place.start as u64, 0, 0]).to(19);
     let line = block_words(line, bytes, place.kind);
     cells(line, image, arguments, place).print();
+}
+
+// How many blocks the reader reaches: those up to the one that it refuses.
+fn reached(image: &[u8], arguments: Arguments) -> u8 {
+    let refused = survey::refused_block(image, arguments);
+    let blocks = header::read_header(image, arguments).blocks;
+    if refused < blocks {
+        return refused + 1;
+    }
+    blocks
 }
 
 // In autosense order.
@@ -149,20 +161,21 @@ fn answer_cell(line: Line, answer: Answer, shown: u8, end: usize) -> Line {
 }
 
 fn show_row(name: &[u8], image: &[u8], arguments: Arguments, shown: u8) {
+    let columns = columns(arguments);
     let mut line = Line::new().to(2).text(name);
     let mut level = 0u8;
-    while level <= NEWEST_LEVEL {
-        let answer = library::judge(image, at_level(arguments, level));
+    while level < columns {
+        let answer = reader::judge(image, at_level(arguments, level));
         line = answer_cell(line, answer, shown, column(level));
         level += 1;
     }
     line.print();
 }
 
-fn show_levels() {
+fn show_levels(columns: u8) {
     let mut line = Line::new().text(b"  level of the reader");
     let mut level = 0u8;
-    while level <= NEWEST_LEVEL {
+    while level < columns {
         line = line.right(level as u64, column(level));
         level += 1;
     }
@@ -170,7 +183,7 @@ fn show_levels() {
 }
 
 fn show_columns(image: &[u8], arguments: Arguments, blocks: u8) {
-    show_levels();
+    show_levels(columns(arguments));
     show_row(b"verdict", image, arguments, VERDICT);
     show_blocks(image, arguments, blocks);
     show_row(b"listed", image, arguments, LISTED);
@@ -181,30 +194,31 @@ fn show_columns(image: &[u8], arguments: Arguments, blocks: u8) {
 
 // ## Whether an older driver walks alike: demand 3's conditions, in words
 
-// Whether the newest reader lists a block of a kind and one of a level does not know it.
-fn is_removed(kind: u16, level: u8) -> bool {
-    let known = is_known(kind, level);
+// Whether a reader lists a block of a kind and an older one does not know it.
+fn is_removed(kind: u16, level: u8, older: u8) -> bool {
+    let known = report::is_known(kind, older);
     if known {
         return false;
     }
     if kind == 5 {
         return false;
     }
-    is_known(kind, NEWEST_LEVEL)
+    report::is_known(kind, level)
 }
 
 fn number_words(line: Line, number: u8) -> Line {
     line.with(b" #", [number as u64, 0, 0, 0])
 }
 
-// The numbers of the removed blocks, as many as a sentence names.
-fn removed_words(line: Line, image: &[u8], arguments: Arguments, level: u8, blocks: u8) -> Line {
+// The numbers of the blocks that an older reader does not list, as many as a sentence names.
+fn removed_words(line: Line, image: &[u8], arguments: Arguments, older: u8, blocks: u8) -> Line {
     let mut line = line;
     let mut named = 0u8;
     let mut left = blocks;
     while 0 < left {
         left -= 1;
-        let removed = is_removed(library::block_place(image, arguments, left).kind, level);
+        let kind = survey::block_place(image, arguments, left).kind;
+        let removed = is_removed(kind, arguments.level, older);
         if removed {
             if NAMED <= named {
                 return line.text(b" ..");
@@ -216,66 +230,106 @@ fn removed_words(line: Line, image: &[u8], arguments: Arguments, level: u8, bloc
     line
 }
 
-fn show_level(image: &[u8], arguments: Arguments, newest: Answer, level: u8) {
-    let older = library::judge(image, at_level(arguments, level));
+// Whether a reader of an older level walks as the one with this answer.
+fn show_level(image: &[u8], arguments: Arguments, answer: Answer, level: u8) {
+    let older = reader::judge(image, at_level(arguments, level));
     let line = line::of(b"  level #: ", [level as u64, 0, 0, 0]);
-    if older.listed == newest.listed {
+    if older.listed == answer.listed {
         line.text(b"yes, whatever links are up").print();
         return;
     }
-    if older.default_number == newest.default_number {
+    if older.default_number == answer.default_number {
         let line = line.text(b"yes, while no link is up at block");
-        removed_words(line, image, arguments, level, newest.blocks).print();
+        removed_words(line, image, arguments, level, answer.blocks).print();
         return;
     }
     line.with(
             b"no: with no link up it misses the default, block #,",
-            [newest.default_number as u64, 0, 0, 0],
+            [answer.default_number as u64, 0, 0, 0],
         )
         .print();
     let line = Line::new()
         .to(11)
         .text(b"and so it may with a link up at block");
-    removed_words(line, image, arguments, level, newest.blocks).print();
+    removed_words(line, image, arguments, level, answer.blocks).print();
 }
 
 // Whether looks serve the card's connection type.
 fn is_served(image: &[u8], arguments: Arguments) -> bool {
-    let walk = library::load(image, arguments).walk;
+    let walk = autosense::load(autosense::fresh(), image, arguments).walk;
     let report = [0u8; 255];
-    library::look(walk, &report).number != refusal::FIXED_TYPE
+    autosense::look(walk, &report).number != refusal::FIXED_TYPE
 }
 
-fn show_sentences(image: &[u8], arguments: Arguments, newest: Answer) {
+fn show_question(level: u8) {
+    if level == 0 {
+        say(b"No driver is older than one of level 0.");
+    } else if level == NEWEST_LEVEL {
+        say(b"Would a station with an older driver walk as with the newest?");
+    } else {
+        line::of(
+            b"Would a station with an older driver walk as with one of level #?",
+            [level as u64, 0, 0, 0],
+        ).print();
+    }
+}
+
+fn show_sentences(image: &[u8], arguments: Arguments, answer: Answer) {
     let served = is_served(image, arguments);
     if !served {
         say(b"The connection type is fixed, so that no driver looks: all stand alike.");
         return;
     }
-    say(b"Would a station with an older driver walk as with the newest?");
+    show_question(arguments.level);
     let mut level = 0u8;
-    while level < NEWEST_LEVEL {
-        show_level(image, arguments, newest, level);
+    while level < arguments.level {
+        show_level(image, arguments, answer, level);
         level += 1;
     }
 }
 
-// Shows what each level sees; whether the newest accepts the image.
-pub fn show(image: &[u8], arguments: Arguments) -> bool {
-    let newest = library::judge(image, arguments);
-    let blocks = library::block_count(image, arguments);
-    if newest.number != refusal::ACCEPTED {
-        report::show_refused(image, arguments, newest.number);
-        say(b"");
-        show_columns(image, arguments, blocks);
-        say(b"");
-        say(b"The newest reader refuses this card, so nothing is promised of older ones.");
+// Whether a reading is refused for a block.
+fn is_for_block(number: u8) -> bool {
+    if number <= refusal::CONNECTION_TYPE {
         return false;
     }
-    report::arguments_words(Line::new().text(b"ACCEPTED  "), arguments).print();
+    number < refusal::CLASH
+}
+
+fn show_no_promise(level: u8, number: u8) {
+    if is_for_block(number) {
+        say(b"Blocks behind the refused one are not shown.");
+    }
+    if level == NEWEST_LEVEL {
+        say(b"The newest reader refuses this card, so nothing is promised of older ones.");
+    } else {
+        line::of(
+            b"A reader of level # refuses this card, so nothing is promised of older ones.",
+            [level as u64, 0, 0, 0],
+        ).print();
+    }
+}
+
+// Shows what each level up to the reader's sees; whether the reader accepts the image. A level that no reader has shows
+// nothing but that.
+pub fn show(image: &[u8], arguments: Arguments) -> bool {
+    let answer = reader::judge(image, arguments);
+    let accepted = answer.number == refusal::ACCEPTED;
+    if accepted {
+        report::arguments_words(Line::new().text(b"ACCEPTED  "), arguments).print();
+    } else {
+        report::show_refused(image, arguments, answer.number);
+    }
+    if answer.number == refusal::LEVEL {
+        return false;
+    }
     say(b"");
-    show_columns(image, arguments, blocks);
+    show_columns(image, arguments, reached(image, arguments));
     say(b"");
-    show_sentences(image, arguments, newest);
-    true
+    if accepted {
+        show_sentences(image, arguments, answer);
+    } else {
+        show_no_promise(arguments.level, answer.number);
+    }
+    accepted
 }

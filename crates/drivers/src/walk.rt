@@ -1,18 +1,15 @@
 // `card walk`: looks with given link reports, and where the walk stands after each.
 use autosense::Walk;
 use autosense::Walked;
-use block::NEWEST_LEVEL;
 use console::arguments;
+use console::option;
 use console::status;
+use libc::STDOUT_FILENO;
 use reader::Arguments;
-use report::library;
 use report::words;
 use rom::refusal;
 use text::line::Line;
 use text::slice::part;
-
-// The word that is the first report.
-const FIRST: usize = 4;
 
 // The longest report that is looked at, and how much of it is shown again.
 const LONGEST: usize = 255;
@@ -58,23 +55,41 @@ fn report_at(place: usize) -> Report {
     report_of(&room[..length])
 }
 
-// The first word that should be a report and is none, or how many words there are.
-fn first_wrong(words: usize) -> usize {
-    let mut place = FIRST;
-    while place < words {
-        let found = report_at(place).found;
-        if !found {
+// The role of a word behind one of a role. A plain one is a report.
+fn role_at(place: usize, before: u8) -> u8 {
+    let mut room = [0u8; LONGEST];
+    let length = os::arg(place, &mut room);
+    option::role_of(&room[..length], before)
+}
+
+// Whether a word of a role should be a report and is none.
+fn is_wrong(place: usize, role: u8) -> bool {
+    if role != option::PLAIN {
+        return false;
+    }
+    let found = report_at(place).found;
+    !found
+}
+
+// The first such word from a place on, or the words' end.
+fn first_wrong(first: usize, end: usize) -> usize {
+    let mut role = option::PLAIN;
+    let mut place = first;
+    while place < end {
+        role = role_at(place, role);
+        let wrong = is_wrong(place, role);
+        if wrong {
             return place;
         }
         place += 1;
     }
-    words
+    end
 }
 
 fn look(walk: Walk, place: usize) -> Walked {
     let report = report_at(place);
     let links = report.links;
-    library::look(walk, part(&links, 0, report.length))
+    autosense::look(walk, part(&links, 0, report.length))
 }
 
 // The start of a look's line: its report.
@@ -92,12 +107,12 @@ fn selected_words(line: Line, image: &[u8], arguments: Arguments, selected: u8) 
     if selected == rom::NONE {
         return line.text(b"none selected");
     }
-    let place = library::block_place(image, arguments, selected);
+    let place = survey::block_place(image, arguments, selected);
     let line = line.with(
         b"block # at byte #, ",
         [selected as u64, place.start as u64, 0, 0],
     );
-    words::medium_words(line, library::block_bytes(image, place), place.kind)
+    words::medium_words(line, report::block_bytes(image, place), place.kind)
 }
 
 fn show_state(line: Line, image: &[u8], arguments: Arguments, walk: Walk) {
@@ -117,45 +132,45 @@ fn show_state(line: Line, image: &[u8], arguments: Arguments, walk: Walk) {
 fn show_look(image: &[u8], arguments: Arguments, place: usize, walked: Walked) {
     let line = report_words(place);
     if walked.number != refusal::ACCEPTED {
-        let line = line.with(b"REFUSED #: ", [walked.number as u64, 0, 0, 0]);
-        words::refusal_words(line, walked.number).print();
+        line.show(STDOUT_FILENO);
+        report::show_refusal(walked.number);
         return;
     }
     let walk = walked.walk;
     show_state(line, image, arguments, walk);
 }
 
-// A look with each report; whether all are accepted.
-fn show_looks(image: &[u8], arguments: Arguments, loaded: Walk, words: usize) -> bool {
+// A look with each report from a place on; whether all are accepted.
+fn show_looks(image: &[u8], arguments: Arguments, loaded: Walk, first: usize, end: usize) -> bool {
     let mut walk = loaded;
     let mut accepted = true;
-    let mut place = FIRST;
-    while place < words {
-        let walked = look(walk, place);
-        show_look(image, arguments, place, walked);
-        if walked.number != refusal::ACCEPTED {
-            accepted = false;
+    let mut role = option::PLAIN;
+    let mut place = first;
+    while place < end {
+        role = role_at(place, role);
+        if role == option::PLAIN {
+            let walked = look(walk, place);
+            show_look(image, arguments, place, walked);
+            if walked.number != refusal::ACCEPTED {
+                accepted = false;
+            }
+            walk = walked.walk;
         }
-        walk = walked.walk;
         place += 1;
     }
     accepted
 }
 
-// Loads the image and takes the looks; the status.
-pub fn show(image: &[u8], chip: u16, words: usize) -> u8 {
-    let arguments = Arguments {
-        chip,
-        controller: 0,
-        level: NEWEST_LEVEL,
-    };
-    let wrong = first_wrong(words);
-    if wrong < words {
+// Loads the image and takes the looks, whose first report is a word; the status.
+pub fn show(image: &[u8], arguments: Arguments, first: usize) -> u8 {
+    let end = os::arg_count();
+    let wrong = first_wrong(first, end);
+    if wrong < end {
         arguments::complain(b"no row of 0 and 1", wrong);
         arguments::suggest(b"a REPORT has a digit for each block: 1 where its link is up");
         return status::USAGE;
     }
-    let loaded = library::load(image, arguments);
+    let loaded = autosense::load(autosense::fresh(), image, arguments);
     if loaded.number != refusal::ACCEPTED {
         report::show_refused(image, arguments, loaded.number);
         return status::REFUSED;
@@ -164,5 +179,5 @@ pub fn show(image: &[u8], chip: u16, words: usize) -> u8 {
     report::arguments_words(Line::new().text(b"LOADED  "), arguments)
         .with(b", # blocks", [walk.blocks as u64, 0, 0, 0])
         .print();
-    status::of(show_looks(image, arguments, walk, words))
+    status::of(show_looks(image, arguments, walk, first, end))
 }

@@ -1,8 +1,8 @@
 // `card read`: the verdict, and what the card says.
 use block::Block;
+use libc::STDOUT_FILENO;
 use reader::Answer;
 use reader::Arguments;
-use report::library;
 use report::words;
 use rom::refusal;
 use survey::Place;
@@ -24,11 +24,12 @@ fn show_header(image: &[u8], answer: Answer) {
     line::of(b"  format version   #", [version, 0, 0, 0]).print();
     line::of(b"  controllers      #", [controllers, 0, 0, 0]).print();
     report::address_words(Line::new().text(b"  station address  "), answer.address).print();
-    let line = line::of(
+    line::of(
         b"  connection type  @, ",
         [answer.connection as u64, 0, 0, 0],
-    );
-    words::connection_words(line, answer.connection).print();
+    ).show(STDOUT_FILENO);
+    words::show_connection(answer.connection, STDOUT_FILENO);
+    say(b"");
 }
 
 fn show_counts(arguments: Arguments, answer: Answer) {
@@ -208,7 +209,7 @@ fn marks(line: Line, b: Block) -> Line {
 fn number_at(image: &[u8], arguments: Arguments, blocks: u8, start: u16) -> u8 {
     let mut k = 0u8;
     while k < blocks {
-        if library::block_place(image, arguments, k).start == start {
+        if survey::block_place(image, arguments, k).start == start {
             return k;
         }
         k += 1;
@@ -217,12 +218,12 @@ fn number_at(image: &[u8], arguments: Arguments, blocks: u8, start: u16) -> u8 {
 }
 
 fn show_entry(image: &[u8], arguments: Arguments, entry: usize, number: u8) {
-    let place = library::block_place(image, arguments, number);
-    let bytes = library::block_bytes(image, place);
+    let place = survey::block_place(image, arguments, number);
+    let bytes = report::block_bytes(image, place);
     let line = Line::new().right(entry as u64, 4).to(6);
     let line = report::place_words(line, number, place).text(b": ");
     let line = words::medium_words(line, bytes, place.kind);
-    marks(line, library::block_at(image, arguments, place.start)).print();
+    marks(line, report::block_at(image, arguments, place.start)).print();
     show_fields(bytes, place.kind);
 }
 
@@ -269,12 +270,12 @@ fn show_if(image: &[u8], place: Place, number: u8, b: Block, resets: bool) {
         Block::Listed(_) => {}
         Block::Reset { size: _ } => {
             if resets {
-                show_reset(place, number, library::block_bytes(image, place));
+                show_reset(place, number, report::block_bytes(image, place));
             }
         }
         Block::Unknown { size: _ } => {
             if !resets {
-                show_unknown(place, number, library::block_bytes(image, place));
+                show_unknown(place, number, report::block_bytes(image, place));
             }
         }
         Block::Refused(_) => {}
@@ -284,8 +285,8 @@ fn show_if(image: &[u8], place: Place, number: u8, b: Block, resets: bool) {
 fn show_sort(image: &[u8], arguments: Arguments, blocks: u8, resets: bool) {
     let mut k = 0u8;
     while k < blocks {
-        let place = library::block_place(image, arguments, k);
-        let b = library::block_at(image, arguments, place.start);
+        let place = survey::block_place(image, arguments, k);
+        let b = report::block_at(image, arguments, place.start);
         show_if(image, place, k, b, resets);
         k += 1;
     }
@@ -309,8 +310,9 @@ fn show_unlisted(image: &[u8], arguments: Arguments, answer: Answer) {
 
 // Reads the image and shows what it says; whether it is accepted.
 pub fn show(image: &[u8], arguments: Arguments) -> bool {
+    let mut kinds = [0u16; 255];
     let mut offsets = [0u16; 255];
-    let answer = library::read(image, arguments, &mut offsets);
+    let answer = reader::read(image, arguments, &mut kinds, &mut offsets);
     if answer.number != refusal::ACCEPTED {
         report::show_refused(image, arguments, answer.number);
         return false;

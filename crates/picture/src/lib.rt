@@ -4,7 +4,6 @@ use block::NEWEST_LEVEL;
 use console::output;
 use console::status;
 use reader::Arguments;
-use report::library;
 use report::words;
 use rom::refusal;
 use survey::Place;
@@ -186,9 +185,9 @@ fn with_blocks(cells: Cells, image: &[u8], arguments: Arguments, blocks: u8) -> 
     let mut cells = cells;
     let mut k = 0u8;
     while k < blocks {
-        let place = library::block_place(image, arguments, k);
-        let field = field_of(library::block_at(image, arguments, place.start));
-        let length = library::block_bytes(image, place).len();
+        let place = survey::block_place(image, arguments, k);
+        let field = field_of(report::block_at(image, arguments, place.start));
+        let length = report::block_bytes(image, place).len();
         cells = cells.painted(field, k, place.start as usize, length);
         if field == REFUSED {
             return cells;
@@ -215,15 +214,8 @@ fn with_controller(cells: Cells, image: &[u8], arguments: Arguments) -> Cells {
     with_blocks(cells, image, arguments, header.blocks)
 }
 
-fn newest(chip: u16, controller: u8) -> Arguments {
-    Arguments {
-        chip,
-        controller,
-        level: NEWEST_LEVEL,
-    }
-}
-
-fn cells_of(image: &[u8], chip: u16) -> Cells {
+// All controllers' leaves, for a chip and a level.
+fn cells_of(image: &[u8], chip: u16, level: u8) -> Cells {
     let count = byte_at(image, rom::CONTROLLER_COUNT_AT);
     let mut cells = Cells::none().framed();
     if rom::MOST_CONTROLLERS < count {
@@ -232,7 +224,12 @@ fn cells_of(image: &[u8], chip: u16) -> Cells {
     let mut left = count;
     while 0 < left {
         left -= 1;
-        cells = with_controller(cells, image, newest(chip, left));
+        let arguments = Arguments {
+            chip,
+            controller: left,
+            level,
+        };
+        cells = with_controller(cells, image, arguments);
     }
     cells.painted(RESERVED, 0, rom::CONTROLLERS_AT + 3 * (count as usize), 1)
 }
@@ -352,41 +349,45 @@ fn draw_title(file: i32, arguments: Arguments, number: u8) {
     );
     let line = text_at(b"words", 60, 64);
     if number == refusal::ACCEPTED {
+        let line = line.with(
+            b"accepted by a reader of level # for controller #",
+            [arguments.level as u64, arguments.controller as u64, 0, 0],
+        );
+        end_text(line, file);
+    } else {
+        line.with(b"refused #: ", [number as u64, 0, 0, 0])
+            .show(file);
+        words::show_refusal(number, file);
+        end_text(Line::new(), file);
+    }
+}
+
+fn draw_unknown(file: i32, number: u8, place: Place, level: u8, y: u64) {
+    let line = report::place_words(text_at(b"words", 60, y), number, place);
+    if level == NEWEST_LEVEL {
         end_text(
-            line.text(b"accepted by the newest reader for controller 0"),
+            line.text(b", of a type that the newest reader steps over"),
             file,
         );
     } else {
-        let line = line.with(b"refused #: ", [number as u64, 0, 0, 0]);
-        end_text(words::refusal_words(line, number), file);
+        let line = line.with(
+            b", of a type that a reader of level # steps over",
+            [level as u64, 0, 0, 0],
+        );
+        end_text(line, file);
     }
 }
 
-fn draw_unknown(file: i32, number: u8, place: Place, y: u64) {
-    let line = report::place_words(text_at(b"words", 60, y), number, place);
-    end_text(
-        line.text(b", of a type that the newest reader steps over"),
-        file,
-    );
-}
-
-fn is_unknown(kind: u16) -> bool {
-    if kind < (NEWEST_LEVEL as u16) {
-        return false;
-    }
-    kind < block::KIND_COMPACT
-}
-
-// The first blocks of controller 0 that the newest reader steps over, as many as there is room for.
+// The first blocks of the controller that the reader steps over, as many as there is room for.
 fn draw_unknowns(file: i32, image: &[u8], arguments: Arguments, blocks: u8) {
     let mut drawn = 0u64;
     let mut k = 0u8;
     while k < blocks {
-        let place = library::block_place(image, arguments, k);
-        let unknown = is_unknown(place.kind);
-        if unknown {
+        let place = survey::block_place(image, arguments, k);
+        let known = report::is_known(place.kind, arguments.level);
+        if !known {
             if drawn < 3 {
-                draw_unknown(file, k, place, 730 + 22 * drawn);
+                draw_unknown(file, k, place, arguments.level, 730 + 22 * drawn);
                 drawn += 1;
             }
         }
@@ -407,21 +408,24 @@ fn draw(file: i32, image: &[u8], arguments: Arguments, number: u8) -> bool {
     );
     draw_title(file, arguments, number);
     draw_offsets(file);
-    draw_cells(file, image, cells_of(image, arguments.chip));
+    draw_cells(
+        file,
+        image,
+        cells_of(image, arguments.chip, arguments.level),
+    );
     draw_keys(file);
     draw_unknowns(
         file,
         image,
         arguments,
-        library::block_count(image, arguments),
+        header::read_header(image, arguments).blocks,
     );
     io::write_all(file, b"</svg>\n")
 }
 
 // Draws the picture of an image to the file that a word names. An image of another length has none.
-pub fn show(image: &[u8], chip: u16, place: usize, force: bool) -> u8 {
-    let arguments = newest(chip, 0);
-    let number = library::judge(image, arguments).number;
+pub fn show(image: &[u8], arguments: Arguments, place: usize, force: bool) -> u8 {
+    let number = reader::judge(image, arguments).number;
     if number != refusal::ACCEPTED {
         report::show_refused(image, arguments, number);
     }

@@ -1,15 +1,26 @@
 // Why a reading is refused, and where.
-pub mod library;
 pub mod words;
 
 use block::Block;
+use block::chip;
+use libc::STDOUT_FILENO;
 use reader::Arguments;
 use rom::refusal;
 use survey::Place;
 use text::line;
 use text::line::Line;
+use text::line::say;
 use text::slice::byte_at;
+use text::slice::from;
+use text::slice::part;
 use text::slice::word_at;
+ghost use mathlib.Core.Path.{_≡_};
+ghost use mathlib.Core.List.{_++_};
+ghost use Rattle.text.specs.Written.{textOf, fitted};
+ghost use Rattle.block.specs.Block.{isKnown};
+ghost use Rattle.header.specs.Image.{leafAt};
+ghost use Rattle.report.specs.Blocks.{blockFrom, bytesAt};
+ghost use Rattle.report.specs.Words.{threeBytes, addressWords, argumentsWords, placeWords};
 
 // ## Parts of an image
 
@@ -17,28 +28,34 @@ fn byte_of(image: &[u8], at: usize) -> u64 {
     byte_at(image, at) as u64
 }
 
-fn leaf_offset_at(controller: u8) -> usize {
-    rom::CONTROLLERS_AT + 3 * (controller as usize) + 1
-}
-
-pub fn leaf_of(image: &[u8], controller: u8) -> u16 {
-    word_at(image, leaf_offset_at(controller))
+// Where a controller's leaf starts.
+pub fn leaf_of(image: &[u8], controller: u8) -> u16
+    ensures { λ r. ⌜ r ≡ leafAt (now (image .entry)) controller ⌝ }
+{
+    word_at(image, rom::CONTROLLERS_AT + 3 * (controller as usize) + 1)
 }
 
 // ## Parts of a line
 
-// xx:xx:xx:xx:xx:xx
-pub fn address_words(line: Line, address: u64) -> Line {
-    let high = address / 0x100_0000;
-    let low = address % 0x100_0000;
-    line.with(
-            b"%:%:%:",
-            [high / 0x1_0000 % 256, high / 0x100 % 256, high % 256, 0],
-        )
-        .with(b"%:%:%", [low / 0x1_0000, low / 0x100 % 256, low % 256, 0])
+// The lower three bytes of a number, high byte first.
+fn three_bytes(n: u64) -> [u64; 4]
+    ensures { λ r. ⌜ r ≡ threeBytes n ⌝ }
+{
+    [n / 0x1_0000 % 256, n / 0x100 % 256, n % 256, 0]
 }
 
-pub fn arguments_words(line: Line, arguments: Arguments) -> Line {
+// xx:xx:xx:xx:xx:xx
+pub fn address_words(line: Line, address: u64) -> Line
+    ensures { λ r. ⌜ textOf r ≡ fitted (textOf line ++ addressWords address) ⌝ }
+{
+    let high = address / 0x100_0000;
+    line.with(b"%:%:%:", three_bytes(high))
+        .with(b"%:%:%", three_bytes(address))
+}
+
+pub fn arguments_words(line: Line, arguments: Arguments) -> Line
+    ensures { λ r. ⌜ textOf r ≡ fitted (textOf line ++ argumentsWords arguments) ⌝ }
+{
     line.with(
         b"chip #, controller #, level #",
         [
@@ -50,7 +67,9 @@ pub fn arguments_words(line: Line, arguments: Arguments) -> Line {
     )
 }
 
-pub fn place_words(line: Line, number: u8, place: Place) -> Line {
+pub fn place_words(line: Line, number: u8, place: Place) -> Line
+    ensures { λ r. ⌜ textOf r ≡ fitted (textOf line ++ placeWords number place) ⌝ }
+{
     let line = line.with(
         b"block # at byte #, ",
         [number as u64, place.start as u64, 0, 0],
@@ -77,13 +96,40 @@ pub fn show_bytes(bytes: &[u8]) {
 
 // ## Blocks
 
+// Whether a reader of a level knows a kind.
+pub fn is_known(kind: u16, level: u8) -> bool
+    ensures { λ r. ⌜ r ≡ isKnown level kind ⌝ }
+{
+    if block::KIND_COMPACT <= kind {
+        return true;
+    }
+    kind < (level as u16)
+}
+
+// What the reader finds the block at a byte to be.
+pub fn block_at(image: &[u8], arguments: Arguments, start: u16) -> Block
+    ensures { λ r. ⌜ r ≡ blockFrom (now (image .entry)) arguments start ⌝ }
+{
+    let row = chip::row_of(arguments.chip);
+    let leaves = part(image, 0, rom::LEAVES_END);
+    block::judge_block(from(leaves, start as usize), row, arguments.level)
+}
+
+// A block's bytes, as far as leaves go.
+pub fn block_bytes(image: &[u8], place: Place) -> &[u8]
+    ensures { λ r. ⌜ now r ≡ bytesAt (now (image .entry)) place ⌝ }
+{
+    let leaves = part(image, 0, rom::LEAVES_END);
+    part(leaves, place.start as usize, place.size as usize)
+}
+
 fn show_refused_block(image: &[u8], arguments: Arguments) {
-    let number = library::refused_block(image, arguments);
-    let place = library::block_place(image, arguments, number);
+    let number = survey::refused_block(image, arguments);
+    let place = survey::block_place(image, arguments, number);
     place_words(Line::new().to(2), number, place)
         .byte(b':')
         .print();
-    show_bytes(library::block_bytes(image, place));
+    show_bytes(block_bytes(image, place));
 }
 
 // What part a block has in a clash; nothing is shown where it has none.
@@ -105,9 +151,9 @@ fn show_clashing(b: Block, line: Line) {
 fn show_clashes(image: &[u8], arguments: Arguments, blocks: u8) {
     let mut k = 0u8;
     while k < blocks {
-        let place = library::block_place(image, arguments, k);
+        let place = survey::block_place(image, arguments, k);
         let line = place_words(Line::new().to(2), k, place);
-        show_clashing(library::block_at(image, arguments, place.start), line);
+        show_clashing(block_at(image, arguments, place.start), line);
         k += 1;
     }
 }
@@ -233,14 +279,19 @@ fn show_where(image: &[u8], arguments: Arguments, number: u8) {
     } else if number < refusal::CLASH {
         show_refused_block(image, arguments);
     } else {
-        show_clashes(image, arguments, library::block_count(image, arguments));
+        show_clashes(
+            image,
+            arguments,
+            header::read_header(image, arguments).blocks,
+        );
     }
 }
 
 // A refusal in words, without its place.
 pub fn show_refusal(number: u8) {
-    let line = line::of(b"REFUSED #: ", [number as u64, 0, 0, 0]);
-    words::refusal_words(line, number).print();
+    line::of(b"REFUSED #: ", [number as u64, 0, 0, 0]).show(STDOUT_FILENO);
+    words::show_refusal(number, STDOUT_FILENO);
+    say(b"");
 }
 
 // A refused reading: the number, what it means, and where.

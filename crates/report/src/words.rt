@@ -1,12 +1,17 @@
-// Words for numbers: the one table of each. Media and connection types are named as 000 names them.
+// Words for numbers: the one table of each. Media and connection types are named as 000 names them. Those of refusals and
+// connection types end what they stand in, and go to a file.
 use text::decimal_words;
 use text::hex_words;
 use text::line::Line;
 use text::slice::byte_at;
+ghost use mathlib.Core.Path.{_≡_};
+ghost use mathlib.Core.List.{_++_};
+ghost use Rattle.text.specs.Written.{textOf, fitted};
+ghost use Rattle.report.specs.Words.{mediaWords, kindWords, mediumWords};
 
 // Document 01, 'Why a call is refused'.
-pub fn refusal_words(line: Line, number: u8) -> Line {
-    line.text(decimal_words(
+pub fn show_refusal(number: u8, file: i32) {
+    let words = decimal_words(
         b"0 accepted
 1 the image does not have 128 bytes
 2 the format version is neither 3 nor 4
@@ -37,10 +42,13 @@ pub fn refusal_words(line: Line, number: u8) -> Line {
 27 the image is not tidy, so a sheet would lose some of it
 ",
         number as u64,
-    ))
+    );
+    io::write_all(file, words);
 }
 
-pub fn media_words(line: Line, code: u8) -> Line {
+pub fn media_words(line: Line, code: u8) -> Line
+    ensures { λ r. ⌜ textOf r ≡ fitted (textOf line ++ mediaWords code) ⌝ }
+{
     line.text(decimal_words(
         b"0 10BaseT
 1 10Base2 (BNC)
@@ -56,8 +64,8 @@ pub fn media_words(line: Line, code: u8) -> Line {
     ))
 }
 
-pub fn connection_words(line: Line, connection: u16) -> Line {
-    line.text(hex_words(
+pub fn show_connection(connection: u16, file: i32) {
+    let words = hex_words(
         b"0000 10BaseT
 0100 10BaseT with Nway
 0204 10BaseT full duplex
@@ -82,11 +90,14 @@ pub fn connection_words(line: Line, connection: u16) -> Line {
 ffff none selected
 ",
         connection,
-    ))
+    );
+    io::write_all(file, words);
 }
 
 // A block's kind: an extended type, or one of the two forms without.
-pub fn kind_words(line: Line, kind: u16) -> Line {
+pub fn kind_words(line: Line, kind: u16) -> Line
+    ensures { λ r. ⌜ textOf r ≡ fitted (textOf line ++ kindWords kind) ⌝ }
+{
     if kind == block::KIND_COMPACT {
         return line.text(b"compact");
     }
@@ -97,7 +108,9 @@ pub fn kind_words(line: Line, kind: u16) -> Line {
 }
 
 // What a listed block stands for: a medium by its code, or a PHY by its number.
-pub fn medium_words(line: Line, bytes: &[u8], kind: u16) -> Line {
+pub fn medium_words(line: Line, bytes: &[u8], kind: u16) -> Line
+    ensures { λ r. ⌜ textOf r ≡ fitted (textOf line ++ mediumWords (now (bytes .entry)) kind) ⌝ }
+{
     if block::KIND_COMPACT <= kind {
         return media_words(line, byte_at(bytes, 0) % 64);
     }

@@ -6,6 +6,14 @@ use crate::digit;
 use crate::slice::byte_at;
 use crate::slice::part;
 use crate::slice::word_at;
+ghost use mathlib.Core.Path.{_≡_};
+ghost use mathlib.Core.List.{[], _∷_, _++_};
+ghost use Prim.Native.Nat.{_-_};
+ghost use lib.ListN.{getD};
+ghost use Rattle.rom.specs.Bytes.{one};
+ghost use Rattle.text.specs.Numbers.{decimalOf, hexOf};
+ghost use Rattle.text.specs.Written.{textOf, fitted, blanksTo, endingAt, isMark, spelledAs, pieceOf, withValues};
+ghost use Rattle.text.specs.Written.{valueIn, withFields};
 
 const ROOM: usize = 160;
 
@@ -15,14 +23,18 @@ pub struct Line {
 }
 
 impl Line {
-    pub fn new() -> Line {
+    pub fn new() -> Line
+        ensures { λ r. ⌜ textOf r ≡ [] ⌝ }
+    {
         Line {
             bytes: [b' '; ROOM],
             length: 0,
         }
     }
 
-    pub fn byte(self, byte: u8) -> Line {
+    pub fn byte(self, byte: u8) -> Line
+        ensures { λ r. ⌜ textOf r ≡ fitted (textOf self ++ (byte ∷ [])) ⌝ }
+    {
         let at = self.length;
         if ROOM <= at {
             return self;
@@ -33,7 +45,9 @@ impl Line {
         next
     }
 
-    pub fn text(self, text: &[u8]) -> Line {
+    pub fn text(self, text: &[u8]) -> Line
+        ensures { λ r. ⌜ textOf r ≡ fitted (textOf self ++ now (text .entry)) ⌝ }
+    {
         let mut line = self;
         let mut i = 0;
         while i < text.len() {
@@ -44,7 +58,9 @@ impl Line {
     }
 
     // Blanks up to a column.
-    pub fn to(self, column: usize) -> Line {
+    pub fn to(self, column: usize) -> Line
+        ensures { λ r. ⌜ textOf r ≡ fitted (blanksTo column (textOf self)) ⌝ }
+    {
         let mut line = self;
         let mut i = line.length;
         while i < column {
@@ -55,35 +71,41 @@ impl Line {
     }
 
     // A text that ends at a column.
-    pub fn right_text(self, text: &[u8], column: usize) -> Line {
-        let mut start = column;
-        if text.len() < column {
-            start = column - text.len();
-        }
-        self.to(start).text(text)
+    pub fn right_text(self, text: &[u8], column: usize) -> Line
+        ensures { λ r. ⌜ textOf r ≡ fitted (endingAt column (now (text .entry)) (textOf self)) ⌝ }
+    {
+        self.to(less(column, text.len())).text(text)
     }
 
-    pub fn decimal(self, n: u64) -> Line {
+    pub fn decimal(self, n: u64) -> Line
+        ensures { λ r. ⌜ textOf r ≡ fitted (textOf self ++ decimalOf n) ⌝ }
+    {
         let mut digits = [0u8; 20];
         let k = io::decimal(n, &mut digits);
         self.text(&digits[..k])
     }
 
     // A number that ends at a column.
-    pub fn right(self, n: u64, column: usize) -> Line {
+    pub fn right(self, n: u64, column: usize) -> Line
+        ensures { λ r. ⌜ textOf r ≡ fitted (endingAt column (decimalOf n) (textOf self)) ⌝ }
+    {
         let mut digits = [0u8; 20];
         let k = io::decimal(n, &mut digits);
         self.right_text(&digits[..k], column)
     }
 
-    pub fn hex(self, n: u64, width: usize) -> Line {
+    pub fn hex(self, n: u64, width: usize) -> Line
+        ensures { λ r. ⌜ textOf r ≡ fitted (textOf self ++ hexOf width n) ⌝ }
+    {
         let mut digits = [0u8; 16];
         let k = io::hex(n, width, &mut digits);
         self.text(&digits[..k])
     }
 
     // A value as a mark of a pattern has it.
-    fn value(self, mark: u8, n: u64) -> Line {
+    fn value(self, mark: u8, n: u64) -> Line
+        ensures { λ r. ⌜ textOf r ≡ fitted (textOf self ++ spelledAs mark n) ⌝ }
+    {
         if mark == b'#' {
             return self.decimal(n);
         }
@@ -93,20 +115,28 @@ impl Line {
         self.text(b"0x").hex(n, 4)
     }
 
+    // A byte of a pattern: a mark says its value, and any other byte itself.
+    fn piece(self, byte: u8, n: u64) -> Line
+        ensures { λ r. ⌜ textOf r ≡ fitted (textOf self ++ pieceOf byte n) ⌝ }
+    {
+        let mark = is_mark(byte);
+        if mark {
+            return self.value(byte, n);
+        }
+        self.byte(byte)
+    }
+
     // A pattern with its values.
-    pub fn with(self, pattern: &[u8], values: [u64; 4]) -> Line {
+    pub fn with(self, pattern: &[u8], values: [u64; 4]) -> Line
+        ensures { λ r. ⌜ textOf r ≡ fitted (textOf self ++ withValues values (now (pattern .entry))) ⌝ }
+    {
         let mut line = self;
         let mut k = 0usize;
         let mut i = 0;
         while i < pattern.len() {
             let byte = pattern[i];
-            let mark = is_mark(byte);
-            if mark {
-                line = line.value(byte, values[k % 4]);
-                k = k % 4 + 1;
-            } else {
-                line = line.byte(byte);
-            }
+            line = line.piece(byte, value_at(values, k));
+            k += marks(byte);
             i += 1;
         }
         line
@@ -135,7 +165,19 @@ impl Line {
     }
 }
 
-fn is_mark(byte: u8) -> bool {
+// The difference of two numbers, 0 where the second is not less.
+fn less(a: usize, b: usize) -> usize
+    ensures { λ r. ⌜ r ≡ a - b ⌝ }
+{
+    if b < a {
+        return a - b;
+    }
+    0
+}
+
+fn is_mark(byte: u8) -> bool
+    ensures { λ r. ⌜ r ≡ isMark byte ⌝ }
+{
     if byte == b'#' {
         return true;
     }
@@ -145,8 +187,31 @@ fn is_mark(byte: u8) -> bool {
     byte == b'@'
 }
 
+// How many values a byte of a pattern takes.
+fn marks(byte: u8) -> usize
+    ensures { λ r. ⌜ r ≡ one (isMark byte) ⌝ }
+{
+    let mark = is_mark(byte);
+    if mark {
+        return 1;
+    }
+    0
+}
+
+// A value by its number, 0 past the last.
+fn value_at(values: [u64; 4], k: usize) -> u64
+    ensures { λ r. ⌜ r ≡ getD values k 0 ⌝ }
+{
+    if k < 4 {
+        return values[k];
+    }
+    0
+}
+
 // The value of a mark that names a byte.
-fn value_of(mark: u8, bytes: &[u8], at: usize) -> u64 {
+fn value_of(mark: u8, bytes: &[u8], at: usize) -> u64
+    ensures { λ r. ⌜ r ≡ valueIn (now (bytes .entry)) mark at ⌝ }
+{
     if mark == b'@' {
         return word_at(bytes, at) as u64;
     }
@@ -154,29 +219,30 @@ fn value_of(mark: u8, bytes: &[u8], at: usize) -> u64 {
 }
 
 // A pattern over bytes: behind each mark stands the place of its value, a hexadecimal digit.
-pub fn fields(line: Line, pattern: &[u8], bytes: &[u8]) -> Line {
+pub fn fields(line: Line, pattern: &[u8], bytes: &[u8]) -> Line
+    ensures { λ r. ⌜ textOf r ≡ fitted (textOf line ++ withFields (now (bytes .entry)) (now (pattern .entry))) ⌝ }
+{
     let mut line = line;
     let mut is_place = false;
     let mut i = 0;
     while i < pattern.len() {
         let byte = pattern[i];
         i += 1;
-        let mark = is_mark(byte);
         if is_place {
             is_place = false;
-        } else if mark {
-            let at = digit(byte_at(pattern, i)) as usize;
-            line = line.value(byte, value_of(byte, bytes, at));
-            is_place = true;
         } else {
-            line = line.byte(byte);
+            let at = digit(byte_at(pattern, i)) as usize;
+            line = line.piece(byte, value_of(byte, bytes, at));
+            is_place = is_mark(byte);
         }
     }
     line
 }
 
 // A line with up to four values.
-pub fn of(pattern: &[u8], values: [u64; 4]) -> Line {
+pub fn of(pattern: &[u8], values: [u64; 4]) -> Line
+    ensures { λ r. ⌜ textOf r ≡ fitted (withValues values (now (pattern .entry))) ⌝ }
+{
     Line::new().with(pattern, values)
 }
 

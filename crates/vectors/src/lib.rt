@@ -1,12 +1,19 @@
 // What the test programs print alike.
 use libc::STDOUT_FILENO;
-use rom::ByteOffset;
+use text::line::Line;
+use text::slice::byte_at;
 
-// Bytes in hexadecimal, two digits each.
+// Bytes in hexadecimal, two digits each, 64 bytes at a time.
 pub fn print_bytes(bytes: &[u8]) {
+    let mut line = Line::new();
     let mut i = 0;
     while i < bytes.len() {
-        io::print_hex(STDOUT_FILENO, rom::byte_at(bytes, ByteOffset(i)) as u64, 2);
+        line = line.hex(byte_at(bytes, i) as u64, 2);
         i += 1;
+        if i % 64 == 0 {
+            line.show(STDOUT_FILENO);
+            line = Line::new();
+        }
     }
+    line.show(STDOUT_FILENO);
 }

@@ -1,5 +1,6 @@
 //! The bench tool `./card`, run from the root of the repository.
 
+use second::reader::Arguments;
 use std::fs;
 use std::path::{Path, PathBuf};
 use std::process::Command;
@@ -29,6 +30,16 @@ pub fn shell(line: &str, temporary: &Path) -> Run {
         written: written.replace(temporary.to_str().unwrap(), "$TMP"),
         status: output.status.code().unwrap_or(-1),
     }
+}
+
+/// The words that name the arguments of a reading.
+pub fn words(arguments: Arguments) -> String {
+    let Arguments {
+        chip,
+        controller,
+        level,
+    } = arguments;
+    format!("{chip} --controller {controller} --level {level}")
 }
 
 /// Runs `./card` with words that need no quotes.

@@ -1,9 +1,10 @@
 //! The picture of a ROM: well formed, a cell for each byte with its value and its field.
 
-use card::{card, samples, temporary};
+use card::{card, samples, temporary, words};
 use second::crc::IMAGE_LENGTH;
-use second::reader::{Arguments, read_all, view};
+use second::reader::{Arguments, COMPACT, read_all, view};
 use std::fs;
+use std::path::Path;
 
 /// The tags of an SVG file, each opened and closed in order, with nothing but text between them.
 fn tags(svg: &str) -> Vec<String> {
@@ -58,10 +59,33 @@ fn cells(tags: &[String]) -> Vec<(u8, usize)> {
 }
 
 /// Every sample of 128 bytes, be it refused: its bytes in order, and what every image has in the
-/// same place. Where it is accepted, the bytes of each entry's block (document 01, "The image").
+/// same place. Where it is accepted, the bytes of each entry's block (document 01, "The image"), and
+/// those of the blocks that a reader of level 3 does not know.
 #[test]
 fn every_sample() {
     let folder = temporary("map");
+    let (mut known, mut unknown) = (0, 0);
+    for (name, chip, image) in samples() {
+        let newest = Arguments::newest(chip);
+        let fields = fields(&folder, &name, newest, &image);
+        known += held(&fields, &image, newest, |kind| Some(listed(kind)));
+        let older = Arguments::at_level(chip, 3);
+        let fields = self::fields(&folder, &name, older, &image);
+        unknown += held(&fields, &image, newest, |kind| {
+            (3..COMPACT).contains(&kind).then_some(UNKNOWN)
+        });
+    }
+    assert!(known >= 30, "{known} blocks that are known");
+    assert!(unknown >= 10, "{unknown} blocks that are not");
+}
+
+/// The field of a listed block.
+fn listed(kind: u16) -> usize {
+    if matches!(kind, 1 | 3) { PHY } else { MEDIUM }
+}
+
+/// The field of each byte in the picture of a sample; none where it has no picture.
+fn fields(folder: &Path, name: &str, arguments: Arguments, image: &[u8]) -> Vec<usize> {
     let fixed = [
         (0..=15, ID),
         (16..=16, ID_CRC),
@@ -72,33 +96,48 @@ fn every_sample() {
         (124..=125, MAKER),
         (126..=127, SROM_CRC),
     ];
-    let mut blocks = 0;
-    for (name, chip, image) in samples() {
-        let path = folder.join(&name).with_extension("svg");
-        let run = card(&format!("map samples/{name} {chip} {}", path.display()));
-        let arguments = Arguments::newest(chip);
-        let (answer, entries) = read_all(&image, arguments);
-        assert_eq!(run.status, i32::from(answer.number != 0), "{name}");
-        if image.len() != IMAGE_LENGTH {
-            assert!(!path.exists(), "{name}");
-            continue;
-        }
-        let cells = cells(&tags(&fs::read_to_string(&path).unwrap()));
-        let (values, fields): (Vec<_>, Vec<_>) = cells.into_iter().unzip();
-        assert_eq!(values, image, "{name}");
-        let are_of = |bytes: &[usize], field| bytes.iter().all(|&it| it == field);
-        for (places, field) in fixed.clone() {
-            assert!(are_of(&fields[places.clone()], field), "{name} {places:?}");
-        }
-        for (entry, (kind, offset)) in entries.into_iter().enumerate() {
-            let size = view(&image, arguments, entry).len();
-            let field = if matches!(kind, 1 | 3) { PHY } else { MEDIUM };
+    let path = folder.join(format!("{name}.{}.svg", arguments.level));
+    let words = format!("{} {}", words(arguments), path.display());
+    let run = card(&format!("map samples/{name} {words}"));
+    let (answer, _) = read_all(image, arguments);
+    assert_eq!(run.status, i32::from(answer.number != 0), "{name}");
+    if image.len() != IMAGE_LENGTH {
+        assert!(!path.exists(), "{name}");
+        return Vec::new();
+    }
+    let cells = cells(&tags(&fs::read_to_string(&path).unwrap()));
+    let (values, fields): (Vec<_>, Vec<_>) = cells.into_iter().unzip();
+    assert_eq!(values, image, "{name}");
+    for (places, field) in fixed {
+        let is_its = |&it: &usize| it == field;
+        assert!(
+            fields[places.clone()].iter().all(is_its),
+            "{name} {places:?}"
+        );
+    }
+    fields
+}
+
+/// How many entries of a reading have a field by their kind: all bytes of their blocks are of it.
+fn held(
+    fields: &[usize],
+    image: &[u8],
+    arguments: Arguments,
+    field_of: impl Fn(u16) -> Option<usize>,
+) -> usize {
+    let mut count = 0;
+    for (entry, (kind, offset)) in read_all(image, arguments).1.into_iter().enumerate() {
+        if let Some(field) = field_of(kind) {
+            let size = view(image, arguments, entry).len();
             let block = &fields[offset.into()..][..size];
-            assert!(are_of(block, field), "{name} entry {entry}");
-            blocks += 1;
+            assert!(
+                block.iter().all(|&it| it == field),
+                "entry {entry}: {fields:?}"
+            );
+            count += 1;
         }
     }
-    assert!(blocks >= 30, "{blocks} blocks");
+    count
 }
 
 /// The replacement card: its unknown block has eight bytes, its PHY's 14, its two media's seven and

@@ -1,7 +1,8 @@
 //! Transcripts of the bench tool: each line that begins with `$ ` is run at the root, and what it
 //! writes and its exit status must be as stored. `TRANSCRIPTS=write cargo test -p card` stores
 //! them anew, so they guard against change alone; tests/facts.rs holds verdicts, header fields,
-//! counts, tables, named blocks, walks, columns and sheets to the second implementation.
+//! counts, tables, named blocks, walks, columns and sheets to the second implementation, and
+//! tests/sentences.rs what is said of older drivers.
 
 use card::{root, shell, temporary};
 use std::fs;
@@ -39,7 +40,7 @@ macro_rules! transcripts {
 transcripts! {
     /// Files that are written: whole, and never over one that exists unless forced.
     files,
-    /// The three kinds of hexadecimal text, and what is none of them.
+    /// The forms of hexadecimal text, and what is none of them.
     inputs,
     /// Demand 3 in words: levels that walk alike, that do while a link is down, and that differ.
     older,

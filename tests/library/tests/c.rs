@@ -4,12 +4,12 @@
 use library::Part;
 use second::calls;
 use second::crc::{self, Checksum, IMAGE_LENGTH};
-use second::images::Sample;
+use second::images::{Card, Sample, block};
 use second::random::Random;
 use second::reader::{
     self, Answer, Arguments, CHIPS, COMPACT, MEDIA_21041, NEWEST_LEVEL, NO_DEFAULT,
 };
-use second::sheet::{self, Made};
+use second::sheet::{self, LONGEST_SHEET, Made};
 use second::walk::{Autosense, NONE, Rows, SERVED, Walk, Walked};
 use std::collections::{BTreeMap, BTreeSet};
 use std::fs;
@@ -216,6 +216,7 @@ fn header_numbers() {
     let [autosense, once, nway] = SERVED;
     let mut expected = vec![
         ("IMAGE_LENGTH".to_owned(), IMAGE_LENGTH),
+        ("LONGEST_SHEET".to_owned(), LONGEST_SHEET),
         ("NEWEST_LEVEL".to_owned(), NEWEST_LEVEL.into()),
         ("NONE".to_owned(), NONE.into()),
         ("KIND_COMPACT".to_owned(), COMPACT.into()),
@@ -245,6 +246,40 @@ fn header_numbers() {
     for (number, (name, expected)) in numbers.iter().zip(expected) {
         assert_eq!(*number, expected.to_string(), "SROM_{name}");
     }
+}
+
+/// Document 01, 'The sheet': the manual's table has a row for each field, at the byte where the second implementation has it.
+#[test]
+fn header_sheet_layout() {
+    let header = fs::read_to_string(root().join("include/srom.h")).unwrap();
+    let table = header
+        .lines()
+        .skip_while(|line| !line.starts_with(" *     byte  "))
+        .skip(1)
+        .map_while(|line| line.strip_prefix(" *     "));
+    let places: Vec<_> = table
+        .map(|row| row.split("  ").next().unwrap().replace(" * N", "N"))
+        .collect();
+    let last = |first: usize, size: usize| first + size - 1;
+    let pair = |first: usize| format!("{first}, {}", last(first, 2));
+    let range = |first: usize, size: usize| format!("{first} to {}", last(first, size));
+    let expected = [
+        sheet::COUNT.to_string(),
+        sheet::TOTAL.to_string(),
+        range(sheet::ID, 16),
+        (sheet::ID + 16).to_string(),
+        sheet::VERSION.to_string(),
+        range(sheet::ADDRESS, 6),
+        sheet::DEVICE.to_string(),
+        pair(sheet::CHIP),
+        pair(sheet::CONNECTION),
+        sheet::CONTROL.to_string(),
+        pair(sheet::MAKER),
+        sheet::KINDS.to_string(),
+        format!("{} + 2N", sheet::KINDS),
+        format!("{} + 3N", sheet::KINDS),
+    ];
+    assert_eq!(places, expected);
 }
 
 /// What tests/fields.c prints of a walk.
@@ -365,37 +400,242 @@ fn entry_line(image: &[u8], arguments: Arguments, entry: usize, kind: u16, offse
     format!("  entry {entry}: type {kind} at byte {offset}:{bytes}")
 }
 
-/// Document 01, 'The walk', on the mission's card: the default with no link up, the first in table order that is up, and
-/// once settled another when its own link is down.
+/// Document 01, 'Levels and the table', on the mission's card: its entries, and an exit status that says that a medium is
+/// selected.
 #[test]
-fn probe_walks_the_replacement_card() {
+fn probe_lists_the_replacement_card() {
     let image = fs::read(root().join("samples/replacement-card.rom")).unwrap();
     let arguments = Arguments::newest(21143);
-    let output = probe(&[
-        "samples/replacement-card.rom",
-        "21143",
-        "0",
-        "0000",
-        "1001",
-        "1001",
-        "1000",
-    ]);
+    let output = probe(&["samples/replacement-card.rom", "21143", "0", "0000"]);
     let mut expected = vec!["address 0000f8001700, connection type 0x0800".to_owned()];
     for (entry, (kind, offset)) in [(3, 57), (4, 48), (2, 33)].into_iter().enumerate() {
         expected.push(entry_line(&image, arguments, entry, kind, offset));
     }
-    expected.extend(
-        [
-            "  0 resets, 1 blocks of unknown types stepped over",
-            "links 0000: block 2, the default, since no link is up",
-            "links 1001: block 3, the first in table order that may be taken and is up",
-            "links 1001: stays on block 3",
-            "links 1000: block 0, the first in table order that may be taken and is up",
-        ]
-        .map(str::to_owned),
-    );
-    assert_eq!(lines(&output), expected);
+    expected.push("  0 resets, 1 blocks of unknown types stepped over".to_owned());
+    assert_eq!(lines(&output)[..5], expected);
     assert_eq!(output.status.code(), Some(0));
+}
+
+/// The kinds of steps that a look takes (document 01, 'The walk', steps 1 and 2), before the walk is settled and after, and
+/// refusals.
+#[derive(Debug, Clone, Copy, PartialEq, Eq, PartialOrd, Ord)]
+enum Step {
+    NoneBefore,
+    NoneAfter,
+    DefaultBefore,
+    DefaultAgainBefore,
+    DefaultAfter,
+    DefaultAgainAfter,
+    /// A link is up, but of a block that is not listed, or of one with Active_Invalid.
+    DefaultForUnlisted,
+    DefaultForInvalid,
+    FirstBefore,
+    /// The default, which was selected while no link was up.
+    FirstOnDefault,
+    FirstAfter,
+    FirstAfterNone,
+    StaysUp,
+    StaysUpOnDefault,
+    StaysOnce,
+    StaysInvalid,
+    RefusedReport,
+    RefusedFixed,
+}
+
+use Step::*;
+
+/// Whether the second implementation's look, from one state to the next, is a step of this kind.
+fn is_step(step: Step, before: &Walk, links: &[u8], number: u8, after: &Walk) -> bool {
+    let is_up = |block: u8| links.get(usize::from(block)) == Some(&1);
+    let is_invalid = |block: usize| before.rows.active_invalid[block] == 1;
+    let is_listed = |block: usize| before.rows.listed[block] == 1;
+    let mut ups = (0..links.len()).filter(|&block| links[block] == 1);
+    let (from, to) = (before.selected, after.selected);
+    let is_once = before.connection == SERVED[1];
+    let was_default = from == before.default_number;
+    let on_default = to == before.default_number && to != NONE && !is_up(to);
+    let with_none_up = on_default && ups.clone().next().is_none();
+    let first = to != NONE && is_up(to) && after.settled;
+    let first_before = first && !before.settled;
+    let first_after = first && before.settled && from != to;
+    let stays = before.settled && from == to && to != NONE;
+    let stays_down = stays && !is_up(to);
+    let is_it = match step {
+        RefusedReport => return number == 19,
+        RefusedFixed => return number == 22,
+        NoneBefore => to == NONE && !after.settled,
+        NoneAfter => to == NONE && before.settled,
+        DefaultBefore => with_none_up && !after.settled && !was_default,
+        DefaultAgainBefore => with_none_up && !after.settled && was_default,
+        DefaultAfter => with_none_up && before.settled && !was_default,
+        DefaultAgainAfter => with_none_up && before.settled && was_default && !is_once,
+        DefaultForUnlisted => on_default && ups.any(|block| !is_listed(block)),
+        DefaultForInvalid => on_default && before.settled && ups.any(is_invalid),
+        FirstBefore => first_before && from != to,
+        FirstOnDefault => first_before && from == to && was_default,
+        FirstAfter => first_after && from != NONE,
+        FirstAfterNone => first_after && from == NONE,
+        StaysUp => stays && is_up(to) && !was_default,
+        StaysUpOnDefault => stays && is_up(to) && was_default,
+        StaysOnce => stays_down && is_once && !is_invalid(to.into()),
+        StaysInvalid => stays_down && !is_once && is_invalid(to.into()),
+    };
+    number == 0 && is_it
+}
+
+/// What the probe says of a step to this state.
+fn sentence(step: Step, number: u8, after: &Walk) -> String {
+    let block = after.selected;
+    let what = match step {
+        RefusedReport | RefusedFixed => return format!("refused {number}"),
+        NoneBefore | NoneAfter => {
+            "no medium, since none that may be taken is up and there is no default".to_owned()
+        }
+        DefaultBefore | DefaultAgainBefore | DefaultAfter | DefaultAgainAfter
+        | DefaultForUnlisted | DefaultForInvalid => {
+            format!("block {block}, the default, since none that may be taken is up")
+        }
+        FirstBefore | FirstOnDefault | FirstAfter | FirstAfterNone => {
+            format!("block {block}, the first in table order that may be taken and is up")
+        }
+        StaysUp | StaysUpOnDefault => format!("stays on block {block}, whose link is up"),
+        StaysOnce => format!("stays on block {block}, since the connection type senses once"),
+        StaysInvalid => format!("stays on block {block}, since it has Active_Invalid"),
+    };
+    let settled = if after.settled {
+        "settled"
+    } else {
+        "not settled"
+    };
+    format!("{what}; {settled}")
+}
+
+/// An image's file and chip, and looks at it: the links, and the kind of the step.
+type Scene = (PathBuf, u16, Vec<(&'static str, Step)>);
+
+fn scenes() -> Vec<Scene> {
+    let sample = |name: &str| root().join("samples").join(name);
+    let made = |name: &str, connection| {
+        let blocks = vec![block::sia(0, None, 1, 2), block::symbol(3, 0, 0, 0x4000)];
+        let file = scratch(name);
+        fs::write(&file, Card::tidy(21143, connection, blocks).image()).unwrap();
+        file
+    };
+    vec![
+        (
+            sample("replacement-card.rom"),
+            21143,
+            vec![
+                ("0000", DefaultBefore),
+                ("0000", DefaultAgainBefore),
+                ("0100", DefaultForUnlisted),
+                ("1001", FirstBefore),
+                ("1001", StaysUp),
+                ("1000", FirstAfter),
+                ("0000", DefaultAfter),
+                ("0000", DefaultAgainAfter),
+                ("1010", StaysUpOnDefault),
+                ("101", RefusedReport),
+            ],
+        ),
+        (
+            sample("replacement-card.rom"),
+            21143,
+            vec![("0000", DefaultBefore), ("1010", FirstOnDefault)],
+        ),
+        (
+            sample("case-b.rom"),
+            21143,
+            vec![
+                ("000", NoneBefore),
+                ("101", FirstBefore),
+                ("010", NoneAfter),
+                ("100", FirstAfterNone),
+            ],
+        ),
+        (
+            sample("case-b.rom"),
+            21143,
+            vec![("001", FirstBefore), ("000", NoneAfter)],
+        ),
+        (
+            sample("21145.rom"),
+            21145,
+            vec![
+                ("00", NoneBefore),
+                ("10", FirstBefore),
+                ("00", StaysOnce),
+                ("01", StaysOnce),
+                ("10", StaysUp),
+                ("20", RefusedReport),
+            ],
+        ),
+        (
+            sample("21143.rom"),
+            21143,
+            vec![
+                ("01000", FirstBefore),
+                ("00000", StaysInvalid),
+                ("10110", StaysInvalid),
+            ],
+        ),
+        (
+            sample("21143.rom"),
+            21143,
+            vec![("10000", FirstBefore), ("01000", DefaultForInvalid)],
+        ),
+        // "If settled": a default that is selected before does not make it stay.
+        (
+            made("probe-once.rom", SERVED[1]),
+            21143,
+            vec![
+                ("00", DefaultBefore),
+                ("00", DefaultAgainBefore),
+                ("10", FirstBefore),
+                ("01", StaysOnce),
+            ],
+        ),
+        (
+            made("probe-fixed.rom", 0),
+            21143,
+            vec![("10", RefusedFixed)],
+        ),
+    ]
+}
+
+/// Document 01, 'The walk': the probe says of each kind of step what happened, and every kind is met.
+#[test]
+fn probe_tells_every_step() {
+    let mut told = BTreeSet::new();
+    for (file, chip, looks) in scenes() {
+        let image = fs::read(&file).unwrap();
+        let mut walk = Autosense::default();
+        assert_eq!(walk.load(&image, Arguments::newest(chip)), 0);
+        let (mut expected, mut status) = (Vec::new(), 1);
+        for &(links, step) in &looks {
+            let report: Vec<u8> = links.bytes().map(|digit| digit - b'0').collect();
+            let before = walk.walk();
+            let number = walk.look(&report);
+            let after = walk.walk();
+            assert!(
+                is_step(step, &before, &report, number, &after),
+                "{file:?} {links}: {step:?}"
+            );
+            expected.push(format!("links {links}: {}", sentence(step, number, &after)));
+            told.insert(step);
+            status = i32::from(number != 0 || after.selected == NONE);
+        }
+        let mut words = vec![file.to_str().unwrap().to_owned()];
+        words.extend([chip.to_string(), "0".to_owned()]);
+        words.extend(looks.iter().map(|&(links, _)| links.to_owned()));
+        let words: Vec<_> = words.iter().map(String::as_str).collect();
+        let output = probe(&words);
+        let printed = lines(&output);
+        assert_eq!(printed[printed.len() - looks.len()..], expected, "{file:?}");
+        assert_eq!(output.status.code(), Some(status), "{file:?}");
+    }
+    // The last kind is the refusal under a fixed type.
+    assert_eq!(told.len(), RefusedFixed as usize + 1, "met: {told:?}");
 }
 
 #[test]

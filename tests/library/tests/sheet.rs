@@ -10,7 +10,7 @@ use second::crc::{IMAGE_LENGTH, lay_crcs};
 use second::images::Card;
 use second::random::Random;
 use second::reader::CHIPS;
-use second::sheet::{CHIP, KINDS, Made};
+use second::sheet::{CHIP, LONGEST_SHEET, Made};
 use second::sheets::tidy::{TIDY_DAMAGES, damaged, tidy, untidy};
 use second::sheets::{SHEET_DAMAGES, Sheet};
 use std::fmt::Write as _;
@@ -26,9 +26,6 @@ const WRITE_NUMBERS: [usize; 13] = [0, 1, 2, 7, 11, 14, 15, 16, 17, 18, 24, 25, 
 /// The numbers that the maker can answer: controller 0 is below every count, and its address is the
 /// base.
 const MAKE_NUMBERS: [usize; 17] = [0, 1, 2, 3, 4, 5, 7, 10, 11, 12, 13, 14, 15, 16, 17, 18, 27];
-
-/// The longest sheet of a tidy image: 91 blocks of one byte each.
-const LONGEST_SHEET: usize = KINDS + 3 * 91 + 91;
 
 /// More bytes than any sheet of a tidy image has.
 const ROOMY: usize = LONGEST_SHEET + 40;
@@ -277,9 +274,11 @@ fn buffer_lengths() -> Tally {
     let (mut tally, mut random) = (Tally::default(), Random::new(9));
     let mut cards: Vec<_> = (0..60).map(|_| tidy(&mut random)).collect();
     cards[0] = (Card::longest(&mut random), 21041);
+    let mut longest = 0;
     for (card, chip) in cards {
         let image = card.image();
         let made = tally.compare_make(&image, chip, ROOMY);
+        longest = longest.max(made.length);
         for length in 0..=made.length + 20 {
             let expected = if length < made.length { 12 } else { 0 };
             let number = tally.compare_make(&image, chip, length).number;
@@ -287,6 +286,7 @@ fn buffer_lengths() -> Tally {
         }
         tally.images += 1;
     }
+    assert_eq!(longest, LONGEST_SHEET);
     tally
 }
 

@@ -8,6 +8,7 @@
 pub mod calls;
 pub mod cases;
 pub mod crc;
+pub mod forms;
 pub mod images;
 pub mod random;
 pub mod reader;

@@ -6,8 +6,8 @@ pub mod fast;
 use crate::crc::{ID_LAST_OFFSET, IMAGE_LENGTH, lay_crcs};
 use crate::reader::{
     ADDRESS_OFFSET, Arguments, CHIPS, COMPACT, CONTROLLERS_OFFSET, COUNT_OFFSET, EXT, EXTENDED,
-    LEAF_LIMIT, MEDIA_21041, Refusal, VERSION_OFFSET, first_block, header_size, kind, leaf,
-    refuse_if, word,
+    LEAF_LIMIT, MEDIA_21041, MOST_BLOCKS, Refusal, VERSION_OFFSET, first_block, header_size, kind,
+    leaf, refuse_if, word,
 };
 
 /// Where the writer puts the leaf, and where a tidy image has it.
@@ -28,6 +28,9 @@ pub const KINDS: usize = 34;
 
 /// The longest body of an extended block: its length byte counts the type too.
 pub const LONGEST_BODY: usize = 126;
+
+/// The longest sheet of an accepted image: as many blocks as a leaf can hold, of one byte each.
+pub const LONGEST_SHEET: usize = KINDS + 3 * MOST_BLOCKS + MOST_BLOCKS;
 
 /// What the sheet maker answers: number 0 and the sheet's length, or the refusal's number and 0.
 /// The library's C interface has the same layout.

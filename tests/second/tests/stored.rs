@@ -8,7 +8,7 @@ use std::process::Command;
 
 /// Each generator, the words that it takes in the folder where it is run, and the folder whose
 /// files it makes.
-const GENERATORS: [(&str, &[&str], &str); 5] = [
+const GENERATORS: [(&str, &[&str], &str); 6] = [
     (
         env!("CARGO_BIN_EXE_crc_vectors"),
         &["stdin", "stdout"],
@@ -28,6 +28,11 @@ const GENERATORS: [(&str, &[&str], &str); 5] = [
         env!("CARGO_BIN_EXE_sheet_vectors"),
         &["stdin", "stdout"],
         "crates/sheet_vectors",
+    ),
+    (
+        env!("CARGO_BIN_EXE_text_vectors"),
+        &["stdin", "stdout"],
+        "crates/text_vectors",
     ),
     (env!("CARGO_BIN_EXE_samples"), &["."], "samples"),
 ];

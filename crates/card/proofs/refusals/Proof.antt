@@ -5,10 +5,10 @@ use Rattle.card.proofs.refusals.Statement.{statement}
 use Rattle.card.proofs.refusals.Tie as tie
 
 abbrev Inv-loop : tie.InvT-loop
-Inv-loop number₀ number = Unit
+Inv-loop number₀ t2 number = Unit
 
 abbrev μ-loop : tie.MeasureT-loop
-μ-loop number₀ number = 28 - number
+μ-loop number₀ t2 number = 28 - number
 
 loop-holds : tie.Need-loop-holds Inv-loop μ-loop
 loop-holds c = search needs
@@ -25,11 +25,17 @@ right-requires c κs = search needs
 to-requires : tie.Need-to-requires Inv-loop μ-loop
 to-requires c κs = search needs
 
-refusal-words-requires : tie.Need-refusal-words-requires Inv-loop μ-loop
-refusal-words-requires c κs = search needs
+show-requires : tie.Need-show-requires Inv-loop μ-loop
+show-requires c κs = search needs
 
-print-requires : tie.Need-print-requires Inv-loop μ-loop
-print-requires c κs = search needs
+show-refusal-requires : tie.Need-show-refusal-requires Inv-loop μ-loop
+show-refusal-requires c κs = search needs
+
+slice-aggregate-say : tie.Need-slice-aggregate-say Inv-loop μ-loop
+slice-aggregate-say c = search needs
+
+say-requires : tie.Need-say-requires Inv-loop μ-loop
+say-requires c κs = search needs
 
 add-number : tie.Need-add-number Inv-loop μ-loop
 add-number c = search needs
@@ -54,8 +60,10 @@ refusals-spec =
     cast-right
     right-requires
     to-requires
-    refusal-words-requires
-    print-requires
+    show-requires
+    show-refusal-requires
+    slice-aggregate-say
+    say-requires
     add-number
     loop-less
     loop-again

@@ -4,10 +4,10 @@ use Rattle.picture.proofs.cells_of.Statement.{statement}
 use Rattle.picture.proofs.cells_of.Tie as tie
 
 abbrev Inv-loop : tie.InvT-loop
-Inv-loop image chip count cells₀ left₀ cells left = Unit
+Inv-loop image chip level count cells₀ left₀ cells left = Unit
 
 abbrev μ-loop : tie.MeasureT-loop
-μ-loop image chip count cells₀ left₀ cells left = left
+μ-loop image chip level count cells₀ left₀ cells left = left
 
 byte-at-requires : tie.Need-byte-at-requires Inv-loop μ-loop
 byte-at-requires c κs = search needs
@@ -26,9 +26,6 @@ loop-holds c = search needs
 
 sub-left : tie.Need-sub-left Inv-loop μ-loop
 sub-left c = search needs
-
-newest-requires : tie.Need-newest-requires Inv-loop μ-loop
-newest-requires c κs = search needs
 
 with-controller-requires : tie.Need-with-controller-requires Inv-loop μ-loop
 with-controller-requires c κs = search needs
@@ -66,7 +63,6 @@ cells-of-spec =
     returns
     loop-holds
     sub-left
-    newest-requires
     with-controller-requires
     loop-less
     loop-again

@@ -16,8 +16,8 @@ loop-holds c = search needs
 block-place-requires : tie.Need-block-place-requires Inv-loop μ-loop
 block-place-requires c κs = search needs
 
-is-unknown-requires : tie.Need-is-unknown-requires Inv-loop μ-loop
-is-unknown-requires c κs = search needs
+is-known-requires : tie.Need-is-known-requires Inv-loop μ-loop
+is-known-requires c κs = search needs
 
 mul-draw-unknown : tie.Need-mul-draw-unknown Inv-loop μ-loop
 mul-draw-unknown c = search needs
@@ -51,7 +51,7 @@ draw-unknowns-spec =
     μ-loop
     loop-holds
     block-place-requires
-    is-unknown-requires
+    is-known-requires
     mul-draw-unknown
     add-draw-unknown
     draw-unknown-requires

@@ -6,15 +6,12 @@
 use second::crc::IMAGE_LENGTH;
 use second::images::Card;
 use second::random::Random;
-use second::sheet::{CHIP, make, write};
+use second::sheet::{CHIP, LONGEST_SHEET, make, write};
 use second::sheets::{SHEET_DAMAGES, Sheet};
 use std::{env, fs, io, process};
 
 const RECORD_COUNT: usize = 300;
 const DAMAGED_COUNT: usize = 12;
-
-/// As long as the longest sheet of an image: 91 blocks of one byte each.
-const LONGEST_SHEET: usize = 398;
 
 fn main() -> io::Result<()> {
     let arguments: Vec<_> = env::args_os().skip(1).collect();

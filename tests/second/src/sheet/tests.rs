@@ -299,7 +299,7 @@ fn tidiness() {
 fn buffer_lengths() {
     let image = Card::longest(&mut Random::new(1)).image();
     let sheet = made(&image, 21041).expect("it is tidy");
-    assert_eq!(sheet.len(), 34 + 3 * 91 + 91);
+    assert_eq!(sheet.len(), LONGEST_SHEET);
     for length in 0..=ROOMY {
         let expected = if length < sheet.len() {
             Err(12)
@@ -307,6 +307,44 @@ fn buffer_lengths() {
             Ok(sheet.clone())
         };
         assert_eq!(made_in(&image, 21041, length), expected);
+    }
+}
+
+/// A block of each form and size that a leaf for the chip can hold.
+fn forms(chip: u16, places: usize) -> Vec<Vec<u8>> {
+    let mut forms = match chip {
+        21041 => return vec![block::media(0, None), block::media(0, Some([0; 6]))],
+        21140 => vec![block::compact(0, 0, 0)],
+        _ => vec![],
+    };
+    forms.extend((2..=places).map(|size| block::extended(9, &vec![0; size - 2])));
+    forms
+}
+
+/// "Length exactly 34+3N+T": of all ways to fill a leaf up to byte 123 with blocks, no sheet is longer than the longest, and
+/// only that of the 21041 is as long.
+#[test]
+fn longest_sheet() {
+    assert_eq!(LONGEST_SHEET, 398);
+    for chip in CHIPS {
+        let places = LEAF_LIMIT - TIDY_LEAF - header_size(chip);
+        // A block's size, and by how much it lengthens the sheet.
+        let lengthens = |block: Vec<u8>| {
+            let size = block.len();
+            let image = Card::tidy(chip, 0x0800, vec![block]).image();
+            (size, made(&image, chip).expect("it is tidy").len() - KINDS)
+        };
+        let forms: Vec<_> = forms(chip, places).into_iter().map(lengthens).collect();
+        // The longest rest of a sheet for so many places, the fewest first.
+        let mut longest = vec![0];
+        for left in 1..=places {
+            let fitting = forms.iter().filter(|&&(size, _)| size <= left);
+            let ways = fitting.map(|&(size, more)| more + longest[left - size]);
+            longest.push(ways.max().unwrap_or(0).max(longest[left - 1]));
+        }
+        let sheet = KINDS + longest[places];
+        assert!(sheet <= LONGEST_SHEET, "{chip}: {sheet}");
+        assert_eq!(sheet == LONGEST_SHEET, chip == 21041, "{chip}: {sheet}");
     }
 }
 

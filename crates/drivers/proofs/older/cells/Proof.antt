@@ -5,10 +5,13 @@ use Rattle.drivers.proofs.older.cells.Statement.{statement}
 use Rattle.drivers.proofs.older.cells.Tie as tie
 
 abbrev Inv-loop : tie.InvT-loop
-Inv-loop image arguments place line₀ level₀ line level = Unit
+Inv-loop image arguments place columns line₀ level₀ line level = Unit
 
 abbrev μ-loop : tie.MeasureT-loop
-μ-loop image arguments place line₀ level₀ line level = 7 - level
+μ-loop image arguments place columns line₀ level₀ line level = columns - level
+
+columns-requires : tie.Need-columns-requires Inv-loop μ-loop
+columns-requires c κs = search needs
 
 loop-holds : tie.Need-loop-holds Inv-loop μ-loop
 loop-holds c = search needs
@@ -37,6 +40,7 @@ cells-spec =
     (tie.spec
     Inv-loop
     μ-loop
+    columns-requires
     loop-holds
     at-level-requires
     cell-requires

@@ -4,10 +4,10 @@ use Rattle.drivers.proofs.older.removed_words.Statement.{statement}
 use Rattle.drivers.proofs.older.removed_words.Tie as tie
 
 abbrev Inv-loop : tie.InvT-loop
-Inv-loop image arguments level blocks line₀ named₀ left₀ t10 line named left = Unit
+Inv-loop image arguments older blocks line₀ named₀ left₀ t11 line named left = Unit
 
 abbrev μ-loop : tie.MeasureT-loop
-μ-loop image arguments level blocks line₀ named₀ left₀ t10 line named left = left
+μ-loop image arguments older blocks line₀ named₀ left₀ t11 line named left = left
 
 loop-holds : tie.Need-loop-holds Inv-loop μ-loop
 loop-holds c = search needs

@@ -5,10 +5,10 @@ use Rattle.drivers.proofs.older.show_levels.Statement.{statement}
 use Rattle.drivers.proofs.older.show_levels.Tie as tie
 
 abbrev Inv-loop : tie.InvT-loop
-Inv-loop line₀ level₀ line level = Unit
+Inv-loop columns line₀ level₀ line level = Unit
 
 abbrev μ-loop : tie.MeasureT-loop
-μ-loop line₀ level₀ line level = 7 - level
+μ-loop columns line₀ level₀ line level = columns - level
 
 new-requires : tie.Need-new-requires Inv-loop μ-loop
 new-requires c κs = search needs

@@ -5,10 +5,13 @@ use Rattle.drivers.proofs.older.show_row.Statement.{statement}
 use Rattle.drivers.proofs.older.show_row.Tie as tie
 
 abbrev Inv-loop : tie.InvT-loop
-Inv-loop name image arguments shown line₀ level₀ line level = Unit
+Inv-loop name image arguments shown columns line₀ level₀ line level = Unit
 
 abbrev μ-loop : tie.MeasureT-loop
-μ-loop name image arguments shown line₀ level₀ line level = 7 - level
+μ-loop name image arguments shown columns line₀ level₀ line level = columns - level
+
+columns-requires : tie.Need-columns-requires Inv-loop μ-loop
+columns-requires c κs = search needs
 
 new-requires : tie.Need-new-requires Inv-loop μ-loop
 new-requires c κs = search needs
@@ -55,6 +58,7 @@ show-row-spec =
     (tie.spec
     Inv-loop
     μ-loop
+    columns-requires
     new-requires
     to-requires
     text-requires

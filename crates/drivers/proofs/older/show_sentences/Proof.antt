@@ -5,10 +5,10 @@ use Rattle.drivers.proofs.older.show_sentences.Statement.{statement}
 use Rattle.drivers.proofs.older.show_sentences.Tie as tie
 
 abbrev Inv-loop : tie.InvT-loop
-Inv-loop image arguments newest served level₀ level = Unit
+Inv-loop image arguments answer served level₀ level = Unit
 
 abbrev μ-loop : tie.MeasureT-loop
-μ-loop image arguments newest served level₀ level = 6 - level
+μ-loop image arguments answer served level₀ level = arguments .level - level
 
 is-served-requires : tie.Need-is-served-requires Inv-loop μ-loop
 is-served-requires c κs = search needs
@@ -22,11 +22,8 @@ say-requires c κs = search needs
 returns : tie.Need-returns Inv-loop μ-loop
 returns c = search needs
 
-slice-aggregate-say-2 : tie.Need-slice-aggregate-say-2 Inv-loop μ-loop
-slice-aggregate-say-2 c = search needs
-
-say-requires-2 : tie.Need-say-requires-2 Inv-loop μ-loop
-say-requires-2 c κs = search needs
+show-question-requires : tie.Need-show-question-requires Inv-loop μ-loop
+show-question-requires c κs = search needs
 
 loop-holds : tie.Need-loop-holds Inv-loop μ-loop
 loop-holds c = search needs
@@ -56,8 +53,7 @@ show-sentences-spec =
     slice-aggregate-say
     say-requires
     returns
-    slice-aggregate-say-2
-    say-requires-2
+    show-question-requires
     loop-holds
     show-level-requires
     add-level

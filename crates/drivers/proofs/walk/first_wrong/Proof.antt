@@ -5,16 +5,19 @@ use Rattle.drivers.proofs.walk.first_wrong.Statement.{statement}
 use Rattle.drivers.proofs.walk.first_wrong.Tie as tie
 
 abbrev Inv-loop : tie.InvT-loop
-Inv-loop words place₀ place = Unit
+Inv-loop first end role₀ place₀ role place = Unit
 
 abbrev μ-loop : tie.MeasureT-loop
-μ-loop words place₀ place = words - place
+μ-loop first end role₀ place₀ role place = end - place
 
 loop-holds : tie.Need-loop-holds Inv-loop μ-loop
 loop-holds c = search needs
 
-report-at-requires : tie.Need-report-at-requires Inv-loop μ-loop
-report-at-requires c κs = search needs
+role-at-requires : tie.Need-role-at-requires Inv-loop μ-loop
+role-at-requires c κs = search needs
+
+is-wrong-requires : tie.Need-is-wrong-requires Inv-loop μ-loop
+is-wrong-requires c κs = search needs
 
 returns : tie.Need-returns Inv-loop μ-loop
 returns c = search needs
@@ -38,7 +41,8 @@ first-wrong-spec =
     Inv-loop
     μ-loop
     loop-holds
-    report-at-requires
+    role-at-requires
+    is-wrong-requires
     returns
     add-place
     loop-less

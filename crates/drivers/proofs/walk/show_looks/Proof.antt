@@ -5,13 +5,16 @@ use Rattle.drivers.proofs.walk.show_looks.Statement.{statement}
 use Rattle.drivers.proofs.walk.show_looks.Tie as tie
 
 abbrev Inv-loop : tie.InvT-loop
-Inv-loop image arguments words walk₀ accepted₀ place₀ walk accepted place = Unit
+Inv-loop image arguments first end walk₀ accepted₀ role₀ place₀ walk accepted role place = Unit
 
 abbrev μ-loop : tie.MeasureT-loop
-μ-loop image arguments words walk₀ accepted₀ place₀ walk accepted place = words - place
+μ-loop image arguments first end walk₀ accepted₀ role₀ place₀ walk accepted role place = end - place
 
 loop-holds : tie.Need-loop-holds Inv-loop μ-loop
 loop-holds c = search needs
+
+role-at-requires : tie.Need-role-at-requires Inv-loop μ-loop
+role-at-requires c κs = search needs
 
 look-requires : tie.Need-look-requires Inv-loop μ-loop
 look-requires c κs = search needs
@@ -38,6 +41,7 @@ show-looks-spec =
     Inv-loop
     μ-loop
     loop-holds
+    role-at-requires
     look-requires
     show-look-requires
     add-place

@@ -1,0 +1,4 @@
+pub mod Word
+pub mod Options
+pub mod Commands
+pub mod Status

@@ -1,0 +1,316 @@
+//! The sentences of `./card older`, held to all walks of the second implementation: every list of looks, a reader and an older
+//! one side by side (document 01, 'The walk' and demand 3).
+
+use card::{card, samples, temporary};
+use second::calls::{block_count, mark, serve};
+use second::images::{Card, block};
+use second::random::Random;
+use second::reader::{Arguments, CHIPS, COMPACT, NEWEST_LEVEL, read_all, starts};
+use second::walk::{SERVED, Walk, fast};
+use std::collections::{BTreeSet, VecDeque};
+use std::fmt::Write as _;
+use std::fs;
+use std::io::{self, Write as _};
+use std::path::Path;
+
+/// The most blocks of an image here: it has 4,096 reports.
+const MOST_BLOCKS: usize = 12;
+
+/// The blocks that one sentence names.
+const NAMED: usize = 6;
+
+/// A walk of a level and one of an older level, with their looks and switches counted from 0.
+#[derive(Clone, Copy)]
+struct Pair {
+    newer: Walk,
+    older: Walk,
+}
+
+/// What one look makes of a walk: the number answered, settled, the selected block, and whether it switched.
+type Seen = (u8, bool, u8, bool);
+
+fn look(walk: Walk, report: &[u8]) -> (Walk, Seen) {
+    let walked = fast::look(walk, report);
+    let mut after = walked.walk;
+    let seen = (
+        walked.number,
+        after.settled,
+        after.selected,
+        after.switches != walk.switches,
+    );
+    (after.looks, after.switches) = (0, 0);
+    (after, seen)
+}
+
+impl Pair {
+    /// Both walks have read the image.
+    fn load(image: &[u8], chip: u16, reader: u8, older: u8) -> Self {
+        let load = |level| {
+            let walked = fast::load(Walk::FRESH, image, Arguments::at_level(chip, level));
+            assert_eq!(walked.number, 0);
+            walked.walk
+        };
+        Self {
+            newer: load(reader),
+            older: load(older),
+        }
+    }
+
+    /// Both after one look at the links, and whether it left them alike.
+    fn look(&self, report: &[u8]) -> (Self, bool) {
+        let (newer, newer_seen) = look(self.newer, report);
+        let (older, older_seen) = look(self.older, report);
+        (Self { newer, older }, newer_seen == older_seen)
+    }
+
+    fn states(&self) -> [(bool, u8); 2] {
+        [self.newer, self.older].map(|walk| (walk.settled, walk.selected))
+    }
+
+    /// Whether every list of these reports leaves both alike after each look.
+    fn stays_alike(self, reports: &[Vec<u8>]) -> bool {
+        let mut met = BTreeSet::from([self.states()]);
+        let mut left = VecDeque::from([self]);
+        while let Some(pair) = left.pop_front() {
+            for report in reports {
+                let (after, is_alike) = pair.look(report);
+                if !is_alike {
+                    return false;
+                }
+                if met.insert(after.states()) {
+                    left.push_back(after);
+                }
+            }
+        }
+        true
+    }
+}
+
+/// Every report for so many blocks, and two that are refused: one too short, and one with a byte above 1.
+fn reports(blocks: usize) -> Vec<Vec<u8>> {
+    let report = |links: usize| {
+        (0..blocks)
+            .map(|block| (links >> block & 1) as u8)
+            .collect()
+    };
+    let mut reports: Vec<Vec<u8>> = (0..1 << blocks).map(report).collect();
+    if blocks > 0 {
+        reports.extend([vec![1; blocks - 1], vec![2; blocks]]);
+    }
+    reports
+}
+
+/// A report with one link up.
+fn alone(blocks: usize, block: usize) -> Vec<u8> {
+    (0..blocks).map(|other| u8::from(other == block)).collect()
+}
+
+/// The blocks of the entries that an older level takes out of a reader's table, in table order: "whose kind is a type not
+/// below the older level (256 and 257 are no types)".
+fn removed(image: &[u8], chip: u16, reader: u8, older: u8) -> Vec<usize> {
+    let arguments = Arguments::at_level(chip, reader);
+    let starts = starts(image, arguments).unwrap();
+    let (_, entries) = read_all(image, arguments);
+    let is_removed = |&(kind, _): &(u16, u16)| kind < COMPACT && kind >= older.into();
+    let block = |(_, offset): (u16, u16)| {
+        let is_there = |&start: &usize| start == usize::from(offset);
+        starts.iter().position(is_there).unwrap()
+    };
+    entries.into_iter().filter(is_removed).map(block).collect()
+}
+
+/// The numbers of blocks as a sentence names them: the first six, and whether there are more.
+fn named(blocks: &[usize]) -> String {
+    let mut words = String::new();
+    for block in blocks.iter().take(NAMED) {
+        write!(words, " {block}").unwrap();
+    }
+    if NAMED < blocks.len() {
+        words += " ..";
+    }
+    words
+}
+
+/// How many sentences of each kind were held, and how many of them name more blocks than they have room for.
+#[derive(Debug, Default)]
+struct Tally {
+    whatever: usize,
+    while_down: usize,
+    no: usize,
+    fixed: usize,
+    long: usize,
+}
+
+impl Tally {
+    /// Holds what the tool says of an older level, one line or two, to all walks.
+    fn hold(
+        &mut self,
+        lines: &mut dyn Iterator<Item = &str>,
+        image: &[u8],
+        (chip, reader, level): (u16, u8, u8),
+    ) {
+        let start = Pair::load(image, chip, reader, level);
+        let blocks = start.newer.blocks.into();
+        let tells_apart = |report: &[u8]| !start.look(report).1;
+        let removed = removed(image, chip, reader, level);
+        let is_condition_needed = || {
+            let mut first = removed.iter().take(NAMED);
+            first.all(|&block| tells_apart(&alone(blocks, block)))
+        };
+        let line = lines.next().unwrap();
+        let begin = format!("  level {level}: ");
+        let sentence = line.strip_prefix(&begin).expect("a sentence for the level");
+        if sentence == "yes, whatever links are up" {
+            assert!(start.stays_alike(&reports(blocks)));
+            self.whatever += 1;
+            return;
+        }
+        self.long += usize::from(NAMED < removed.len());
+        if let Some(rest) = sentence.strip_prefix("yes, while no link is up at block") {
+            assert_eq!(rest, named(&removed));
+            let mut reports = reports(blocks);
+            reports.retain(|report| removed.iter().all(|&block| report.get(block) != Some(&1)));
+            assert!(start.stays_alike(&reports));
+            assert!(!removed.is_empty() && is_condition_needed());
+            self.while_down += 1;
+            return;
+        }
+        let default = start.newer.default_number;
+        assert_eq!(
+            sentence,
+            format!("no: with no link up it misses the default, block {default},")
+        );
+        let begin = "           and so it may with a link up at block";
+        assert_eq!(lines.next().unwrap(), format!("{begin}{}", named(&removed)));
+        assert!(tells_apart(&vec![0; blocks]));
+        assert!(!removed.is_empty() && is_condition_needed());
+        self.no += 1;
+    }
+
+    /// Holds what the tool says of a card that the newest reader accepts, as a reader of each level.
+    fn hold_card(&mut self, file: &str, image: &[u8], chip: u16) {
+        for reader in 0..=NEWEST_LEVEL {
+            self.hold_reader(file, image, chip, reader);
+        }
+    }
+
+    fn hold_reader(&mut self, file: &str, image: &[u8], chip: u16, reader: u8) {
+        let run = card(&format!("older {file} {chip} --level {reader}"));
+        // Shown where a sentence does not hold.
+        println!("{image:02x?}\n{}", run.written);
+        assert_eq!(run.status, 0);
+        let (_, below) = run.written.rsplit_once("\n\n").unwrap();
+        let mut lines = below.lines();
+        let connection = read_all(image, Arguments::newest(chip)).0.connection;
+        if SERVED.contains(&connection) {
+            assert_eq!(lines.next(), Some(&*title(reader)));
+            for level in 0..reader {
+                self.hold(&mut lines, image, (chip, reader, level));
+            }
+        } else {
+            let fixed = "The connection type is fixed, so that no driver looks: all stand alike.";
+            assert_eq!(lines.next(), Some(fixed));
+            for level in 0..reader {
+                let start = Pair::load(image, chip, reader, level);
+                let reports = reports(start.newer.blocks.into());
+                let walks = [start.newer, start.older];
+                let is_refused =
+                    |report: &Vec<u8>| walks.iter().all(|&it| look(it, report).1.0 == 22);
+                assert!(reports.iter().all(is_refused));
+                assert!(start.stays_alike(&reports));
+            }
+            self.fixed += 1;
+        }
+        assert_eq!(lines.next(), None);
+    }
+
+    /// The same of a made card, through a file.
+    fn hold_made(&mut self, folder: &Path, made: &Card, chip: u16) {
+        let file = folder.join("card.rom");
+        fs::write(&file, made.image()).unwrap();
+        self.hold_card(file.to_str().unwrap(), &made.image(), chip);
+    }
+}
+
+/// What stands above the sentences of a reader.
+fn title(reader: u8) -> String {
+    match reader {
+        0 => "No driver is older than one of level 0.".to_string(),
+        NEWEST_LEVEL => "Would a station with an older driver walk as with the newest?".to_string(),
+        _ => format!("Would a station with an older driver walk as with one of level {reader}?"),
+    }
+}
+
+/// A random card for the chip whose first controller has from 1 to 12 blocks, mostly of a type that looks serve, and in half
+/// of the cases with more blocks that have Active_Invalid.
+fn random_card(random: &mut Random, chip: u16) -> Card {
+    loop {
+        let mut card = Card::valid(random, chip);
+        if !random.one_in(6) {
+            serve(random, &mut card);
+        }
+        if random.one_in(2) {
+            mark(random, &mut card);
+        }
+        let blocks = block_count(&card.image(), Arguments::newest(chip));
+        if (1..=MOST_BLOCKS).contains(&blocks) {
+            return card;
+        }
+    }
+}
+
+/// Cards that lose more blocks than a sentence names: with a default that stays, with one that goes, and with none.
+fn long_cards() -> Vec<(Card, u16)> {
+    let sias = |count| vec![block::sia(0, None, 1, 2); count];
+    let with = |block, mut blocks: Vec<Vec<u8>>| {
+        blocks.insert(3, block);
+        blocks
+    };
+    let symbol = block::symbol(3, 0, 0, 0x4000);
+    let compact = block::compact(0, 0, 0x4000);
+    let non_miis = vec![block::non_mii(3, 0, 0); 9];
+    vec![
+        (Card::tidy(21140, SERVED[1], with(compact, non_miis)), 21140),
+        (Card::tidy(21143, SERVED[0], with(symbol, sias(10))), 21143),
+        (Card::tidy(21142, SERVED[0], sias(MOST_BLOCKS)), 21142),
+    ]
+}
+
+/// "yes, whatever": no list of looks tells the walks apart. "yes, while": none does in which no removed block is up, and each
+/// removed block, were it up alone, would. "no": a look with no link up does. A fixed type: every look is refused with 22.
+#[test]
+fn older_sentences() {
+    let mut tally = Tally::default();
+    let mut cards = 0;
+    for (name, chip, image) in samples() {
+        let is_accepted = read_all(&image, Arguments::newest(chip)).0.number == 0;
+        if is_accepted && block_count(&image, Arguments::newest(chip)) <= MOST_BLOCKS {
+            tally.hold_card(&format!("samples/{name}"), &image, chip);
+            cards += 1;
+        }
+    }
+    let folder = temporary("sentences");
+    for (card, chip) in long_cards() {
+        tally.hold_made(&folder, &card, chip);
+        cards += 1;
+    }
+    let mut random = Random::new(21143);
+    for _ in 0..12 {
+        for chip in CHIPS {
+            let card = random_card(&mut random, chip);
+            tally.hold_made(&folder, &card, chip);
+            cards += 1;
+        }
+    }
+    // To the standard error stream itself, so that a run that passes shows it too.
+    writeln!(io::stderr(), "sentences of {cards} cards: {tally:?}").unwrap();
+    let Tally {
+        whatever,
+        while_down,
+        no,
+        fixed,
+        long,
+    } = tally;
+    let least = [whatever, while_down, no, fixed, long].into_iter().min();
+    assert!(least > Some(2), "{tally:?}");
+}
