@@ -11,11 +11,11 @@ use Rattle.rom.specs.Refusal.{firstMet}
 use Rattle.block.specs.declared.Block.{Block}
 use Rattle.block.specs.Answer.{blockOf, numberOf, sizeIn, listedIn}
 use Rattle.block.proofs.Seen.{Seen, refused, unknown, a-reset, a-medium, seen-size, seen-listed}
-use Rattle.block.specs.Block.{isListed}
+use Rattle.format.specs.Block.{isListed}
 use Rattle.rom.specs.Bytes.{one}
 use Rattle.leaf.specs.Leaf.{cut, blockCauses}
 use Rattle.leaf.proofs.Cuts.{cut-more, cut-none, cut-length, rest-part, next-seen, next-fine, next-left}
-use Rattle.autosense.specs.Walk.{noFlags, flags, isInvalid, rowsOf}
+use Rattle.walk.specs.Walk.{noFlags, flags, isInvalid, rowsOf}
 use Rattle.autosense.specs.Inside.{invalidIn}
 
 -- a row with the flags of the blocks bs from number k on

@@ -1,4 +1,1 @@
-pub mod Below
 pub mod Flags
-pub mod Loads
-pub mod Looks

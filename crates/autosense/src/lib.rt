@@ -3,6 +3,10 @@ use block::Block;
 use reader::Arguments;
 use rom::NONE;
 use rom::refusal;
+use walk::Choice;
+pub use walk::Rows;
+pub use walk::Walk;
+pub use walk::Walked;
 ghost use mathlib.Core.Path.{_≡_};
 ghost use Prim.Native.Nat.{_≤_};
 ghost use Rattle.rom.specs.Refusal.{firstMet};
@@ -10,8 +14,8 @@ ghost use Rattle.block.specs.Answer.{listedIn};
 ghost use Rattle.rom.specs.Bytes.{one};
 ghost use Rattle.leaf.specs.Leaf.{cut, blockCauses};
 ghost use Rattle.autosense.specs.Inside.{invalidIn};
-ghost use Rattle.autosense.specs.Walk.{noFlags, noRows, rowsOf, freshWalk, isServed, flagAt, badReport, isCandidate, firstUp, stays};
-ghost use Rattle.autosense.specs.Walk.{chosen, switched, stepped, lookCauses, loadFor, lookFor, clearFor};
+ghost use Rattle.walk.specs.Walk.{noFlags, noRows, rowsOf, freshWalk, isServed, flagAt, badReport, isCandidate, firstUp, stays};
+ghost use Rattle.walk.specs.Walk.{chosen, switched, stepped, lookCauses, loadFor, lookFor, clearFor};
 
 // ## Connection types (document 01, 'The walk'): those that looks serve, and the one under which a settled walk stays
 
@@ -23,40 +27,6 @@ const AUTOSENSE_WITH_NWAY: u16 = 0x0900;
 
 // The most that looks and switches count.
 const MOST_LOOKS: u16 = 65535;
-
-// A flag for each block, by its number: whether it is listed, and whether it is and has Active_Invalid.
-#[repr(C)]
-pub struct Rows {
-    pub listed: [u8; 128],
-    pub active_invalid: [u8; 128],
-}
-
-// A walk, fresh or loaded. No block is selected before the first look.
-#[repr(C)]
-pub struct Walk {
-    pub loaded: bool,
-    pub connection: u16,
-    pub blocks: u8,
-    pub rows: Rows,
-    pub default_number: u8,
-    pub settled: bool,
-    pub selected: u8,
-    pub looks: u16,
-    pub switches: u16,
-}
-
-// A call's number, 0 for acceptance, and the walk after it, which a refusal leaves as it was.
-#[repr(C)]
-pub struct Walked {
-    pub number: u8,
-    pub walk: Walk,
-}
-
-// What a look selects, and whether the walk is then settled.
-struct Choice {
-    settled: bool,
-    selected: u8,
-}
 
 // ## Fresh and cleared
 

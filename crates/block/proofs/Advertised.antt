@@ -8,8 +8,8 @@ use mathlib.Core.Logic.{⊎-elim}
 use lib.Dec.{T, eqb}
 use lib.Bits.{bitAnd}
 use Rattle.rom.specs.Bytes.{bit}
-use Rattle.block.specs.Block.{exceeds}
-use Rattle.block.proofs.Rows.{both-left, both-right}
+use Rattle.format.specs.Block.{exceeds}
+use Rattle.format.proofs.Rows.{both-left, both-right}
 
 abbrev same : Bool → Bool → Bool
 same true b = b

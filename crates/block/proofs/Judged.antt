@@ -8,7 +8,7 @@ use Rattle.rom.specs.Bytes.{pick, byteAt, bit}
 use Rattle.rom.specs.Refusal.{firstMet}
 use Rattle.block.specs.declared.Block.{Block}
 use Rattle.block.specs.declared.Block.the-variants.{Refused}
-use Rattle.block.specs.Block.{Facts, lengthOf, siaSize, lengthFor, isWrong}
+use Rattle.format.specs.Block.{Facts, lengthOf, siaSize, lengthFor, isWrong}
 use Rattle.block.specs.Inside.{judged}
 use Rattle.block.specs.Answer.{answered}
 

@@ -1,11 +1,6 @@
-pub mod Lists
-pub mod Rows
-pub mod Chips
 pub mod Judged
 pub mod Phy
 pub mod Advertised
 pub mod Whole
-pub mod Exact
 pub mod Seen
 pub mod Own
-pub mod Levels

@@ -11,9 +11,9 @@ use borrow.Author.Tests.{eqb-true, eqb-false, not-false, le-ltb}
 use Rattle.rom.specs.Bytes.{pick, byteAt, wordAt, Bytes}
 use Rattle.rom.proofs.First.{none-here}
 use Rattle.rom.proofs.Truth.{or-false}
-use Rattle.block.specs.Format.{kindCompact, kind21041}
-use Rattle.block.specs.Block.{Facts, is21041, isExtended, lengthOf, siaSize, sizeOf, kindOf, isKnown, gCount, rCount, capabilitiesAt}
-use Rattle.block.specs.Block.{lengthFor, isWrong, sia, port, symbol, phy, reset, factsOf, causes, refusalOf}
+use Rattle.format.specs.Chips.{kindCompact, kind21041}
+use Rattle.format.specs.Block.{Facts, is21041, isExtended, lengthOf, siaSize, sizeOf, kindOf, isKnown, gCount, rCount, capabilitiesAt}
+use Rattle.format.specs.Block.{lengthFor, isWrong, sia, port, symbol, phy, reset, factsOf, causes, refusalOf}
 use Rattle.block.specs.Answer.{blockOf}
 use Rattle.block.specs.Inside.{phyLength}
 use Rattle.block.specs.Claims.{OwnBytes}

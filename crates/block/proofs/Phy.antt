@@ -9,7 +9,7 @@ use lib.Dec.{ltb}
 use Rattle.rom.specs.Bytes.{pick, byteAt, wordAt}
 use Rattle.block.specs.declared.Block.{Block}
 use Rattle.block.specs.declared.Block.the-variants.{Listed}
-use Rattle.block.specs.Block.{lengthOf, gCount, rCount, capabilitiesAt, lengthFor, isWrong, exceeds}
+use Rattle.format.specs.Block.{lengthOf, gCount, rCount, capabilitiesAt, lengthFor, isWrong, exceeds}
 use Rattle.block.specs.Inside.{phyLength}
 use Rattle.block.proofs.Judged.{is-wrong, is-right}
 

@@ -11,7 +11,7 @@ use Rattle.rom.specs.Bytes.{pick, one}
 use Rattle.rom.proofs.First.{none-here}
 use Rattle.block.specs.declared.Block.{Block}
 use Rattle.block.specs.declared.Block.the-variants.{Reset, Unknown, Refused}
-use Rattle.block.specs.Block.{sizeOf, kindOf, isKnown, factsOf, isListed, causes, refusalOf}
+use Rattle.format.specs.Block.{sizeOf, kindOf, isKnown, factsOf, isListed, causes, refusalOf}
 use Rattle.block.specs.Answer.{listed, found, answered, blockOf, numberOf, sizeIn, listedIn, kindIn}
 use Rattle.block.specs.Claims.{AnswersRefusal, AnswersEntry}
 

@@ -11,11 +11,12 @@ use Rattle.rom.specs.Bytes.{pick, bit, byteAt}
 use Rattle.rom.specs.Refusal.{firstMet}
 use Rattle.block.specs.declared.Block.{Block}
 use Rattle.block.specs.declared.Block.the-variants.{Unknown, Refused}
-use Rattle.block.specs.Format.{row21041, kindCompact, kind21041, newestLevel, isPermitted}
-use Rattle.block.specs.Block.{is21041, isExtended, lengthOf, siaSize, sizeOf, kindOf, isKnown, causes, refusalOf}
+use Rattle.format.specs.Chips.{row21041, kindCompact, kind21041, newestLevel, isPermitted}
+use Rattle.format.specs.Block.{is21041, isExtended, lengthOf, siaSize, sizeOf, kindOf, isKnown, causes, refusalOf}
 use Rattle.block.specs.Inside.{judged, judgedAs}
 use Rattle.block.specs.Answer.{answered, blockOf}
-use Rattle.block.proofs.Chips.{permitted-type}
+use Rattle.block.specs.Claims.{OnlyKnown}
+use Rattle.format.proofs.Chips.{permitted-type}
 
 -- whether a block is extended, its kind and its size, as its first bytes say
 pub record Form (row : ℕ) (s : List ℕ) (extended : Bool) (kind size : ℕ) : Type 0 where
@@ -130,3 +131,8 @@ size-small row s = go (is21041 row) (bit 6 (byteAt s 0)) (isExtended row s)
     go true false v = omega arith
     go false u true = omega arith
     go false u false = omega arith
+
+-- the causes and the case take the level only as what it knows
+pub only-known : OnlyKnown
+unfolding blockOf refusalOf causes
+only-known row older newest s e = rw e

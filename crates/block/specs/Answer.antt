@@ -6,7 +6,7 @@ use Rattle.rom.specs.Bytes.{pick}
 use Rattle.block.specs.declared.Block.{Block}
 use Rattle.block.specs.declared.Medium.{Medium}
 use Rattle.block.specs.declared.Block.the-variants.{Listed, Reset, Unknown, Refused}
-use Rattle.block.specs.Block.{Facts, sizeOf, kindOf, isKnown, factsOf, refusalOf}
+use Rattle.format.specs.Block.{Facts, sizeOf, kindOf, isKnown, factsOf, refusalOf}
 
 -- ## The cases
 

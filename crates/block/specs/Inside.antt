@@ -3,7 +3,7 @@ use Prim.Native.Nat.{ℕ, _+_, _*_}
 use mathlib.Core.List.{List, [], _∷_}
 use Rattle.rom.specs.Refusal.{_⇒_, firstMet}
 use Rattle.block.specs.declared.Block.{Block}
-use Rattle.block.specs.Block.{Facts, gCount, rCount, factsOf}
+use Rattle.format.specs.Block.{Facts, gCount, rCount, factsOf}
 use Rattle.block.specs.Answer.{listed, found, answered}
 
 unfoldable pub judged : Facts → Block → Block

@@ -4,7 +4,7 @@ use super::KIND_COMPACT;
 use super::search::is_in;
 use super::search::place_of;
 ghost use mathlib.Core.Path.{_≡_};
-ghost use Rattle.block.specs.Format.{rowOf, isConnection, isPermitted};
+ghost use Rattle.format.specs.Chips.{rowOf, isConnection, isPermitted};
 
 // By their decimal numbers, in the order of their rows. The 21140A counts as 21140.
 const CHIPS: [u16; 5] = [21041, 21140, 21142, 21143, 21145];

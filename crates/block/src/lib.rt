@@ -12,8 +12,8 @@ ghost use mathlib.Core.Path.{_≡_};
 ghost use mathlib.Core.Bool.{false};
 ghost use Prim.Native.Nat.{ℕ, _+_, _≤_, _<_};
 ghost use Rattle.rom.specs.Bytes.{byteAt, bit};
-ghost use Rattle.block.specs.Format.{row21041, newestLevel};
-ghost use Rattle.block.specs.Block.{lengthOf, siaSize, countsAsDefault, exceeds, lengthFor, isWrong, sia, port, symbol, phy, reset};
+ghost use Rattle.format.specs.Chips.{row21041, newestLevel};
+ghost use Rattle.format.specs.Block.{lengthOf, siaSize, countsAsDefault, exceeds, lengthFor, isWrong, sia, port, symbol, phy, reset};
 ghost use Rattle.block.specs.Inside.{asMedium, judged, judgedAs, phyLength};
 ghost use Rattle.block.specs.Answer.{blockOf, numberOf, sizeIn, listedIn};
 

@@ -1,7 +1,7 @@
 // Short lists, searched from the front.
 ghost use mathlib.Core.Path.{_≡_};
 ghost use Rattle.rom.specs.Bytes.{isIn};
-ghost use Rattle.block.specs.Format.{placeOf};
+ghost use Rattle.format.specs.Chips.{placeOf};
 
 // The place of x in a list, or the list's length.
 pub(crate) fn place_of(x: u16, list: &[u16]) -> usize

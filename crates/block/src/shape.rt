@@ -5,7 +5,7 @@ use super::chip::ROW_21041;
 use super::sia_size;
 use rom::ByteOffset;
 ghost use mathlib.Core.Path.{_≡_};
-ghost use Rattle.block.specs.Block.{isExtended, sizeOf, kindOf};
+ghost use Rattle.format.specs.Block.{isExtended, sizeOf, kindOf};
 
 // Whether the block is extended, for the chip at a row.
 pub fn is_extended(rest: &[u8], row: usize) -> bool

@@ -7,8 +7,8 @@ use console::arguments::Words;
 use console::command;
 use console::input;
 use console::status;
+use drivers::looks;
 use drivers::older;
-use drivers::walk;
 use libc::STDOUT_FILENO;
 use reader::Arguments;
 use report::words;
@@ -75,7 +75,7 @@ fn run_on(bytes: &[u8], words: Words) -> u8 {
     match command {
         command::READ => status::of(listing::show(bytes, arguments)),
         command::OLDER => status::of(older::show(bytes, arguments)),
-        command::WALK => walk::show(bytes, arguments, places[2]),
+        command::WALK => looks::show(bytes, arguments, places[2]),
         command::SHEET => sheets::make(bytes, arguments, places[2], force),
         command::MAP => picture::show(bytes, arguments, places[2], force),
         _ => sheets::write(bytes, places[1], force),

@@ -8,7 +8,7 @@ use Rattle.rom.specs.Bytes.{pick}
 use Rattle.text.specs.Slices.{sameBytes}
 use Rattle.text.specs.Quoted.{quoted}
 use Rattle.text.specs.Numbers.{decimalNumber}
-use Rattle.block.specs.Format.{rowOf}
+use Rattle.format.specs.Chips.{rowOf}
 
 -- whether it is this one
 abbrev pub isWord : String → List ℕ → Bool

@@ -16,8 +16,8 @@ use Rattle.crc.specs.declared.Checksum.{Checksum}
 use Rattle.crc.specs.Crc.{sromCrc, idCrc}
 use Rattle.crc.specs.Answer.{sromAnswer, idAnswer}
 use Rattle.crc.proofs.Answers.{accepted}
-use Rattle.block.specs.Format.{chips, placeOf, rowOf}
-use Rattle.block.proofs.Lists.{in-place}
+use Rattle.format.specs.Chips.{chips, placeOf, rowOf}
+use Rattle.format.proofs.Lists.{in-place}
 use Rattle.header.specs.declared.Arguments.{Arguments}
 use Rattle.header.specs.declared.Header.{Header}
 use Rattle.header.specs.Image.{versions, controllerCount, reservedAt, baseAddress, addressOf, headerLength, controlByte, blocksAt}

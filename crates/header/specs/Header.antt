@@ -4,7 +4,7 @@ use mathlib.Core.List.{List, _++_}
 use lib.Dec.{eqb}
 use Rattle.rom.specs.Bytes.{pick, wordAt}
 use Rattle.rom.specs.Refusal.{Cause, firstMet}
-use Rattle.block.specs.Format.{rowOf}
+use Rattle.format.specs.Chips.{rowOf}
 use Rattle.header.specs.declared.Arguments.{Arguments}
 use Rattle.header.specs.declared.Header.{Header}
 use Rattle.header.specs.Image.{addressOf, leafAt, controlByte, blocksAt, blockCount, imageCauses, argumentCauses, leafHeaderCauses}

@@ -9,7 +9,7 @@ use Rattle.rom.specs.Geometry.{mostControllers}
 use Rattle.rom.specs.Bytes.{pick, byteAt, wordAt, isIn}
 use Rattle.rom.specs.Refusal.{Cause, _⇒_}
 use Rattle.crc.specs.Crc.{sromCrc, idCrc}
-use Rattle.block.specs.Format.{chips, row21140, isConnection, newestLevel}
+use Rattle.format.specs.Chips.{chips, row21140, isConnection, newestLevel}
 use Rattle.header.specs.declared.Arguments.{Arguments}
 
 -- ## The header

@@ -15,9 +15,9 @@ use Rattle.rom.specs.Refusal.{firstMet}
 use Rattle.rom.proofs.First.{none-here, after-accepted, after-refused}
 use Rattle.rom.proofs.Truth.{or-false}
 use Rattle.block.specs.declared.Block.{Block}
-use Rattle.block.specs.Block.{kindOf, isKnown, factsOf, reset, causes, refusalOf, isListed, isReset, isSkipped, isDefault, resetsPhy}
+use Rattle.format.specs.Block.{kindOf, isKnown, factsOf, reset, causes, refusalOf, isListed, isReset, isSkipped, isDefault, resetsPhy}
 use Rattle.block.specs.Answer.{blockOf, numberOf, sizeIn}
-use Rattle.block.proofs.Exact.{causes-numbered}
+use Rattle.format.proofs.Exact.{causes-numbered}
 use Rattle.block.proofs.Seen.{Seen, refused, unknown, a-reset, a-medium, seen, seen-number, seen-size}
 use Rattle.leaf.specs.declared.Tally.{Tally}
 use Rattle.leaf.specs.Leaf.{cut, countOf, firstFrom, clash, blockCauses, clashCause, leafCauses}

@@ -11,9 +11,9 @@ use lib.Seq.{take-all}
 use Rattle.rom.specs.Refusal.{firstMet, Numbered}
 use Rattle.rom.proofs.First.{exact, numbered-append, both-accepted}
 use Rattle.block.specs.declared.Block.{Block}
-use Rattle.block.specs.Block.{sizeOf, causes, refusalOf}
+use Rattle.format.specs.Block.{sizeOf, causes, refusalOf}
 use Rattle.block.specs.Answer.{blockOf, numberOf, sizeIn}
-use Rattle.block.proofs.Exact.{causes-numbered}
+use Rattle.format.proofs.Exact.{causes-numbered}
 use Rattle.block.proofs.Seen.{Seen, seen, seen-number, seen-size, fits}
 use Rattle.leaf.specs.Leaf.{cut, blockCauses, clashCause, leafCauses}
 use Rattle.leaf.specs.Claims.{ExactLeaf}

@@ -11,7 +11,7 @@ use lib.Seq.{drop-drop}
 use Rattle.rom.specs.Bytes.{pick, one}
 use Rattle.rom.specs.Refusal.{firstMet}
 use Rattle.block.specs.declared.Block.{Block}
-use Rattle.block.specs.Block.{sizeOf, isListed}
+use Rattle.format.specs.Block.{sizeOf, isListed}
 use Rattle.block.specs.Answer.{numberOf, listedIn}
 use Rattle.block.proofs.Seen.{Seen, seen-listed, fits}
 use Rattle.leaf.specs.Leaf.{cut, countOf, blockCauses, Place, placed, keep, table, tableOf}

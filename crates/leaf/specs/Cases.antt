@@ -4,7 +4,7 @@ use mathlib.Core.List.{List, [], _∷_, _++_, map}
 use lib.Dec.{eqb}
 use lib.ListN.{take, drop, replicate}
 use Rattle.rom.specs.Bytes.{pick, byteAt}
-use Rattle.block.specs.Format.{rowOf, row21140}
+use Rattle.format.specs.Chips.{rowOf, row21140}
 use Rattle.leaf.specs.Leaf.{cut, tableOf, kindAt, startAt}
 use Rattle.leaf.specs.Tally.{tallyOf}
 

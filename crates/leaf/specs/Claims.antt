@@ -3,7 +3,7 @@ use Prim.Native.Nat.{ℕ, _+_}
 use mathlib.Core.Path.{_≡_}
 use mathlib.Core.List.{List, _++_, map}
 use Rattle.rom.specs.Refusal.{firstMet, Exact}
-use Rattle.block.specs.Block.{isListed, isReset, isSkipped}
+use Rattle.format.specs.Block.{isListed, isReset, isSkipped}
 use Rattle.leaf.specs.Cases.{runLeaf, paperCases, furtherCases}
 use Rattle.leaf.specs.Leaf.{cut, countOf, leafCauses}
 

@@ -8,7 +8,7 @@ use lib.Dec.{ltb}
 use Rattle.rom.specs.Geometry.{none}
 use Rattle.rom.specs.Bytes.{pick, one}
 use Rattle.rom.specs.Refusal.{Cause, _⇒_}
-use Rattle.block.specs.Block.{sizeOf, kindOf, isListed, isReset, isDefault, resetsPhy, causes}
+use Rattle.format.specs.Block.{sizeOf, kindOf, isListed, isReset, isDefault, resetsPhy, causes}
 
 -- so many blocks, numbered from 0 as they stand
 unfoldable pub cut : ℕ → ℕ → List ℕ → List (List ℕ)

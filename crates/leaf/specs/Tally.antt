@@ -5,7 +5,7 @@ use lib.Dec.{eqb}
 use Rattle.rom.specs.Bytes.{pick}
 use Rattle.rom.specs.Refusal.{firstMet}
 use Rattle.leaf.specs.declared.Tally.{Tally}
-use Rattle.block.specs.Block.{isListed, isReset, isSkipped, isDefault, resetsPhy}
+use Rattle.format.specs.Block.{isListed, isReset, isSkipped, isDefault, resetsPhy}
 use Rattle.leaf.specs.Leaf.{countOf, firstFrom, leafCauses}
 
 -- a refusal's number and zeros

@@ -12,8 +12,8 @@ use borrow.Author.Tests.{eqb-false}
 use Rattle.rom.specs.Bytes.{pick, byteAt, bit}
 use Rattle.rom.proofs.First.{none-here}
 use Rattle.rom.proofs.Truth.{or-false}
-use Rattle.block.specs.Format.{newestLevel}
-use Rattle.block.specs.Block.{is21041, isExtended, lengthOf, siaSize, sizeOf, causes, refusalOf}
+use Rattle.format.specs.Chips.{newestLevel}
+use Rattle.format.specs.Block.{is21041, isExtended, lengthOf, siaSize, sizeOf, causes, refusalOf}
 use Rattle.block.proofs.Seen.{fits}
 use Rattle.block.proofs.Whole.{size-small}
 use Rattle.leaf.proofs.Cuts.{cut-more, cut-none, first-accepted}

@@ -8,7 +8,7 @@ use mathlib.Core.List.{List, [], _∷_, _++_}
 use lib.ListN.{length, take, drop, length-append}
 use Rattle.rom.specs.Store.{wordBytes, put, laid}
 use Rattle.rom.proofs.Put.{put-none, put-length, joined, laid-put}
-use Rattle.block.specs.Block.{sizeOf}
+use Rattle.format.specs.Block.{sizeOf}
 use Rattle.leaf.proofs.Cuts.{rest-part}
 use Rattle.sheet.specs.Record.{Entry}
 use Rattle.sheet.specs.Sheet.{kindBytes, sizeBytes, bodyBytes}

@@ -5,7 +5,7 @@ use native.Mathlib.Nat.{sub-zero, zero-add}
 use mathlib.Core.Path.{_≡_, ap, _∙_}
 use mathlib.Core.List.{List}
 use lib.ListN.{length, take, drop, length-append, length-drop}
-use Rattle.block.specs.Block.{sizeOf}
+use Rattle.format.specs.Block.{sizeOf}
 use Rattle.leaf.specs.Leaf.{cut}
 use Rattle.leaf.proofs.Cuts.{cut-more, cut-none, rest-part}
 use Rattle.sheet.specs.Record.{Entry}

@@ -8,7 +8,7 @@ use lib.Dec.{eqb}
 use Rattle.rom.specs.Geometry.{leavesEnd, addressAt}
 use Rattle.rom.specs.Store.{wordBytes}
 use Rattle.rom.specs.Refusal.{firstMet}
-use Rattle.block.specs.Format.{newestLevel}
+use Rattle.format.specs.Chips.{newestLevel}
 use Rattle.header.specs.Image.{controllerCount, leafAt}
 use Rattle.leaf.specs.Leaf.{cut, blockCauses}
 use Rattle.reader.specs.declared.Answer.{Answer}

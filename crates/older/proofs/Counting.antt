@@ -10,10 +10,10 @@ use borrow.Author.Tests.{eqb-true, ne-eqb}
 use Rattle.rom.specs.Bytes.{pick, one}
 use Rattle.rom.specs.Refusal.{firstMet}
 use Rattle.header.specs.declared.Arguments.{Arguments}
-use Rattle.autosense.specs.declared.Walk.{Walk}
-use Rattle.autosense.specs.Walk.{freshWalk, loadedWalk, chosen, switched, stepped, lookCauses, loadCauses, walkedTo, loadFor, lookFor}
-use Rattle.autosense.specs.Walk.{clearFor}
-use Rattle.autosense.proofs.Looks.{accepted-looks}
+use Rattle.walk.specs.declared.Walk.{Walk}
+use Rattle.walk.specs.Walk.{freshWalk, loadedWalk, chosen, switched, stepped, lookCauses, loadCauses, walkedTo, loadFor, lookFor}
+use Rattle.walk.specs.Walk.{clearFor}
+use Rattle.walk.proofs.Looks.{accepted-looks}
 use Rattle.older.specs.FromFresh.{FromFresh, fresh, load, look, clear}
 use Rattle.older.specs.Claims.{CountsExactly}
 

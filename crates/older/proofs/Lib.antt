@@ -4,7 +4,6 @@ pub mod Numbered
 pub mod Simulation
 pub mod OlderReadings
 pub mod OlderReader
-pub mod Refusals
 pub mod Order
 pub mod RemovedNumbers
 pub mod Counting

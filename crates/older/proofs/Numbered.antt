@@ -11,10 +11,10 @@ use borrow.Author.Tests.{eqb-true}
 use Rattle.rom.specs.Geometry.{none}
 use Rattle.rom.specs.Bytes.{pick, one}
 use Rattle.rom.proofs.Truth.{true-false}
-use Rattle.block.specs.Block.{kindOf, isKnown, factsOf, reset, isListed, isDefault}
-use Rattle.block.proofs.Levels.{known-up}
+use Rattle.format.specs.Block.{kindOf, isKnown, factsOf, reset, isListed, isDefault}
+use Rattle.format.proofs.Levels.{known-up}
 use Rattle.leaf.specs.Leaf.{firstFrom}
-use Rattle.autosense.specs.Walk.{blockIs, flags, flagAt, isInvalid}
+use Rattle.walk.specs.Walk.{blockIs, flags, flagAt, isInvalid}
 use Rattle.older.specs.Levels.{isRemoved}
 
 -- ## Flags

@@ -11,8 +11,8 @@ use borrow.Author.Tests.{ltb-false, le-ltb}
 use Rattle.rom.specs.Bytes.{pick, one}
 use Rattle.rom.proofs.Fewer.{Fewer, end, and, fewer, fewer-append}
 use Rattle.rom.proofs.Truth.{true-false}
-use Rattle.block.specs.Block.{kindOf, isKnown, factsOf, isListed, isReset, isDefault, resetsPhy}
-use Rattle.block.proofs.Levels.{known-up, causes-down}
+use Rattle.format.specs.Block.{kindOf, isKnown, factsOf, isListed, isReset, isDefault, resetsPhy}
+use Rattle.format.proofs.Levels.{known-up, causes-down}
 use Rattle.leaf.specs.Leaf.{Place, keep, table, countOf, clash, blockCauses, clashCause, leafCauses}
 use Rattle.leaf.proofs.Cuts.{leaf-numbered}
 use Rattle.older.specs.Claims.{OlderTable, OlderAccepts}

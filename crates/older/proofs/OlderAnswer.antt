@@ -11,8 +11,8 @@ use borrow.Author.Tests.{eqb-true}
 use Rattle.rom.specs.Geometry.{none}
 use Rattle.rom.specs.Bytes.{pick, one}
 use Rattle.rom.proofs.Truth.{true-false}
-use Rattle.block.specs.Block.{kindOf, isKnown, factsOf, isListed, isReset, isSkipped, isDefault}
-use Rattle.block.proofs.Levels.{known-up, and-down}
+use Rattle.format.specs.Block.{kindOf, isKnown, factsOf, isListed, isReset, isSkipped, isDefault}
+use Rattle.format.proofs.Levels.{known-up, and-down}
 use Rattle.leaf.specs.Leaf.{countOf, firstFrom}
 use Rattle.older.specs.Claims.{OlderCounts, OlderDefault}
 use Rattle.older.proofs.Numbered.{Found, absent, at, found}

@@ -8,15 +8,15 @@ use lib.ListN.{length}
 use Rattle.rom.specs.Geometry.{none}
 use Rattle.rom.specs.Bytes.{pick}
 use Rattle.rom.specs.Refusal.{firstMet}
-use Rattle.block.specs.Format.{newestLevel}
+use Rattle.format.specs.Chips.{newestLevel}
 use Rattle.header.specs.declared.Arguments.{Arguments}
 use Rattle.header.specs.Image.{restFrom}
 use Rattle.header.specs.Header.{rowFor, startFor, countFor, atLevel}
 use Rattle.leaf.proofs.Cuts.{cut-length}
 use Rattle.reader.specs.declared.Answer.{Answer}
 use Rattle.reader.specs.Reading.{blocksFor, judgeCauses, acceptedAnswer, answerFor, judgeAnswer}
-use Rattle.autosense.specs.Walk.{freshWalk, loadedWalk, rowsOf, loadCauses, walkedTo, loadFor}
-use Rattle.autosense.proofs.Loads.{few-blocks}
+use Rattle.walk.specs.Walk.{freshWalk, loadedWalk, rowsOf, loadCauses, walkedTo, loadFor}
+use Rattle.walk.proofs.Loads.{few-blocks}
 use Rattle.older.specs.Levels.{removedBlock}
 use Rattle.older.specs.Claims.{WalksAgree, OlderReader}
 use Rattle.older.proofs.Numbered.{block-past, listed-same, invalid-same}

@@ -12,8 +12,8 @@ use Rattle.rom.specs.Bytes.{pick}
 use Rattle.rom.specs.Refusal.{Cause, firstMet}
 use Rattle.rom.proofs.First.{after-accepted, both-accepted}
 use Rattle.rom.proofs.Fewer.{Fewer, end, and, fewer, fewer-append}
-use Rattle.block.specs.Format.{newestLevel}
-use Rattle.block.specs.Block.{isKnown, isListed}
+use Rattle.format.specs.Chips.{newestLevel}
+use Rattle.format.specs.Block.{isKnown, isListed}
 use Rattle.header.specs.declared.Arguments.{Arguments}
 use Rattle.header.specs.Image.{restFrom, imageCauses, argumentCauses, leafHeaderCauses}
 use Rattle.header.specs.Header.{rowFor, leafFor, startFor, countFor, headerCauses, atLevel}

@@ -7,15 +7,15 @@ use mathlib.Core.Path.{_≡_, refl, ap, sym, _∙_}
 use mathlib.Core.Bool.{Bool, true, false, _&&_, not}
 use lib.ListN.{length, getD, replicate, length-append, length-map, length-replicate}
 use Rattle.rom.specs.Bytes.{pick, one}
-use Rattle.block.specs.Block.{sizeOf, isListed}
+use Rattle.format.specs.Block.{sizeOf, isListed}
 use Rattle.header.specs.Image.{restFrom}
 use Rattle.header.specs.Header.{rowFor, startFor, countFor}
 use Rattle.leaf.specs.Leaf.{Place, placed, keep, table, tableOf}
 use Rattle.leaf.proofs.Cuts.{cut-length}
 use Rattle.reader.specs.Reading.{blocksFor, acceptedAnswer}
 use Rattle.rom.specs.Geometry.{none}
-use Rattle.autosense.specs.Walk.{rowLength, flags, blockIs, isInvalid, isUp, rowsOf, loadedWalk, lastBelow, isCandidate, firstUp}
-use Rattle.autosense.proofs.Loads.{few-blocks}
+use Rattle.walk.specs.Walk.{rowLength, flags, blockIs, isInvalid, isUp, rowsOf, loadedWalk, lastBelow, isCandidate, firstUp}
+use Rattle.walk.proofs.Loads.{few-blocks}
 use Rattle.older.specs.Claims.{FlagForEach, RowsSay, numbersFrom, entryNumbers, firstOf, TableNumbers, FirstInOrder}
 use Rattle.older.proofs.Numbered.{flag-block}
 use Rattle.older.proofs.OlderReadings.{parts}

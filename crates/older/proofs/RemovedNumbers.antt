@@ -10,12 +10,12 @@ use lib.ListN.{getD}
 use borrow.Author.Tests.{eqb-true, eq-eqb, ne-eqb}
 use Rattle.rom.specs.Bytes.{pick, isIn}
 use Rattle.rom.proofs.Truth.{and-false}
-use Rattle.block.specs.Format.{newestLevel}
-use Rattle.block.specs.Block.{sizeOf, kindOf, isKnown, isListed}
+use Rattle.format.specs.Chips.{newestLevel}
+use Rattle.format.specs.Block.{sizeOf, kindOf, isKnown, isListed}
 use Rattle.header.specs.Header.{rowFor, startFor, atLevel}
 use Rattle.leaf.specs.Leaf.{Place, placed}
 use Rattle.reader.specs.Reading.{blocksFor}
-use Rattle.autosense.specs.Walk.{blockIs}
+use Rattle.walk.specs.Walk.{blockIs}
 use Rattle.older.specs.Levels.{isRemoved}
 use Rattle.older.specs.Written.{TableEntry, tableIn, removed, numbersOf}
 use Rattle.older.specs.Claims.{numbersFrom, entryNumbers, RemovedNumbers}

@@ -11,10 +11,10 @@ use Rattle.rom.specs.Bytes.{pick}
 use Rattle.rom.specs.Refusal.{firstMet}
 use Rattle.rom.proofs.Truth.{and-false}
 use Rattle.header.specs.declared.Arguments.{Arguments}
-use Rattle.autosense.specs.declared.Walk.{Walk}
-use Rattle.autosense.specs.Walk.{isUp, freshWalk, lastBelow, stays, isCandidate, firstUp, upIn, choice, chosen, stepped}
-use Rattle.autosense.specs.Walk.{lookCauses, walkedTo, loadFor, lookFor, clearFor}
-use Rattle.autosense.proofs.Loads.{load-loaded}
+use Rattle.walk.specs.declared.Walk.{Walk}
+use Rattle.walk.specs.Walk.{isUp, freshWalk, lastBelow, stays, isCandidate, firstUp, upIn, choice, chosen, stepped}
+use Rattle.walk.specs.Walk.{lookCauses, walkedTo, loadFor, lookFor, clearFor}
+use Rattle.walk.proofs.Loads.{load-loaded}
 use Rattle.older.specs.Calls.{Call, load, look, clear, call, Seen, fresh, loaded, seen, after, run, DownAt, Down}
 use Rattle.older.specs.Alike.{Alike, DefaultKept, SameState, StandAlike}
 use Rattle.older.specs.Claims.{SeenTells, OneLook}

@@ -11,13 +11,13 @@ use Rattle.rom.specs.Bytes.{pick}
 use Rattle.rom.specs.Refusal.{firstMet}
 use Rattle.header.specs.declared.Arguments.{Arguments}
 use Rattle.header.specs.Header.{rowFor}
-use Rattle.block.specs.Block.{isListed, isDefault}
+use Rattle.format.specs.Block.{isListed, isDefault}
 use Rattle.leaf.specs.Leaf.{firstFrom}
 use Rattle.reader.specs.Reading.{blocksFor, acceptedAnswer}
-use Rattle.autosense.specs.declared.Walk.{Walk}
+use Rattle.walk.specs.declared.Walk.{Walk}
 use Rattle.rom.specs.Geometry.{none}
-use Rattle.autosense.specs.Walk.{flags, flagAt, isUp, rowsOf, freshWalk, loadedWalk, lastBelow, stays, isCandidate, firstUp, upIn, choice}
-use Rattle.autosense.specs.Walk.{chosen, stepped, lookCauses, loadCauses, walkedTo, loadFor, lookFor, clearFor}
+use Rattle.walk.specs.Walk.{flags, flagAt, isUp, rowsOf, freshWalk, loadedWalk, lastBelow, stays, isCandidate, firstUp, upIn, choice}
+use Rattle.walk.specs.Walk.{chosen, stepped, lookCauses, loadCauses, walkedTo, loadFor, lookFor, clearFor}
 use Rattle.older.specs.FromFresh.{FromFresh, fresh, load, look, clear}
 use Rattle.older.specs.Claims.{StandsOnEntry}
 use Rattle.older.proofs.Numbered.{Found, found, absent, at, block-at, default-listed, flag-block}

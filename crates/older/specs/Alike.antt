@@ -2,8 +2,8 @@
 use Prim.Native.Nat.{ℕ}
 use mathlib.Core.Path.{_≡_}
 use mathlib.Core.Bool.{Bool, false}
-use Rattle.autosense.specs.declared.Walk.{Walk}
-use Rattle.autosense.specs.Walk.{flagAt}
+use Rattle.walk.specs.declared.Walk.{Walk}
+use Rattle.walk.specs.Walk.{flagAt}
 
 -- the same leaf, with the same flags but for removed blocks
 pub record Alike (removed : ℕ → Bool) (new old : Walk) : Type 0 where

@@ -6,9 +6,9 @@ use mathlib.Core.Bool.{Bool, true, false}
 use Rattle.rom.specs.Bytes.{pick}
 use Rattle.rom.specs.Refusal.{firstMet}
 use Rattle.header.specs.declared.Arguments.{Arguments}
-use Rattle.autosense.specs.declared.Walk.{Walk}
-use Rattle.autosense.specs.declared.Walked.{Walked}
-use Rattle.autosense.specs.Walk.{isUp, lookCauses, loadFor, lookFor, clearFor}
+use Rattle.walk.specs.declared.Walk.{Walk}
+use Rattle.walk.specs.declared.Walked.{Walked}
+use Rattle.walk.specs.Walk.{isUp, lookCauses, loadFor, lookFor, clearFor}
 
 -- a load of the image at hand, a look with a report, or a clear
 pub data Call : Type 0 where

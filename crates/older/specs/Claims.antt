@@ -8,17 +8,16 @@ use lib.Dec.{eqb, ltb}
 use lib.ListN.{length, getD}
 use Rattle.rom.specs.Geometry.{none}
 use Rattle.rom.specs.Bytes.{pick, one, isIn}
-use Rattle.rom.specs.Refusal.{firstMet, Exact}
-use Rattle.block.specs.Format.{newestLevel}
-use Rattle.block.specs.Block.{kindOf, isKnown, isListed, isReset, isSkipped, isDefault}
+use Rattle.rom.specs.Refusal.{firstMet}
+use Rattle.format.specs.Chips.{newestLevel}
+use Rattle.format.specs.Block.{kindOf, isKnown, isListed, isReset, isSkipped, isDefault}
 use Rattle.header.specs.declared.Arguments.{Arguments}
 use Rattle.header.specs.Header.{rowFor, startFor, atLevel}
 use Rattle.leaf.specs.Leaf.{Place, placed, keep, table, countOf, firstFrom, leafCauses}
 use Rattle.reader.specs.declared.Answer.{Answer}
 use Rattle.reader.specs.Reading.{blocksFor, tableFor, judgeCauses, judgeAnswer}
-use Rattle.autosense.specs.declared.Walk.{Walk}
-use Rattle.autosense.specs.Walk.{rowLength, blockIs, flagAt, isInvalid, isUp, freshWalk, loadedWalk, firstUp, lookCauses, loadCauses}
-use Rattle.autosense.specs.Walk.{loadFor, lookFor}
+use Rattle.walk.specs.declared.Walk.{Walk}
+use Rattle.walk.specs.Walk.{rowLength, blockIs, flagAt, isInvalid, isUp, freshWalk, loadedWalk, firstUp, lookFor}
 use Rattle.older.specs.Levels.{isKept, onlyNewest, isRemoved, removedBlock}
 use Rattle.older.specs.Calls.{Call, look, DownAt, Down, seen, run}
 use Rattle.older.specs.Written.{Arrays, Room, answerOf, TableEntry, tableIn, those, removed, kept, numbersOf}
@@ -102,22 +101,6 @@ abbrev pub OneLook : Type 0
 OneLook = (removed : ℕ → Bool) (new old : Walk) (report : List ℕ) → removed none ≡ false →
     StandAlike removed new old → DefaultKept removed new old → DownAt removed new (look report) →
     (lookFor old report .number ≡ lookFor new report .number) × StandAlike removed (lookFor new report .walk) (lookFor old report .walk)
-
--- ## Refusals (demand 1)
-
--- a refusal is exact: other than 0, its cause is met and none before it is; 0, none is met
-abbrev pub ExactLoad : Type 0
-ExactLoad = (w : Walk) (image : List ℕ) (a : Arguments) → Exact (loadCauses w image a) (loadFor w image a .number)
-
-abbrev pub ExactLook : Type 0
-ExactLook = (w : Walk) (report : List ℕ) → Exact (lookCauses w report) (lookFor w report .number)
-
--- and leaves the walk as it was
-abbrev pub RefusedLoad : Type 0
-RefusedLoad = (w : Walk) (image : List ℕ) (a : Arguments) → (loadFor w image a .number ≡ 0 → ⊥) → loadFor w image a .walk ≡ w
-
-abbrev pub RefusedLook : Type 0
-RefusedLook = (w : Walk) (report : List ℕ) → (lookFor w report .number ≡ 0 → ⊥) → lookFor w report .walk ≡ w
 
 -- ## Rows (demand 2)
 

@@ -2,8 +2,8 @@
 use Prim.Native.Nat.{ℕ}
 use mathlib.Core.List.{List}
 use Rattle.header.specs.declared.Arguments.{Arguments}
-use Rattle.autosense.specs.declared.Walk.{Walk}
-use Rattle.autosense.specs.Walk.{freshWalk, loadFor, lookFor, clearFor}
+use Rattle.walk.specs.declared.Walk.{Walk}
+use Rattle.walk.specs.Walk.{freshWalk, loadFor, lookFor, clearFor}
 
 -- from a fresh one, with any images, arguments and reports
 pub data FromFresh : Walk → Type 0 where

@@ -2,13 +2,13 @@
 use Prim.Native.Nat.{ℕ}
 use mathlib.Core.List.{List}
 use mathlib.Core.Bool.{Bool, _&&_, not}
-use Rattle.block.specs.Format.{newestLevel}
-use Rattle.block.specs.Block.{kindOf, isKnown, isListed}
+use Rattle.format.specs.Chips.{newestLevel}
+use Rattle.format.specs.Block.{kindOf, isKnown, isListed}
 use Rattle.header.specs.declared.Arguments.{Arguments}
 use Rattle.header.specs.Header.{rowFor}
 use Rattle.leaf.specs.Leaf.{Place}
 use Rattle.reader.specs.Reading.{blocksFor}
-use Rattle.autosense.specs.Walk.{blockIs}
+use Rattle.walk.specs.Walk.{blockIs}
 
 -- an entry that is not removed: its kind is no type, or a type below the older level
 abbrev pub isKept : ℕ → ℕ → Place → Bool

@@ -4,7 +4,7 @@ use mathlib.Core.List.{List, [], _∷_}
 use mathlib.Core.Bool.{Bool, not}
 use lib.ListN.{length, take}
 use Rattle.rom.specs.Bytes.{pick}
-use Rattle.block.specs.Block.{isKnown}
+use Rattle.format.specs.Block.{isKnown}
 use Rattle.header.specs.declared.Arguments.{Arguments}
 use Rattle.header.specs.Header.{countFor}
 use Rattle.reader.specs.declared.Answer.{Answer}

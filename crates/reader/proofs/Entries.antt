@@ -6,7 +6,7 @@ use mathlib.Core.Path.{_≡_, refl, ap, sym}
 use lib.ListN.{length, take, drop, getD, length-map, List·getD-append, List·getD-eq-default}
 use lib.Seq.{getD-at}
 use Rattle.rom.specs.Refusal.{firstMet}
-use Rattle.block.specs.Block.{sizeOf}
+use Rattle.format.specs.Block.{sizeOf}
 use Rattle.leaf.specs.Leaf.{cut, blockCauses, Place, tableOf}
 use Rattle.leaf.proofs.Tables.{Every, every-at, Lies, every-lies}
 use Rattle.reader.specs.Table.{noPart, partAt, entryPart}

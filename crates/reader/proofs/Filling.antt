@@ -12,7 +12,7 @@ use Rattle.rom.specs.Bytes.{pick}
 use Rattle.rom.specs.Refusal.{firstMet}
 use Rattle.block.specs.declared.Block.{Block}
 use Rattle.block.specs.declared.Block.the-variants.{Listed, Reset, Unknown, Refused}
-use Rattle.block.specs.Block.{sizeOf, isListed}
+use Rattle.format.specs.Block.{sizeOf, isListed}
 use Rattle.block.specs.Answer.{blockOf, numberOf, sizeIn, listedIn, kindIn}
 use Rattle.block.proofs.Seen.{Seen, refused, unknown, a-reset, a-medium, seen-size, seen-kind}
 use Rattle.leaf.specs.Leaf.{cut, blockCauses, Place, placed, keep, table, kindAt, startAt}

@@ -9,7 +9,7 @@ use lib.ListN.{length, take, drop}
 use Rattle.rom.specs.Bytes.{pick}
 use Rattle.rom.specs.Refusal.{firstMet}
 use Rattle.block.specs.declared.Block.{Block}
-use Rattle.block.specs.Block.{sizeOf, isListed}
+use Rattle.format.specs.Block.{sizeOf, isListed}
 use Rattle.block.specs.Answer.{blockOf, numberOf, sizeIn, listedIn}
 use Rattle.block.proofs.Seen.{Seen, seen-size, seen-listed}
 use Rattle.leaf.specs.Leaf.{cut, blockCauses, Place, placed, keep, table}

@@ -4,7 +4,7 @@ use mathlib.Core.Path.{_≡_}
 use mathlib.Core.List.{List, []}
 use lib.ListN.{length, take, getD}
 use Rattle.rom.specs.Refusal.{Exact, firstMet}
-use Rattle.block.specs.Block.{sizeOf}
+use Rattle.format.specs.Block.{sizeOf}
 use Rattle.header.specs.declared.Arguments.{Arguments}
 use Rattle.header.specs.Header.{rowFor}
 use Rattle.leaf.specs.Leaf.{Place}

@@ -10,7 +10,7 @@ use Rattle.rom.specs.Refusal.{Cause, _⇒_, firstMet}
 use Rattle.header.specs.declared.Arguments.{Arguments}
 use Rattle.header.specs.Image.{addressOf, controlByte, restFrom}
 use Rattle.header.specs.Header.{rowFor, leafFor, startFor, countFor, headerCauses}
-use Rattle.block.specs.Block.{isListed, isReset, isSkipped, isDefault}
+use Rattle.format.specs.Block.{isListed, isReset, isSkipped, isDefault}
 use Rattle.leaf.specs.Leaf.{Place, cut, countOf, firstFrom, leafCauses, kindAt, startAt, tableOf}
 use Rattle.reader.specs.declared.Answer.{Answer}
 use Rattle.reader.specs.declared.Reading.{Reading}

@@ -2,7 +2,7 @@
 use Prim.Native.Nat.{ℕ}
 use mathlib.Core.List.{List, _++_, map}
 use lib.ListN.{length, drop, getD}
-use Rattle.block.specs.Block.{sizeOf}
+use Rattle.format.specs.Block.{sizeOf}
 use Rattle.leaf.specs.Leaf.{Place}
 use Rattle.reader.specs.declared.Part.{Part}
 

@@ -8,7 +8,7 @@ use Rattle.rom.specs.Bytes.{pick, byteAt}
 use Rattle.text.specs.Quoted.{quoted}
 use Rattle.text.specs.Numbers.{decimalOf}
 use Rattle.text.specs.Written.{withValues}
-use Rattle.block.specs.Format.{kindCompact, kind21041}
+use Rattle.format.specs.Chips.{kindCompact, kind21041}
 use Rattle.header.specs.declared.Arguments.{Arguments}
 use Rattle.survey.specs.declared.Place.{Place}
 

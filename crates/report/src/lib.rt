@@ -17,7 +17,7 @@ use text::slice::word_at;
 ghost use mathlib.Core.Path.{_≡_};
 ghost use mathlib.Core.List.{_++_};
 ghost use Rattle.text.specs.Written.{textOf, fitted};
-ghost use Rattle.block.specs.Block.{isKnown};
+ghost use Rattle.format.specs.Block.{isKnown};
 ghost use Rattle.header.specs.Image.{leafAt};
 ghost use Rattle.report.specs.Blocks.{blockFrom, bytesAt};
 ghost use Rattle.report.specs.Words.{threeBytes, addressWords, argumentsWords, placeWords};

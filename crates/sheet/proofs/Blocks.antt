@@ -12,8 +12,8 @@ use Rattle.rom.specs.Bytes.{pick, byteAt, bit, Bytes}
 use Rattle.rom.specs.Refusal.{firstMet}
 use Rattle.rom.proofs.First.{none-here}
 use Rattle.rom.proofs.Truth.{true-false, or-false}
-use Rattle.block.specs.Format.{row21041, kindCompact, kind21041}
-use Rattle.block.specs.Block.{isExtended, lengthOf, siaSize, sizeOf, kindOf, causes, refusalOf}
+use Rattle.format.specs.Chips.{row21041, kindCompact, kind21041}
+use Rattle.format.specs.Block.{isExtended, lengthOf, siaSize, sizeOf, kindOf, causes, refusalOf}
 use Rattle.block.proofs.Whole.{Form, extended-form, compact-form, form-21041, size-positive}
 use Rattle.leaf.specs.Leaf.{cut, blockCauses}
 use Rattle.leaf.proofs.Cuts.{first-accepted}

@@ -16,7 +16,7 @@ use Rattle.rom.specs.Refusal.{firstMet}
 use Rattle.rom.proofs.First.{none-here, both-accepted}
 use Rattle.rom.proofs.Truth.{true-false, and-true, or-false}
 use Rattle.crc.specs.Crc.{sromCrc, idCrc, idWords, word}
-use Rattle.block.specs.Format.{chips, rowOf, row21140, newestLevel}
+use Rattle.format.specs.Chips.{chips, rowOf, row21140, newestLevel}
 use Rattle.header.specs.Image.{controllerCount, reservedAt, leafAt, headerLength, controlByte, blocksAt, blockCount, restFrom, badCount}
 use Rattle.header.specs.Image.{imageCauses, argumentCauses}
 use Rattle.header.specs.Header.{leafFor, startFor, countFor, headerCauses}

@@ -14,7 +14,7 @@ use Rattle.rom.specs.Refusal.{firstMet, Numbered}
 use Rattle.rom.proofs.First.{exact, numbered-append, none-here, after-accepted, both-accepted}
 use Rattle.rom.proofs.Reached.{reached, end, stop, skip}
 use Rattle.rom.proofs.Truth.{pick-true, pick-false, met-not}
-use Rattle.block.specs.Format.{chips}
+use Rattle.format.specs.Chips.{chips}
 use Rattle.header.specs.Header.{headerCauses}
 use Rattle.header.proofs.Headers.{header-numbered}
 use Rattle.leaf.proofs.Cuts.{leaf-numbered}

@@ -7,7 +7,7 @@ use lib.ListN.{length, take}
 use Rattle.rom.specs.Geometry.{imageLength}
 use Rattle.rom.specs.Bytes.{isIn, Bytes}
 use Rattle.rom.specs.Refusal.{firstMet, Exact}
-use Rattle.block.specs.Format.{chips}
+use Rattle.format.specs.Chips.{chips}
 use Rattle.reader.specs.Reading.{judgeCauses}
 use Rattle.sheet.specs.Lists.{over}
 use Rattle.sheet.specs.Sheet.{chipIn, sheetFrom, isSheet}

@@ -8,8 +8,8 @@ use Rattle.rom.specs.Geometry.{leavesEnd, versionAt, addressAt, controllersAt}
 use Rattle.rom.specs.Bytes.{pick, byteAt, wordAt}
 use Rattle.rom.specs.Store.{wordBytes}
 use Rattle.crc.specs.Crc.{sromCrc, idCrc}
-use Rattle.block.specs.Format.{rowOf, row21140, kindCompact, kind21041, newestLevel}
-use Rattle.block.specs.Block.{isExtended, sizeOf, kindOf}
+use Rattle.format.specs.Chips.{rowOf, row21140, kindCompact, kind21041, newestLevel}
+use Rattle.format.specs.Block.{isExtended, sizeOf, kindOf}
 use Rattle.header.specs.declared.Arguments.{Arguments}
 use Rattle.header.specs.Image.{controllerCount, leafAt, controlByte}
 use Rattle.header.specs.Header.{leafFor, startFor}

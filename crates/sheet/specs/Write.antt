@@ -7,8 +7,8 @@ use lib.Dec.{eqb, leb, ltb}
 use Rattle.rom.specs.Geometry.{imageLength, leavesEnd}
 use Rattle.rom.specs.Bytes.{pick, byteAt, isIn}
 use Rattle.rom.specs.Refusal.{Cause, _⇒_, firstMet}
-use Rattle.block.specs.Format.{chips, rowOf, row21140, kindCompact, kind21041}
-use Rattle.block.specs.Block.{is21041, siaSize}
+use Rattle.format.specs.Chips.{chips, rowOf, row21140, kindCompact, kind21041}
+use Rattle.format.specs.Block.{is21041, siaSize}
 use Rattle.reader.specs.Reading.{judgeCauses}
 use Rattle.sheet.specs.Record.{Entry, Plain}
 use Rattle.sheet.specs.Sheet.{sheetFrom, isSheet}

@@ -10,7 +10,7 @@ ghost use mathlib.Core.Path.{_≡_};
 ghost use lib.ListN.{length};
 ghost use Rattle.crc.specs.Answer.{sromAnswer, idAnswer};
 ghost use Rattle.reader.specs.Reading.{readAnswer, readKinds, readOffsets, partFor};
-ghost use Rattle.autosense.specs.Walk.{freshWalk, loadFor, lookFor, clearFor};
+ghost use Rattle.walk.specs.Walk.{freshWalk, loadFor, lookFor, clearFor};
 ghost use Rattle.sheet.specs.Write.{writeNumber, written};
 ghost use Rattle.sheet.specs.Make.{made};
 ghost use Rattle.maker.specs.Answer.{madeFor};

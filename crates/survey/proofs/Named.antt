@@ -8,8 +8,8 @@ use lib.ListN.{getD}
 use Rattle.rom.specs.Bytes.{pick}
 use Rattle.rom.specs.Refusal.{firstMet}
 use Rattle.rom.proofs.First.{after-accepted, after-refused}
-use Rattle.block.specs.Block.{sizeOf, causes, refusalOf}
-use Rattle.block.proofs.Exact.{causes-numbered}
+use Rattle.format.specs.Block.{sizeOf, causes, refusalOf}
+use Rattle.format.proofs.Exact.{causes-numbered}
 use Rattle.header.specs.Header.{rowFor, startFor, headerCauses}
 use Rattle.header.proofs.Headers.{header-numbered}
 use Rattle.leaf.specs.Leaf.{firstFrom, blockCauses, leafCauses, placed, Place as Standing}

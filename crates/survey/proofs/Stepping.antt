@@ -10,7 +10,7 @@ use borrow.Author.Tests.{eq-eqb, ne-eqb}
 use Rattle.rom.specs.Geometry.{none}
 use Rattle.rom.specs.Bytes.{pick}
 use Rattle.block.specs.declared.Block.{Block}
-use Rattle.block.specs.Block.{sizeOf, kindOf, refusalOf}
+use Rattle.format.specs.Block.{sizeOf, kindOf, refusalOf}
 use Rattle.block.specs.Answer.{blockOf, numberOf, sizeIn}
 use Rattle.block.proofs.Seen.{Seen, seen, seen-number, seen-size}
 use Rattle.leaf.specs.Leaf.{cut, firstFrom, placed, Place as Standing}

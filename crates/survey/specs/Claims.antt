@@ -3,7 +3,7 @@ use Prim.Native.Nat.{ℕ}
 use mathlib.Core.Path.{_≡_}
 use mathlib.Core.List.{List}
 use Rattle.rom.specs.Refusal.{firstMet}
-use Rattle.block.specs.Block.{refusalOf}
+use Rattle.format.specs.Block.{refusalOf}
 use Rattle.header.specs.declared.Arguments.{Arguments}
 use Rattle.header.specs.Header.{rowFor, headerCauses}
 use Rattle.leaf.specs.Leaf.{blockCauses}

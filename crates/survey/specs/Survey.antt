@@ -8,7 +8,7 @@ use lib.ListN.{getD}
 use Rattle.rom.specs.Geometry.{none}
 use Rattle.rom.specs.Bytes.{pick}
 use Rattle.rom.specs.Refusal.{firstMet}
-use Rattle.block.specs.Block.{sizeOf, kindOf, refusalOf}
+use Rattle.format.specs.Block.{sizeOf, kindOf, refusalOf}
 use Rattle.header.specs.declared.Arguments.{Arguments}
 use Rattle.header.specs.Header.{rowFor, startFor, countFor, headerCauses}
 use Rattle.leaf.specs.Leaf.{firstFrom, placed, Place as Standing}

@@ -1,6 +1,6 @@
 -- The definitions of readings, walks and sheets, opened together for what computes: `unfolding reading-computes` and so on.
 use Rattle.crc.specs.Crc.{sromCrc, idCrc}
-use Rattle.block.specs.Format.{connections21041, connections21140, connections21142, connectionRows, isConnection}
+use Rattle.format.specs.Chips.{connections21041, connections21140, connections21142, connectionRows, isConnection}
 use Rattle.header.specs.Image.{versions, controllerCount, reservedAt, baseAddress, addressOf, leafAt, headerLength, controlByte, blocksAt}
 use Rattle.header.specs.Image.{blockCount}
 use Rattle.header.specs.Image.{restFrom, badCount, imageCauses, argumentCauses, leafHeaderCauses}
@@ -10,10 +10,8 @@ use Rattle.reader.specs.Table.{tabled}
 use Rattle.reader.specs.Reading.{leafCausesFor, judgeCauses, refusedAnswer, acceptedAnswer, answerFor, judgeAnswer, readCauses, readAnswer}
 use Rattle.reader.specs.Reading.{readInto}
 use Rattle.reader.specs.Reading.{readKinds, readOffsets}
-use Rattle.autosense.specs.Walk.{served, isServed, noFlags, flags, blockIs, flagAt, isInvalid, noRows, rowsOf, freshWalk, loadedWalk}
-use Rattle.autosense.specs.Walk.{lastBelow}
-use Rattle.autosense.specs.Walk.{anyBelow, stays, isCandidate, firstUp, upIn, chosen, switched, stepped, badReport, lookCauses, loadCauses}
-use Rattle.autosense.specs.Walk.{walkedTo, loadFor, lookFor}
+use Rattle.walk.specs.Walk.{noFlags, flags, blockIs, isInvalid, noRows, rowsOf, freshWalk, loadedWalk, loadCauses, loadFor}
+use Rattle.walk.proofs.Computes.{look-computes}
 use Rattle.older.specs.Calls.{call, seen, after, run}
 use Rattle.older.specs.Written.{answerOf, entries, tableIn}
 use Rattle.rom.specs.Store.{wordBytes}
@@ -43,9 +41,8 @@ reading-computes = tt
 
 -- and walks of it
 unfoldable pub walk-computes : Unit {0}
-unfolding reading-computes served isServed noFlags flags blockIs flagAt isInvalid noRows rowsOf freshWalk loadedWalk
-    lastBelow anyBelow stays isCandidate firstUp upIn chosen switched stepped badReport
-    lookCauses loadCauses walkedTo loadFor lookFor call seen after run
+unfolding reading-computes look-computes noFlags flags blockIs isInvalid noRows rowsOf freshWalk loadedWalk loadCauses loadFor
+    call seen after run
 walk-computes = tt
 
 -- sheets and their images

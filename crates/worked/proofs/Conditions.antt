@@ -7,11 +7,11 @@ use mathlib.Core.Bool.{false, true}
 use lib.Dec.{lit<}
 use Rattle.rom.specs.Geometry.{none}
 use Rattle.rom.specs.Refusal.{firstMet}
-use Rattle.block.specs.Format.{newestLevel}
+use Rattle.format.specs.Chips.{newestLevel}
 use Rattle.header.specs.declared.Arguments.{Arguments}
 use Rattle.header.specs.Header.{atLevel}
 use Rattle.reader.specs.Reading.{judgeCauses, judgeAnswer}
-use Rattle.autosense.specs.Walk.{freshWalk}
+use Rattle.walk.specs.Walk.{freshWalk}
 use Rattle.older.specs.Calls.{Call, load, look, Seen, fresh, loaded, After, run}
 use Rattle.older.specs.Levels.{removedBlock}
 use Rattle.older.proofs.Numbered.{flag-none}

@@ -7,7 +7,7 @@ use Rattle.crc.specs.Crc.{sromCrc, idCrc}
 use Rattle.header.specs.declared.Arguments.{Arguments}
 use Rattle.leaf.specs.Cases as leaves
 use Rattle.rom.specs.Geometry.{none}
-use Rattle.autosense.specs.Walk.{freshWalk}
+use Rattle.walk.specs.Walk.{freshWalk}
 use Rattle.older.specs.Calls.{Call, load, look, loaded, After, run}
 use Rattle.older.specs.Written.{Arrays, answerOf, tableIn}
 

@@ -5,11 +5,11 @@ use mathlib.Core.List.{List, [], _∷_, _++_, map}
 use mathlib.Core.Bool.{false}
 use lib.ListN.{replicate}
 use Rattle.rom.specs.Refusal.{firstMet}
-use Rattle.block.specs.Format.{newestLevel}
+use Rattle.format.specs.Chips.{newestLevel}
 use Rattle.header.specs.declared.Arguments.{Arguments}
 use Rattle.header.specs.Header.{atLevel}
 use Rattle.reader.specs.Reading.{judgeCauses, judgeAnswer}
-use Rattle.autosense.specs.Walk.{freshWalk}
+use Rattle.walk.specs.Walk.{freshWalk}
 use Rattle.older.specs.Calls.{Call, Down, run}
 use Rattle.older.specs.Levels.{removedBlock}
 use Rattle.sheet.specs.Write.{writeNumber}

@@ -9,8 +9,8 @@ use lib.Dec.{eqb, leb, ltb}
 use borrow.Author.Tests.{eq-eqb, ne-eqb, lt-ltb, le-ltb}
 use Rattle.rom.specs.Bytes.{byteAt}
 use Rattle.rom.proofs.Truth.{pick-true, pick-false}
-use Rattle.block.specs.Format.{kindCompact, kind21041}
-use Rattle.block.specs.Block.{siaSize}
+use Rattle.format.specs.Chips.{kindCompact, kind21041}
+use Rattle.format.specs.Block.{siaSize}
 use Rattle.sheet.specs.Write.{isOtherFamily, isBadBody, isBad}
 use Rattle.writer.specs.Inside.{entry}
 

@@ -13,8 +13,8 @@ use Rattle.rom.specs.Refusal.{firstMet}
 use Rattle.rom.proofs.First.{after-accepted, after-refused}
 use Rattle.rom.proofs.Reached.{reached, stop, skip}
 use Rattle.rom.proofs.Truth.{pick-true, pick-false}
-use Rattle.block.specs.Format.{chips, rowOf}
-use Rattle.block.proofs.Lists.{in-place}
+use Rattle.format.specs.Chips.{chips, rowOf}
+use Rattle.format.proofs.Lists.{in-place}
 use Rattle.header.specs.Image.{headerLength}
 use Rattle.reader.specs.declared.Answer.{Answer}
 use Rattle.reader.specs.Reading.{judgeCauses, judgeAnswer}

@@ -10,7 +10,7 @@ use borrow.Author.Tests.{eq-eqb, ne-eqb, eqb-false, ltb-false}
 use Rattle.rom.specs.Store.{put, laid}
 use Rattle.rom.proofs.Truth.{or-false, pick-true, pick-false}
 use Rattle.rom.proofs.Put.{put-none, put-two, put-put, put-length, laid-put}
-use Rattle.block.specs.Format.{kindCompact, kind21041}
+use Rattle.format.specs.Chips.{kindCompact, kind21041}
 use Rattle.sheet.specs.Image.{isWhole, openingOf, encode}
 use Rattle.sheet.specs.Write.{isOtherFamily, isBadBody, isBad}
 use Rattle.writer.specs.Inside.{entry, openingSize, Fits}

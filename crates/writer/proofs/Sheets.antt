@@ -13,7 +13,7 @@ use Rattle.rom.specs.Store.{wordBytes, put, laid}
 use Rattle.rom.proofs.First.{none-here}
 use Rattle.rom.proofs.Truth.{or-false, pick-true, pick-false}
 use Rattle.rom.proofs.Put.{put-one, put-two, put-put, put-length, laid-word}
-use Rattle.block.specs.Format.{rowOf, row21140}
+use Rattle.format.specs.Chips.{rowOf, row21140}
 use Rattle.header.specs.Image.{headerLength}
 use Rattle.leaf.proofs.Cuts.{rest-part}
 use Rattle.sheet.specs.Lists.{sum}

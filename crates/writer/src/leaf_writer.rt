@@ -10,7 +10,7 @@ ghost use Prim.Native.Nat.{_+_, _≤_};
 ghost use lib.ListN.{length};
 ghost use Rattle.rom.specs.Geometry.{leavesEnd};
 ghost use Rattle.rom.specs.Store.{put};
-ghost use Rattle.block.specs.Format.{rowOf};
+ghost use Rattle.format.specs.Chips.{rowOf};
 ghost use Rattle.sheet.specs.Layout.{headLength};
 ghost use Rattle.sheet.specs.Sheet.{entriesFrom, sheetFrom};
 ghost use Rattle.sheet.specs.Image.{leafStart, openingOf, encode, encodes, leafHeadOf, leafOf};

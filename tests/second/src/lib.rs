@@ -14,4 +14,5 @@ pub mod random;
 pub mod reader;
 pub mod sheet;
 pub mod sheets;
+pub mod specification;
 pub mod walk;

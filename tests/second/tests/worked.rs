@@ -3,33 +3,7 @@
 
 use second::crc::IMAGE_LENGTH;
 use second::sheet;
-use std::fs;
-use std::path::Path;
-
-/// The bytes of a list of the specification: numbers with `∷` between them, `replicate n x` and `++`.
-fn bytes(list: &str) -> Vec<u8> {
-    let mut bytes = Vec::new();
-    let words = list.replace(['(', ')', ';'], " ");
-    let mut words = words.split_whitespace();
-    let number = |word: &str| match word.strip_prefix("0x") {
-        Some(digits) => usize::from_str_radix(digits, 16).unwrap(),
-        None => word
-            .parse()
-            .unwrap_or_else(|_| panic!("{word} is no number")),
-    };
-    while let Some(word) = words.next() {
-        match word {
-            "∷" | "[]" | "++" => {}
-            "replicate" => {
-                let count = number(words.next().unwrap());
-                let value = number(words.next().unwrap());
-                bytes.extend(vec![value as u8; count]);
-            }
-            _ => bytes.push(number(word).try_into().unwrap()),
-        }
-    }
-    bytes
-}
+use second::specification::{bytes, text};
 
 /// A field of a case's record: what stands behind its name, up to the semicolon.
 fn field<'a>(case: &'a str, name: &str) -> &'a str {
@@ -39,8 +13,7 @@ fn field<'a>(case: &'a str, name: &str) -> &'a str {
 
 #[test]
 fn sheets_are_as_second_has_them() {
-    let path = Path::new(env!("CARGO_MANIFEST_DIR")).join("../../crates/worked/specs/Sheets.antt");
-    let text = fs::read_to_string(path).unwrap();
+    let text = text("worked/specs/Sheets.antt");
     let cases: Vec<_> = text
         .split("= record {\n  chip = ")
         .skip(1)

@@ -5,8 +5,8 @@ use mathlib.Core.Path.{_≡_, refl, ap, sym, _∙_}
 use lib.Dec.{ltb}
 use borrow.Author.Tests.{lt-ltb, le-ltb}
 use Rattle.rom.specs.Bytes.{byteAt}
-use Rattle.autosense.specs.Walk.{badReport, anyBelow}
-use Rattle.autosense.proofs.Below.{any-step}
+use Rattle.walk.specs.Walk.{badReport, anyBelow}
+use Rattle.walk.proofs.Below.{any-step}
 use Rattle.autosense.proofs.bad_report.Statement.{statement}
 use Rattle.autosense.proofs.bad_report.Tie as tie
 

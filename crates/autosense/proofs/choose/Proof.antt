@@ -1,7 +1,7 @@
 -- Each return is one case of the choice, as the tests found it. Assumes nothing.
 use borrow.Author.Tests.{eq-eqb, ne-eqb}
 use Rattle.rom.specs.Bytes.{pick}
-use Rattle.autosense.specs.Walk.{chosen, upIn}
+use Rattle.walk.specs.Walk.{chosen, upIn}
 use borrow.Author.Needs.{needs}
 use Rattle.autosense.proofs.choose.Statement.{statement}
 use Rattle.autosense.proofs.choose.Tie as tie

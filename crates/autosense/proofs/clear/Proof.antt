@@ -1,5 +1,5 @@
 -- The walk is the fresh one. Assumes nothing.
-use Rattle.autosense.specs.Walk.{clearFor}
+use Rattle.walk.specs.Walk.{clearFor}
 use borrow.Author.Needs.{needs}
 use Rattle.autosense.proofs.clear.Statement.{statement}
 use Rattle.autosense.proofs.clear.Tie as tie

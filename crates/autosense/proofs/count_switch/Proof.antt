@@ -1,7 +1,7 @@
 -- Each return is one case of the count. Assumes nothing.
 use borrow.Author.Tests.{eq-eqb, ne-eqb}
 use Rattle.rom.specs.Bytes.{pick}
-use Rattle.autosense.specs.Walk.{switched}
+use Rattle.walk.specs.Walk.{switched}
 use borrow.Author.Needs.{needs}
 use Rattle.autosense.proofs.count_switch.Statement.{statement}
 use Rattle.autosense.proofs.count_switch.Tie as tie

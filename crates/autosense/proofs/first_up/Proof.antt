@@ -4,8 +4,8 @@ use native.Mathlib.Omega.{arith}
 use mathlib.Core.Path.{_≡_, refl, ap, sym, _∙_}
 use mathlib.Core.Bool.{_&&_}
 use Rattle.rom.specs.Bytes.{pick}
-use Rattle.autosense.specs.Walk.{firstUp, lastBelow, isCandidate, isUp}
-use Rattle.autosense.proofs.Below.{last-step}
+use Rattle.walk.specs.Walk.{firstUp, lastBelow, isCandidate, isUp}
+use Rattle.walk.proofs.Below.{last-step}
 use Rattle.autosense.proofs.first_up.Statement.{statement}
 use Rattle.autosense.proofs.first_up.Tie as tie
 

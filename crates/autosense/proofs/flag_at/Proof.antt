@@ -3,7 +3,7 @@ use Prim.Native.Nat.{ℕ}
 use mathlib.Core.Path.{refl}
 use denote.Ref.{now}
 use lib.ListN.{List·getD-eq-default}
-use Rattle.autosense.specs.Walk.{flagAt}
+use Rattle.walk.specs.Walk.{flagAt}
 use borrow.Author.Needs.{needs}
 use Rattle.autosense.proofs.flag_at.Statement.{statement}
 use Rattle.autosense.proofs.flag_at.Tie as tie

@@ -1,5 +1,5 @@
 -- Field by field. Assumes nothing.
-use Rattle.autosense.specs.Walk.{freshWalk}
+use Rattle.walk.specs.Walk.{freshWalk}
 use borrow.Author.Needs.{needs}
 use Rattle.autosense.proofs.fresh.Statement.{statement}
 use Rattle.autosense.proofs.fresh.Tie as tie

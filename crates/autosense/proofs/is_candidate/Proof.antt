@@ -1,6 +1,6 @@
 -- Each return is one case of the test. Assumes nothing.
 use borrow.Author.Tests.{not-true, not-false}
-use Rattle.autosense.specs.Walk.{isCandidate}
+use Rattle.walk.specs.Walk.{isCandidate}
 use borrow.Author.Needs.{needs}
 use Rattle.autosense.proofs.is_candidate.Statement.{statement}
 use Rattle.autosense.proofs.is_candidate.Tie as tie

@@ -2,8 +2,8 @@
 use mathlib.Core.Path.{sym}
 use borrow.Author.Tests.{eq-eqb, ne-eqb}
 use Rattle.rom.specs.Bytes.{isIn}
-use Rattle.autosense.specs.Walk.{served, isServed}
-use Rattle.autosense.proofs.Looks.{served-last}
+use Rattle.walk.specs.Walk.{served, isServed}
+use Rattle.walk.proofs.Looks.{served-last}
 use Rattle.autosense.proofs.is_served.Statement.{statement}
 use Rattle.autosense.proofs.is_served.Tie as tie
 

@@ -1,6 +1,6 @@
 -- The reader's answer decides, and an accepted leaf has at most 91 blocks, which the rows hold. Assumes nothing.
 use Rattle.reader.proofs.Readings.{accepted-judged, reading-start, reading-end, reading-blocks}
-use Rattle.autosense.proofs.Loads.{reading-few-blocks, load-loaded, load-refused, load-done}
+use Rattle.walk.proofs.Loads.{reading-few-blocks, load-loaded, load-refused, load-done}
 use borrow.Author.Needs.{needs}
 use Rattle.autosense.proofs.load.Statement.{statement}
 use Rattle.autosense.proofs.load.Tie as tie

@@ -1,6 +1,6 @@
 -- The refusal's number decides between the walk itself and its step. Assumes nothing.
 use mathlib.Core.Path.{sym, _∙_}
-use Rattle.autosense.proofs.Looks.{accepted-looks, look-refused, look-done}
+use Rattle.walk.proofs.Looks.{accepted-looks, look-refused, look-done}
 use borrow.Author.Needs.{needs}
 use Rattle.autosense.proofs.look.Statement.{statement}
 use Rattle.autosense.proofs.look.Tie as tie

@@ -3,7 +3,7 @@ use mathlib.Core.Path.{ap, sym, _∙_}
 use mathlib.Core.Bool.{not}
 use borrow.Author.Tests.{eq-eqb, ne-eqb}
 use Rattle.rom.proofs.Reached.{reached, stop, skip, end}
-use Rattle.autosense.specs.Walk.{lookCauses}
+use Rattle.walk.specs.Walk.{lookCauses}
 use borrow.Author.Needs.{needs}
 use Rattle.autosense.proofs.look_refusal.Statement.{statement}
 use Rattle.autosense.proofs.look_refusal.Tie as tie

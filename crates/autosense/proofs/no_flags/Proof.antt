@@ -1,6 +1,6 @@
 -- The row as it is defined. Assumes nothing.
 use mathlib.Core.Path.{refl}
-use Rattle.autosense.specs.Walk.{noFlags}
+use Rattle.walk.specs.Walk.{noFlags}
 use Rattle.autosense.proofs.no_flags.Statement.{statement}
 use Rattle.autosense.proofs.no_flags.Tie as tie
 

@@ -1,5 +1,5 @@
 -- Row by row. Assumes nothing.
-use Rattle.autosense.specs.Walk.{noRows}
+use Rattle.walk.specs.Walk.{noRows}
 use borrow.Author.Needs.{needs}
 use Rattle.autosense.proofs.no_rows.Statement.{statement}
 use Rattle.autosense.proofs.no_rows.Tie as tie

@@ -1,6 +1,6 @@
 -- Each return is one case of step 1, as the tests found it. Assumes nothing.
 use borrow.Author.Tests.{eq-eqb, ne-eqb, not-true, not-false}
-use Rattle.autosense.specs.Walk.{stays}
+use Rattle.walk.specs.Walk.{stays}
 use borrow.Author.Needs.{needs}
 use Rattle.autosense.proofs.stays_there.Statement.{statement}
 use Rattle.autosense.proofs.stays_there.Tie as tie

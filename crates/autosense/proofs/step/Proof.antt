@@ -1,5 +1,5 @@
 -- The choice and the count of switches, put into the walk. Assumes nothing.
-use Rattle.autosense.specs.Walk.{stepped}
+use Rattle.walk.specs.Walk.{stepped}
 use borrow.Author.Needs.{needs}
 use Rattle.autosense.proofs.step.Statement.{statement}
 use Rattle.autosense.proofs.step.Tie as tie

@@ -1,8 +1,8 @@
 -- Each return is where one of the definition's three tests decides. Assumes nothing.
 use mathlib.Core.Path.{sym, _∙_}
 use borrow.Author.Needs.{needs}
-use Rattle.block.specs.Format.{neverDefault}
-use Rattle.block.specs.Block.{countsAsDefault}
+use Rattle.format.specs.Chips.{neverDefault}
+use Rattle.format.specs.Block.{countsAsDefault}
 use Rattle.block.proofs.counts_as_default.Statement.{statement}
 use Rattle.block.proofs.counts_as_default.Tie as tie
 

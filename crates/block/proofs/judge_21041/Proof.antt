@@ -3,8 +3,8 @@ use mathlib.Core.Path.{refl, _∙_}
 use lib.Dec.{lit≤}
 use borrow.Author.Needs.{needs}
 use Rattle.rom.specs.Bytes.{pick, isIn}
-use Rattle.block.specs.Format.{isPermitted, permittedRows, kind21041}
-use Rattle.block.specs.Block.{factsOf}
+use Rattle.format.specs.Chips.{isPermitted, permittedRows, kind21041}
+use Rattle.format.specs.Block.{factsOf}
 use Rattle.block.specs.Inside.{judgedAs}
 use Rattle.block.specs.Answer.{found}
 use Rattle.block.proofs.Whole.{form-21041, past-end, by-fields, known-form}

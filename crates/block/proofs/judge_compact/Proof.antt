@@ -4,8 +4,8 @@ use lib.Dec.{lit≤}
 use borrow.Author.Tests.{not-true, not-false}
 use borrow.Author.Needs.{needs}
 use Rattle.rom.specs.Bytes.{pick}
-use Rattle.block.specs.Format.{kindCompact}
-use Rattle.block.specs.Block.{factsOf}
+use Rattle.format.specs.Chips.{kindCompact}
+use Rattle.format.specs.Block.{factsOf}
 use Rattle.block.specs.Inside.{judgedAs}
 use Rattle.block.specs.Answer.{found}
 use Rattle.block.proofs.Whole.{compact-form, past-end, not-permitted, by-fields, known-form}

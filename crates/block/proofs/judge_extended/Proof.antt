@@ -5,7 +5,7 @@ use denote.Ref.{now}
 use borrow.Author.Tests.{not-true, not-false}
 use borrow.Author.Needs.{needs}
 use Rattle.rom.specs.Bytes.{byteAt}
-use Rattle.block.specs.Block.{lengthOf}
+use Rattle.format.specs.Block.{lengthOf}
 use Rattle.block.proofs.Whole.{extended-past-end, extended-empty, extended-unknown, extended-not-permitted, extended-type}
 use Rattle.block.proofs.Whole.{extended-fields}
 use Rattle.block.proofs.judge_extended.Statement.{statement}

@@ -3,7 +3,7 @@
 use native.Mathlib.Omega.{arith}
 use mathlib.Core.Path.{refl, _∙_}
 use borrow.Author.Needs.{needs}
-use Rattle.block.specs.Block.{phy}
+use Rattle.format.specs.Block.{phy}
 use Rattle.block.proofs.Judged.{wrong-length, too-much, fine}
 use Rattle.block.proofs.Phy.{few, counts-wrong, counts-right, advertised, phy-listed}
 use Rattle.block.proofs.judge_phy.Statement.{statement}

@@ -3,8 +3,8 @@ use mathlib.Core.Path.{refl, sym, ap, _∙_}
 use mathlib.Core.Bool.{not}
 use borrow.Author.Tests.{le-leb, lt-leb, eq-eqb, ne-eqb}
 use borrow.Author.Needs.{needs}
-use Rattle.block.specs.Format.{portCodes}
-use Rattle.block.specs.Block.{port, badPlainCode, badCommand}
+use Rattle.format.specs.Chips.{portCodes}
+use Rattle.format.specs.Block.{port, badPlainCode, badCommand}
 use Rattle.block.proofs.Judged.{bad-code, fine, or-left, or-right, or-none}
 use Rattle.block.proofs.judge_port.Statement.{statement}
 use Rattle.block.proofs.judge_port.Tie as tie

@@ -3,8 +3,8 @@ use mathlib.Core.Path.{refl, sym, ap, _∙_}
 use mathlib.Core.Bool.{not}
 use borrow.Author.Tests.{le-leb, lt-leb}
 use borrow.Author.Needs.{needs}
-use Rattle.block.specs.Format.{siaCodes}
-use Rattle.block.specs.Block.{sia, badSiaCode}
+use Rattle.format.specs.Chips.{siaCodes}
+use Rattle.format.specs.Block.{sia, badSiaCode}
 use Rattle.block.proofs.Judged.{bad-code, fine, or-left, or-right, or-none}
 use Rattle.block.proofs.judge_sia.Statement.{statement}
 use Rattle.block.proofs.judge_sia.Tie as tie

@@ -4,7 +4,7 @@ use mathlib.Core.Path.{_≡_}
 use lib.Dec.{lit≤}
 use borrow.Author.Needs.{needs}
 use Rattle.rom.specs.Bytes.{pick}
-use Rattle.block.specs.Block.{factsOf}
+use Rattle.format.specs.Block.{factsOf}
 use Rattle.block.specs.Inside.{judgedAs}
 use Rattle.block.specs.Answer.{found}
 use Rattle.block.proofs.Phy.{type-1, type-3}

@@ -1,7 +1,7 @@
 -- With the right length what is left is the compact form, from byte 2 on. Assumes nothing.
 use borrow.Author.Needs.{needs}
 use Rattle.rom.specs.Bytes.{pick}
-use Rattle.block.specs.Block.{port, lengthFor}
+use Rattle.format.specs.Block.{port, lengthFor}
 use Rattle.block.proofs.Judged.{wrong-length, is-wrong, is-right}
 use Rattle.block.proofs.judge_type_0.Statement.{statement}
 use Rattle.block.proofs.judge_type_0.Tie as tie

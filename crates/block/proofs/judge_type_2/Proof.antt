@@ -1,7 +1,7 @@
 -- With the right length what is left is the 21041's form, from byte 2 on. Assumes nothing.
 use mathlib.Core.Path.{sym, _∙_}
 use borrow.Author.Needs.{needs}
-use Rattle.block.specs.Block.{sia}
+use Rattle.format.specs.Block.{sia}
 use Rattle.block.proofs.Judged.{wrong-length, is-wrong, is-right, type-2}
 use Rattle.block.proofs.judge_type_2.Statement.{statement}
 use Rattle.block.proofs.judge_type_2.Tie as tie

@@ -4,8 +4,8 @@ use mathlib.Core.Bool.{not}
 use borrow.Author.Tests.{le-leb, lt-leb}
 use borrow.Author.Needs.{needs}
 use Rattle.rom.specs.Bytes.{pick}
-use Rattle.block.specs.Format.{symCodes}
-use Rattle.block.specs.Block.{symbol, badPlainCode, lengthFor}
+use Rattle.format.specs.Chips.{symCodes}
+use Rattle.format.specs.Block.{symbol, badPlainCode, lengthFor}
 use Rattle.block.proofs.Judged.{wrong-length, bad-code, fine, or-left, or-right, or-none, is-wrong, is-right}
 use Rattle.block.proofs.judge_type_4.Statement.{statement}
 use Rattle.block.proofs.judge_type_4.Tie as tie

@@ -2,7 +2,7 @@
 use mathlib.Core.Path.{refl}
 use borrow.Author.Needs.{needs}
 use Rattle.rom.specs.Bytes.{pick}
-use Rattle.block.specs.Block.{reset, lengthFor}
+use Rattle.format.specs.Block.{reset, lengthFor}
 use Rattle.block.proofs.Judged.{wrong-length, fine, is-wrong, is-right}
 use Rattle.block.proofs.judge_type_5.Statement.{statement}
 use Rattle.block.proofs.judge_type_5.Tie as tie

@@ -3,7 +3,7 @@ use mathlib.Core.Path.{sym, _∙_}
 use lib.Dec.{lit≤}
 use borrow.Author.Needs.{needs}
 use Rattle.rom.specs.Bytes.{pick}
-use Rattle.block.specs.Block.{siaSize}
+use Rattle.format.specs.Block.{siaSize}
 use Rattle.block.proofs.sia_size.Statement.{statement}
 use Rattle.block.proofs.sia_size.Tie as tie
 

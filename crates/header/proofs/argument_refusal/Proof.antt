@@ -5,7 +5,7 @@ use Rattle.header.proofs.Headers.{no-chip, a-chip}
 use borrow.Author.Tests.{le-leb, lt-leb, lt-ltb, le-ltb}
 use native.Mathlib.Omega.{arith}
 use Prim.Native.Nat.{_^_}
-use Rattle.block.specs.Format.{newestLevel}
+use Rattle.format.specs.Chips.{newestLevel}
 use borrow.Author.Needs.{needs}
 use Rattle.header.proofs.argument_refusal.Statement.{statement}
 use Rattle.header.proofs.argument_refusal.Tie as tie

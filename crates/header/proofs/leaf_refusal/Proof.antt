@@ -5,7 +5,7 @@ use Rattle.header.proofs.Headers.{too-early, too-late, in-bounds}
 use native.Mathlib.Omega.{arith}
 use mathlib.Core.Path.{ap, sym, _∙_}
 use mathlib.Core.Bool.{not}
-use Rattle.block.specs.Format.{isConnection}
+use Rattle.format.specs.Chips.{isConnection}
 use borrow.Author.Needs.{needs}
 use Rattle.header.proofs.leaf_refusal.Statement.{statement}
 use Rattle.header.proofs.leaf_refusal.Tie as tie

@@ -1,6 +1,6 @@
 -- Each return is where one of the definition's two tests decides. Assumes nothing.
 use borrow.Author.Tests.{le-leb, lt-leb}
-use Rattle.block.specs.Block.{isKnown}
+use Rattle.format.specs.Block.{isKnown}
 use Rattle.report.proofs.is_known.Statement.{statement}
 use Rattle.report.proofs.is_known.Tie as tie
 

@@ -4,7 +4,7 @@ use Prim.Native.Nat.{_+_}
 use mathlib.Core.List.{List}
 use mathlib.Core.Path.{ap, _∙_}
 use Rattle.rom.specs.Refusal.{firstMet}
-use Rattle.block.specs.Format.{rowOf}
+use Rattle.format.specs.Chips.{rowOf}
 use Rattle.sheet.specs.Record.{Entry}
 use Rattle.sheet.specs.Sheet.{sheetFrom}
 use Rattle.sheet.specs.Write.{strayControl}

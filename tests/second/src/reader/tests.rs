@@ -3,6 +3,7 @@ use crate::cases::{Expected, cases};
 use crate::crc::lay_crcs;
 use crate::images::{Card, DAMAGES, Image, Leaf, Sample, block};
 use crate::random::Random;
+use crate::specification;
 
 const PATTERN: u16 = 0xA5A5;
 
@@ -820,5 +821,38 @@ fn fast_equals_plain() {
             let fast_bytes = fast::view(&image, sample.arguments, entry);
             assert_eq!(fast_bytes.as_ptr_range(), bytes.as_ptr_range());
         }
+    }
+}
+
+/// The blocks that crates/format computes with: each is the last of its leaf.
+#[test]
+fn worked_blocks() {
+    let text = specification::text("format/specs/Cases.antt");
+    let cases = specification::cases(&text, "blockCases");
+    assert!(cases.len() >= 40, "only {} blocks", cases.len());
+    for (made_by, words) in cases {
+        let rest = specification::bytes(words[2]);
+        let start = LEAF_LIMIT - rest.len();
+        let mut image = [0; IMAGE_LENGTH];
+        image[start..LEAF_LIMIT].copy_from_slice(&rest);
+        let arguments = Arguments {
+            chip: words[0].parse().unwrap(),
+            level: words[1].parse().unwrap(),
+            ..Arguments::newest(0)
+        };
+        let found = match block(&image, start, arguments) {
+            Ok(it) if it.is_listed() => {
+                let (size, invalid, default) = (it.size, it.is_active_invalid, it.is_default);
+                format!("mediumBlock {size} {invalid} {default} {}", it.resets_phy)
+            }
+            other => {
+                // One that is not whole has the size that its first byte asks for.
+                let whole = first_block(&rest, arguments.chip).map(|it| it.len().to_string());
+                let size = whole.unwrap_or_else(|| words[3].to_string());
+                format!("unlistedBlock {size} {}", Refusal::number(&other))
+            }
+        };
+        let expected = format!("{made_by} {}", words[3..].join(" "));
+        assert_eq!(found, expected, "{words:?}");
     }
 }

@@ -4,6 +4,7 @@ use crate::cases::cases;
 use crate::images::{Card, Image, Sample, block};
 use crate::random::Random;
 use crate::reader::{CHIPS, NEWEST_LEVEL, connections, read_all};
+use crate::specification::{self, arguments, number};
 
 fn image(chip: u16, connection: u16, blocks: Vec<Vec<u8>>) -> Image {
     Card::tidy(chip, connection, blocks).image()
@@ -364,4 +365,39 @@ fn settling() {
         met += usize::from(after.settled);
     }
     assert!(met > 5_000, "only {met} walks settled");
+}
+
+/// The looks that crates/walk computes with, at a walk of five blocks: block 1 is not listed, and block 3 has
+/// Active_Invalid.
+#[test]
+fn worked_looks() {
+    let text = specification::text("walk/specs/Cases.antt");
+    let cases = specification::cases(&text, "lookCases");
+    assert!(cases.len() >= 20, "only {} looks", cases.len());
+    let table = [4, 3, 2, 0].map(|block| Entry {
+        block,
+        is_active_invalid: block == 3,
+    });
+    for (made_by, words) in cases {
+        assert_eq!(made_by, "look");
+        let some = |word: &str| Some(number(word)).filter(|&block| block != usize::from(NONE));
+        let walk = |state: &str| {
+            let state = arguments(state);
+            assert_eq!(state[0], "stands");
+            Autosense::Loaded(Loaded {
+                connection: number(words[0]) as u16,
+                blocks: 5,
+                table: table.to_vec(),
+                default: some(words[1]),
+                settled: state[1].parse().unwrap(),
+                selected: some(state[2]),
+                looks: state[3].parse().unwrap(),
+                switches: state[4].parse().unwrap(),
+            })
+        };
+        let mut after = walk(words[2]);
+        let answer = after.look(&specification::bytes(words[3]));
+        assert_eq!(answer.to_string(), words[4], "{words:?}");
+        assert_eq!(after, walk(words[5]), "{words:?}");
+    }
 }

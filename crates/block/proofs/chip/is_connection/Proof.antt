@@ -5,8 +5,8 @@ use mathlib.Core.Path.{_∙_}
 use lib.ListN.{replicate}
 use borrow.Author.Needs.{needs}
 use Rattle.rom.specs.Bytes.{isIn}
-use Rattle.block.specs.Format.{connections21041, connections21140, connections21142, connectionRows, isConnection}
-use Rattle.block.proofs.Rows.{same-members, past}
+use Rattle.format.specs.Chips.{connections21041, connections21140, connections21142, connectionRows, isConnection}
+use Rattle.format.proofs.Rows.{same-members, past}
 use Rattle.block.proofs.chip.is_connection.Statement.{statement}
 use Rattle.block.proofs.chip.is_connection.Tie as tie
 

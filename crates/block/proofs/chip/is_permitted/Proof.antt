@@ -5,8 +5,8 @@ use mathlib.Core.Path.{_∙_}
 use lib.ListN.{replicate}
 use borrow.Author.Needs.{needs}
 use Rattle.rom.specs.Bytes.{isIn}
-use Rattle.block.specs.Format.{kindCompact, kind21041, permittedRows, isPermitted}
-use Rattle.block.proofs.Rows.{same-members, past}
+use Rattle.format.specs.Chips.{kindCompact, kind21041, permittedRows, isPermitted}
+use Rattle.format.proofs.Rows.{same-members, past}
 use Rattle.block.proofs.chip.is_permitted.Statement.{statement}
 use Rattle.block.proofs.chip.is_permitted.Tie as tie
 

@@ -1,6 +1,6 @@
 -- The code's list of chips is the definition's. Assumes nothing.
 use borrow.Author.Needs.{needs}
-use Rattle.block.specs.Format.{chips, rowOf}
+use Rattle.format.specs.Chips.{chips, rowOf}
 use Rattle.block.proofs.chip.row_of.Statement.{statement}
 use Rattle.block.proofs.chip.row_of.Tie as tie
 

@@ -1,6 +1,6 @@
 -- x is in a list where its place is one of the list's. Assumes nothing.
 use borrow.Author.Needs.{needs}
-use Rattle.block.proofs.Lists.{in-place}
+use Rattle.format.proofs.Lists.{in-place}
 use Rattle.block.proofs.search.is_in.Statement.{statement}
 use Rattle.block.proofs.search.is_in.Tie as tie
 

@@ -4,8 +4,8 @@ use native.Mathlib.Omega.{arith}
 use mathlib.Core.Path.{_≡_}
 use lib.ListN.{length, drop}
 use borrow.Author.Needs.{needs}
-use Rattle.block.specs.Format.{placeOf}
-use Rattle.block.proofs.Lists.{place-here, place-later, place-none}
+use Rattle.format.specs.Chips.{placeOf}
+use Rattle.format.proofs.Lists.{place-here, place-later, place-none}
 use Rattle.block.proofs.search.place_of.Statement.{statement}
 use Rattle.block.proofs.search.place_of.Tie as tie
 

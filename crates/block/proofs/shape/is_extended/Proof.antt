@@ -1,7 +1,7 @@
 -- The row and the first byte say it. Assumes nothing.
 use mathlib.Core.Path.{sym}
 use borrow.Author.Tests.{ne-eqb}
-use Rattle.block.specs.Block.{isExtended}
+use Rattle.format.specs.Block.{isExtended}
 use Rattle.block.proofs.Whole.{form-21041}
 use borrow.Author.Needs.{needs}
 use Rattle.block.proofs.shape.is_extended.Statement.{statement}

@@ -1,6 +1,6 @@
 -- The row and the first byte give the form. Assumes nothing.
 use mathlib.Core.Path.{_∙_, sym, ap}
-use Rattle.block.specs.Block.{lengthOf, siaSize}
+use Rattle.format.specs.Block.{lengthOf, siaSize}
 use Rattle.block.proofs.Whole.{extended-form, compact-form, form-21041}
 use borrow.Author.Needs.{needs}
 use Rattle.block.proofs.shape.size_at.Statement.{statement}

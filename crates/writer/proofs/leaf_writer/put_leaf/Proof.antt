@@ -1,7 +1,7 @@
 -- The head, and the blocks behind it. Assumes nothing.
 use native.Mathlib.Omega.{arith}
 use mathlib.Core.Path.{ap, _∙_}
-use Rattle.block.specs.Format.{rowOf}
+use Rattle.format.specs.Chips.{rowOf}
 use Rattle.sheet.specs.Sheet.{sheetFrom}
 use Rattle.writer.proofs.Sheets.{has-head, cut-fits, leaf-holds, leaf-put}
 use borrow.Author.Needs.{needs}

@@ -1,0 +1,4 @@
+pub mod Chips
+pub mod Block
+pub mod Cases
+pub mod Claims

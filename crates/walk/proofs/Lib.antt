@@ -1,0 +1,6 @@
+pub mod Below
+pub mod Loads
+pub mod Looks
+pub mod Refusals
+pub mod Computes
+pub mod Worked

@@ -1,0 +1,94 @@
+-- Looks at a walk of five blocks, from each kind of state that the three steps tell apart (document 01, 'The walk').
+use Prim.Native.Nat.{ℕ}
+use mathlib.Core.List.{List, [], _∷_, _++_}
+use mathlib.Core.Bool.{Bool, true, false}
+use lib.ListN.{replicate}
+use Rattle.rom.specs.Geometry.{none}
+use Rattle.walk.specs.declared.Walk.{Walk}
+use Rattle.walk.specs.declared.Rows.{Rows}
+use Rattle.walk.specs.Walk.{freshWalk, lookFor}
+
+-- a walk, a report, and what a look answers
+pub record LookCase : Type 0 where
+  pub before : Walk
+  pub report : List ℕ
+  pub number : ℕ
+  pub after : Walk
+
+unfoldable pub looked : LookCase → LookCase
+looked c = record {
+  before = c .before;
+  report = c .report;
+  number = lookFor (c .before) (c .report) .number;
+  after = lookFor (c .before) (c .report) .walk;
+}
+
+-- ## The walk: block 1 is not listed, and block 3 has Active_Invalid
+
+abbrev rows : Rows
+rows = record {
+  listed = (1 ∷ 0 ∷ 1 ∷ 1 ∷ 1 ∷ []) ++ replicate 123 0;
+  «active_invalid» = (0 ∷ 0 ∷ 0 ∷ 1 ∷ 0 ∷ []) ++ replicate 123 0;
+}
+
+-- with settled, selected, looks and switches
+pub record State : Type 0 where
+  pub settled : Bool
+  pub selected : ℕ
+  pub looks : ℕ
+  pub switches : ℕ
+
+abbrev stands : Bool → ℕ → ℕ → ℕ → State
+stands settled selected looks switches = record { settled = settled; selected = selected; looks = looks; switches = switches }
+
+abbrev walk : ℕ → ℕ → State → Walk
+walk connection default s = record {
+  loaded = true;
+  connection = connection;
+  blocks = 5;
+  rows = rows;
+  «default_number» = default;
+  settled = s .settled;
+  selected = s .selected;
+  looks = s .looks;
+  switches = s .switches;
+}
+
+-- connection type, default, state, report; number and state
+abbrev look : ℕ → ℕ → State → List ℕ → ℕ → State → LookCase
+look connection default s report number next =
+    record { before = walk connection default s; report = report; number = number; after = walk connection default next }
+
+-- ## The cases
+
+unfoldable pub lookCases : List LookCase
+lookCases =
+    -- not settled: all listed blocks are candidates, from the last to the first
+    look 0x0800 none (stands false none 0 0) (1 ∷ 1 ∷ 1 ∷ 1 ∷ 1 ∷ []) 0 (stands true 4 1 1)
+    ∷ look 0x0800 none (stands false none 0 0) (1 ∷ 1 ∷ 0 ∷ 1 ∷ 0 ∷ []) 0 (stands true 3 1 1)
+    ∷ look 0x0800 0 (stands false none 0 0) (0 ∷ 0 ∷ 1 ∷ 0 ∷ 0 ∷ []) 0 (stands true 2 1 1)
+    -- none is up: the default, or none
+    ∷ look 0x0800 0 (stands false none 0 0) (0 ∷ 1 ∷ 0 ∷ 0 ∷ 0 ∷ []) 0 (stands false 0 1 1)
+    ∷ look 0x0800 none (stands false none 0 0) (0 ∷ 1 ∷ 0 ∷ 0 ∷ 0 ∷ []) 0 (stands false none 1 0)
+    -- on the default and not settled: it does not stay
+    ∷ look 0x0800 0 (stands false 0 1 1) (1 ∷ 0 ∷ 0 ∷ 1 ∷ 0 ∷ []) 0 (stands true 3 2 2)
+    -- settled: it stays while it is up, or with Active_Invalid, or under 0x8800
+    ∷ look 0x0800 none (stands true 2 1 1) (0 ∷ 0 ∷ 1 ∷ 0 ∷ 1 ∷ []) 0 (stands true 2 2 1)
+    ∷ look 0x0900 none (stands true 3 1 1) (1 ∷ 0 ∷ 0 ∷ 0 ∷ 1 ∷ []) 0 (stands true 3 2 1)
+    ∷ look 0x8800 none (stands true 2 1 1) (1 ∷ 0 ∷ 0 ∷ 0 ∷ 1 ∷ []) 0 (stands true 2 2 1)
+    ∷ look 0x0900 none (stands true 2 1 1) (1 ∷ 0 ∷ 0 ∷ 0 ∷ 1 ∷ []) 0 (stands true 4 2 2)
+    -- settled and not staying: candidates are those without Active_Invalid
+    ∷ look 0x0800 none (stands true 4 1 1) (1 ∷ 0 ∷ 0 ∷ 1 ∷ 0 ∷ []) 0 (stands true 0 2 2)
+    ∷ look 0x0800 2 (stands true 4 1 1) (0 ∷ 1 ∷ 0 ∷ 1 ∷ 0 ∷ []) 0 (stands true 2 2 2)
+    ∷ look 0x0800 none (stands true 4 1 1) (0 ∷ 0 ∷ 0 ∷ 1 ∷ 0 ∷ []) 0 (stands true none 2 2)
+    ∷ look 0x8800 none (stands true none 2 2) (1 ∷ 0 ∷ 0 ∷ 1 ∷ 0 ∷ []) 0 (stands true 0 3 3)
+    ∷ look 0x8800 none (stands true none 2 2) (0 ∷ 0 ∷ 0 ∷ 1 ∷ 0 ∷ []) 0 (stands true none 3 2)
+    -- the last look that is counted
+    ∷ look 0x0800 none (stands true 4 65534 7) (0 ∷ 0 ∷ 0 ∷ 0 ∷ 0 ∷ []) 0 (stands true none 65535 8)
+    -- 22 before 23 before 19; bytes behind the block count are ignored
+    ∷ look 0x0000 none (stands false none 65535 0) [] 22 (stands false none 65535 0)
+    ∷ look 0x0800 none (stands true 4 65535 7) [] 23 (stands true 4 65535 7)
+    ∷ look 0x0800 none (stands false none 0 0) (1 ∷ 1 ∷ 1 ∷ 1 ∷ []) 19 (stands false none 0 0)
+    ∷ look 0x0800 none (stands true 4 1 1) (1 ∷ 2 ∷ 1 ∷ 1 ∷ 0 ∷ []) 19 (stands true 4 1 1)
+    ∷ look 0x0800 none (stands false none 0 0) (0 ∷ 0 ∷ 0 ∷ 0 ∷ 1 ∷ 2 ∷ []) 0 (stands true 4 1 1)
+    ∷ []

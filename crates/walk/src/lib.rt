@@ -1,0 +1,35 @@
+// The autosense walk: its record, and what a call answers (document 01, 'The walk').
+
+// A flag for each block, by its number: whether it is listed, and whether it is and has Active_Invalid.
+#[repr(C)]
+pub struct Rows {
+    pub listed: [u8; 128],
+    pub active_invalid: [u8; 128],
+}
+
+// A walk, fresh or loaded. No block is selected before the first look.
+#[repr(C)]
+pub struct Walk {
+    pub loaded: bool,
+    pub connection: u16,
+    pub blocks: u8,
+    pub rows: Rows,
+    pub default_number: u8,
+    pub settled: bool,
+    pub selected: u8,
+    pub looks: u16,
+    pub switches: u16,
+}
+
+// A call's number, 0 for acceptance, and the walk after it, which a refusal leaves as it was.
+#[repr(C)]
+pub struct Walked {
+    pub number: u8,
+    pub walk: Walk,
+}
+
+// What a look selects, and whether the walk is then settled.
+pub struct Choice {
+    pub settled: bool,
+    pub selected: u8,
+}

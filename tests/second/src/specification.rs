@@ -1,0 +1,70 @@
+//! The cases that the checker computes, as the specification files have them: text, taken apart so that tests hold each
+//! case to this implementation.
+
+use std::fs;
+use std::path::Path;
+
+/// A specification file of a crate.
+pub fn text(file: &str) -> String {
+    let crates = Path::new(env!("CARGO_MANIFEST_DIR")).join("../../crates");
+    fs::read_to_string(crates.join(file)).unwrap()
+}
+
+/// The elements of the list that is defined under a name, one a line: what each is made by, and its arguments.
+pub fn cases<'a>(text: &'a str, name: &str) -> Vec<(&'a str, Vec<&'a str>)> {
+    let (_, list) = text.split_once(&format!("\n{name} =\n")).unwrap();
+    let (list, _) = list.split_once("    ∷ []").unwrap();
+    let lines = list.lines().map(str::trim_start);
+    let elements = lines.filter(|line| !line.starts_with("--"));
+    elements
+        .map(|line| {
+            let words = arguments(line.strip_prefix("∷ ").unwrap_or(line));
+            (words[0], words[1..].to_vec())
+        })
+        .collect()
+}
+
+/// Words, or what stands between outer parentheses.
+pub fn arguments(line: &str) -> Vec<&str> {
+    let mut found = Vec::new();
+    let mut rest = line.trim();
+    while !rest.is_empty() {
+        let (word, behind) = match rest.strip_prefix('(') {
+            Some(inner) => inner.split_once(')').unwrap(),
+            None => rest.split_once(' ').unwrap_or((rest, "")),
+        };
+        found.push(word);
+        rest = behind.trim_start();
+    }
+    found
+}
+
+/// A number, in decimal or hexadecimal, or `none`.
+pub fn number(word: &str) -> usize {
+    match word.strip_prefix("0x") {
+        Some(digits) => usize::from_str_radix(digits, 16).unwrap(),
+        None if word == "none" => crate::walk::NONE.into(),
+        None => word
+            .parse()
+            .unwrap_or_else(|_| panic!("{word} is no number")),
+    }
+}
+
+/// The bytes of a list: numbers with `∷` between them, `replicate n x` and `++`.
+pub fn bytes(list: &str) -> Vec<u8> {
+    let mut bytes = Vec::new();
+    let words = list.replace(['(', ')', ';'], " ");
+    let mut words = words.split_whitespace();
+    while let Some(word) = words.next() {
+        match word {
+            "∷" | "[]" | "++" => {}
+            "replicate" => {
+                let count = number(words.next().unwrap());
+                let value = number(words.next().unwrap());
+                bytes.extend(vec![value as u8; count]);
+            }
+            _ => bytes.push(number(word).try_into().unwrap()),
+        }
+    }
+    bytes
+}
