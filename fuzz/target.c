@@ -1,7 +1,8 @@
 /*
- * A fuzz target over every exported call. The first bytes choose the arguments, the rest is an image, a report and a sheet;
- * one flag mends both CRCs, so that the search gets behind them. Every lent buffer stands between guard bytes. The archive
- * is compiled without instrumentation, so what the calls answer guides the search: each refusal number and each count.
+ * A fuzz target over every exported call. The first bytes choose the arguments, the rest is an image, a report and a sheet.
+ * One flag mends the CRCs, so that the search gets behind them, and one says that there is a Magic Packet block. Every lent
+ * buffer stands between guard bytes. The archive is compiled without instrumentation, so what the calls answer guides the
+ * search: each refusal number and each count.
  */
 #include <srom.h>
 
@@ -9,6 +10,12 @@
 #include <string.h>
 
 enum { GUARD = 32, GUARD_BYTE = 0xA5, MOST_ELEMENTS = 512, CALLS = 8 };
+
+/* Where the Magic Packet block stands, and the SROM CRC without it and with it. */
+enum { BLOCK = 96, BLOCK_LENGTH = 32, BLOCK_CRC = 126, CRC = 126, CRC_BEFORE_BLOCK = 94 };
+
+/* The flags. */
+enum { MENDS = 1, OTHER_LENGTH = 2, MAGIC = 4 };
 
 /* A lent buffer of `length` bytes between guards. */
 typedef struct lent {
@@ -44,7 +51,7 @@ static void check(bool holds)
 }
 
 /* A counter for each number that a call answers: to the search, reaching a new one is coverage. */
-enum { READ, LISTED, SKIPPED, RESETS, LOAD, LOOK, SELECTED, SWITCHES, WRITE, MAKE, KINDS_OF_NUMBERS };
+enum { READ, LISTED, SKIPPED, RESETS, READ_MAGIC, LOAD, LOOK, SELECTED, SWITCHES, WRITE, MAKE, KINDS_OF_NUMBERS };
 
 __attribute__((section("__libfuzzer_extra_counters"))) static uint8_t counters[KINDS_OF_NUMBERS][256];
 
@@ -53,14 +60,17 @@ static void reach(int kind, size_t number)
     counters[kind][number < 256 ? number : 255] = 1;
 }
 
-static void mend(uint8_t *image, size_t length)
+static void mend(uint8_t *image, size_t length, srom_layout layout)
 {
     if (length != SROM_IMAGE_LENGTH)
         return;
     image[16] = (uint8_t)srom_id_crc(image, length).value;
-    uint16_t crc = srom_crc(image, length).value;
-    image[126] = (uint8_t)crc;
-    image[127] = (uint8_t)(crc >> 8);
+    uint16_t crc = srom_crc(image, length, layout).value;
+    size_t at = layout.magic ? CRC_BEFORE_BLOCK : CRC;
+    image[at] = (uint8_t)crc;
+    image[at + 1] = (uint8_t)(crc >> 8);
+    if (layout.magic)
+        image[BLOCK_CRC] = (uint8_t)srom_magic_crc(image, length).value;
 }
 
 static void read_and_view(const uint8_t *image, size_t length, srom_arguments arguments, size_t room)
@@ -89,6 +99,36 @@ static void read_and_view(const uint8_t *image, size_t length, srom_arguments ar
     }
     take_back(kinds);
     take_back(offsets);
+    take_back(before);
+}
+
+static bool say_the_same(const srom_magic *magic, const srom_magic *other)
+{
+    return memcmp(magic->password, other->password, sizeof magic->password) == 0
+        && memcmp(magic->address, other->address, sizeof magic->address) == 0 && magic->command == other->command;
+}
+
+/* What is read of the block is written again over any block, and what is written is read. */
+static void return_block(const uint8_t *image, size_t length)
+{
+    static const srom_magic nothing;
+    srom_magic_answer answer = srom_read_magic(image, length);
+    reach(READ_MAGIC, answer.number);
+    if (answer.number != SROM_ACCEPTED)
+        check(say_the_same(&answer.magic, &nothing));
+    lent written = lend(image, length);
+    if (length == SROM_IMAGE_LENGTH)
+        memset(written.bytes + BLOCK, GUARD_BYTE, BLOCK_LENGTH);
+    lent before = lend(written.bytes, length);
+    uint8_t number = srom_write_magic(answer.magic, written.bytes, length);
+    if (number != SROM_ACCEPTED)
+        check(length != SROM_IMAGE_LENGTH && memcmp(written.bytes, before.bytes, length) == 0);
+    else {
+        srom_magic_answer again = srom_read_magic(written.bytes, length);
+        check(again.number == SROM_ACCEPTED && say_the_same(&again.magic, &answer.magic));
+        check(memcmp(written.bytes, image, answer.number == SROM_ACCEPTED ? length : BLOCK) == 0);
+    }
+    take_back(written);
     take_back(before);
 }
 
@@ -130,19 +170,26 @@ static void walk_over(const uint8_t *image, size_t length, srom_arguments argume
     }
 }
 
-static void return_sheet(const uint8_t *sheet, size_t length)
+/* A sheet, written to an image with a block that is right or not. */
+static void return_sheet(const uint8_t *sheet, size_t length, srom_layout layout, bool has_block)
 {
-    lent image = lend(NULL, SROM_IMAGE_LENGTH), before = lend(NULL, SROM_IMAGE_LENGTH), lent_sheet = lend(sheet, length);
-    uint8_t number = srom_write(lent_sheet.bytes, length, image.bytes, SROM_IMAGE_LENGTH);
+    static const srom_magic nothing;
+    lent image = lend(NULL, SROM_IMAGE_LENGTH), lent_sheet = lend(sheet, length);
+    if (has_block)
+        check(srom_write_magic(nothing, image.bytes, SROM_IMAGE_LENGTH) == SROM_ACCEPTED);
+    lent before = lend(image.bytes, SROM_IMAGE_LENGTH);
+    uint8_t number = srom_write(lent_sheet.bytes, length, layout, image.bytes, SROM_IMAGE_LENGTH);
     reach(WRITE, number);
     if (number != SROM_ACCEPTED)
         check(memcmp(image.bytes, before.bytes, SROM_IMAGE_LENGTH) == 0);
     else {
         lent again = lend(NULL, MOST_ELEMENTS);
         uint16_t chip = (uint16_t)(lent_sheet.bytes[27] | lent_sheet.bytes[28] << 8);
-        srom_made made = srom_make_sheet(image.bytes, SROM_IMAGE_LENGTH, chip, again.bytes, MOST_ELEMENTS);
+        srom_made made = srom_make_sheet(image.bytes, SROM_IMAGE_LENGTH, chip, layout, again.bytes, MOST_ELEMENTS);
         check(made.number == SROM_ACCEPTED && made.length == length);
         check(memcmp(again.bytes, lent_sheet.bytes, length) == 0);
+        if (layout.magic)
+            check(memcmp(image.bytes + BLOCK, before.bytes + BLOCK, BLOCK_LENGTH) == 0);
         take_back(again);
     }
     take_back(image);
@@ -150,14 +197,16 @@ static void return_sheet(const uint8_t *sheet, size_t length)
     take_back(lent_sheet);
 }
 
-static void return_image(const uint8_t *image, size_t length, uint16_t chip, size_t room)
+static void return_image(const uint8_t *image, size_t length, uint16_t chip, srom_layout layout, size_t room)
 {
     lent buffer = lend(NULL, room);
-    srom_made made = srom_make_sheet(image, length, chip, buffer.bytes, room);
+    srom_made made = srom_make_sheet(image, length, chip, layout, buffer.bytes, room);
     reach(MAKE, made.number);
     if (made.number == SROM_ACCEPTED) {
-        uint8_t back[SROM_IMAGE_LENGTH];
-        check(srom_write(buffer.bytes, made.length, back, sizeof back) == SROM_ACCEPTED);
+        uint8_t back[SROM_IMAGE_LENGTH] = {0};
+        if (layout.magic)
+            memcpy(back + BLOCK, image + BLOCK, BLOCK_LENGTH);
+        check(srom_write(buffer.bytes, made.length, layout, back, sizeof back) == SROM_ACCEPTED);
         check(memcmp(back, image, sizeof back) == 0);
     } else
         check(made.length == 0);
@@ -170,20 +219,22 @@ int LLVMFuzzerTestOneInput(const uint8_t *data, size_t size)
     if (size < 6)
         return 0;
     uint8_t flags = data[0];
-    srom_arguments arguments = {chips[data[1] % 8], data[2] % 40, data[3] % 9};
-    size_t room = data[4], length = flags & 2 ? data[5] : SROM_IMAGE_LENGTH;
+    srom_layout layout = {(flags & MAGIC) != 0};
+    srom_arguments arguments = {chips[data[1] % 8], data[2] % 40, data[3] % 9, layout};
+    size_t room = data[4], length = flags & OTHER_LENGTH ? data[5] : SROM_IMAGE_LENGTH;
     data += 6;
     size -= 6;
     if (size < length)
         return 0;
     lent image = lend(data, length);
-    if (flags & 1)
-        mend(image.bytes, length);
+    if (flags & MENDS)
+        mend(image.bytes, length, layout);
     lent as_lent = lend(image.bytes, length);
     read_and_view(image.bytes, length, arguments, room);
+    return_block(image.bytes, length);
     walk_over(image.bytes, length, arguments, data + length, size - length);
-    return_image(image.bytes, length, arguments.chip, room * 2);
-    return_sheet(data, size);
+    return_image(image.bytes, length, arguments.chip, layout, room * 2);
+    return_sheet(data, size, layout, flags & MENDS);
     check(memcmp(image.bytes, as_lent.bytes, length) == 0);
     take_back(image);
     take_back(as_lent);

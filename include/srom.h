@@ -2,8 +2,8 @@
  * The 21X4 serial ROM of Ethernet cards: reading, writing and the autosense walk.
  *
  * Link libsrom.a, which `rt staticlib srom` writes to target/staticlib. Every function below is proved to end and to answer
- * exactly what document 01 defines, for every input: any bytes, any length, any arguments. None keeps a pointer, allocates,
- * or reads or writes anything but what it is lent.
+ * exactly what documents 01 and 02 define, for every input: any bytes, any length, any arguments. None keeps a pointer,
+ * allocates, or reads or writes anything but what it is lent.
  *
  * An array is lent as a pointer and its length in elements. A length of 0 may come with any pointer that is not null.
  * Arrays that are lent to one call for writing do not overlap each other or what is read.
@@ -38,15 +38,16 @@ enum {
     SROM_BAD_VERSION = 2,          /* version neither 3 nor 4 */
     SROM_BAD_SROM_CRC = 3,         /* SROM CRC differs */
     SROM_BAD_ID_CRC = 4,           /* ID CRC differs */
-    SROM_BAD_COUNT = 5,            /* controller count not 1 to 32, or the reserved byte behind the controllers not 0 */
+    SROM_BAD_COUNT = 5,            /* controller count not 1 to 32 (20 with a Magic Packet block), or the reserved byte behind
+                                      the controllers not 0 */
     SROM_NO_CONTROLLER = 6,        /* controller not below the count */
     SROM_NO_CHIP = 7,              /* none of the chips below */
     SROM_BAD_LEVEL = 8,            /* level over SROM_NEWEST_LEVEL */
     SROM_BAD_ADDRESS = 9,          /* base address and controller over 2^48 - 1 */
-    SROM_LEAF_OUTSIDE = 10,        /* leaf header outside its bounds */
+    SROM_LEAF_OUTSIDE = 10,        /* leaf header not between the controllers and the maker's bytes */
     SROM_BAD_CONNECTION = 11,      /* connection type that the chip does not take */
     SROM_ARRAY_TOO_SHORT = 12,     /* lent array shorter than the block count, or sheet buffer too short */
-    SROM_BLOCK_OUTSIDE = 13,       /* block past byte 123 */
+    SROM_BLOCK_OUTSIDE = 13,       /* block past byte 123 (91 with a Magic Packet block) */
     SROM_BAD_BLOCK_TYPE = 14,      /* extended length 0, or a compact block or known type that the chip does not permit */
     SROM_BAD_BLOCK_LENGTH = 15,    /* length wrong for the type, or a sequence's count (g or r) past the block's end */
     SROM_BAD_BLOCK_CODE = 16,      /* media code or reserved bits */
@@ -59,8 +60,10 @@ enum {
     SROM_TOO_MANY_LOOKS = 23,      /* 65,535 looks */
     SROM_BAD_SHEET = 24,           /* sheet length or sum of sizes */
     SROM_BAD_SHEET_ENTRY = 25,     /* kind, body or control byte that no image of the chip can hold */
-    SROM_LEAF_TOO_LONG = 26,       /* leaf past byte 123 */
-    SROM_NOT_TIDY = 27             /* more than one controller, leaf not at 30, or bytes behind the leaf not 0 */
+    SROM_LEAF_TOO_LONG = 26,       /* leaf past byte 123 (91 with a Magic Packet block) */
+    SROM_NOT_TIDY = 27,            /* more than one controller, leaf not at 30, or bytes behind the leaf not 0 */
+    SROM_BAD_MAGIC_CRC = 29,       /* CRC of the Magic Packet block differs */
+    SROM_BAD_MAGIC_RESERVED = 30   /* reserved byte of the Magic Packet block not 0 */
 };
 
 /* Chips, by their decimal numbers. The 21140A counts as 21140. */
@@ -72,6 +75,24 @@ enum { SROM_KIND_COMPACT = 256, SROM_KIND_21041 = 257 };
 /* Connection types that looks serve. */
 enum { SROM_AUTOSENSE = 0x0800, SROM_AUTOSENSE_ONCE = 0x8800, SROM_AUTOSENSE_NWAY = 0x0900 };
 
+/* ---- Layout ---- */
+
+/*
+ * Whether a Magic Packet block, by which a card wakes its station, stands at the end of an image. Nothing in the image says
+ * so: the caller does, and only then is the block judged. It moves what stands before it:
+ *
+ *                          without it    with it
+ *     leaves end before    124           92
+ *     the maker's bytes    124, 125      92, 93
+ *     SROM CRC             126, 127      94, 95
+ *     which covers         0 to 125      0 to 93
+ *     controllers          1 to 32       1 to 20
+ *     the block            none          96 to 127
+ */
+typedef struct srom_layout {
+    bool magic; /* the block is there */
+} srom_layout;
+
 /* ---- Checksums ---- */
 
 typedef struct srom_checksum {
@@ -79,19 +100,23 @@ typedef struct srom_checksum {
     uint16_t value;
 } srom_checksum;
 
-/* The CRC that bytes 126 and 127 should hold, low byte first. Refusal: 1. */
-srom_checksum srom_crc(const uint8_t *image, size_t image_length);
+/* The CRC that bytes 126 and 127, or with a Magic Packet block 94 and 95, should hold, low byte first. Refusal: 1. */
+srom_checksum srom_crc(const uint8_t *image, size_t image_length, srom_layout layout);
 
 /* The CRC that byte 16 should hold. Refusal: 1. */
 srom_checksum srom_id_crc(const uint8_t *image, size_t image_length);
 
+/* The CRC that byte 126 of a Magic Packet block should hold. Refusal: 1. */
+srom_checksum srom_magic_crc(const uint8_t *image, size_t image_length);
+
 /* ---- Reading ---- */
 
-/* Which controller of a card to read, from 0, for which chip, and how many extended types the reader knows. */
+/* Which controller of a card to read, from 0, for which chip, how many extended types the reader knows, and the layout. */
 typedef struct srom_arguments {
     uint16_t chip;
     uint8_t controller;
     uint8_t level;
+    srom_layout layout;
 } srom_arguments;
 
 typedef struct srom_answer {
@@ -110,7 +135,8 @@ typedef struct srom_answer {
  * The media table of a controller's leaf, in autosense order: kinds and byte offsets of the listed blocks, from the last block
  * to the first. Elements behind the listed ones are unchanged; on a refusal both arrays are. Arrays of 91 elements are long
  * enough for every image that is accepted.
- * Refusals: 1 to 18 in order, the blocks judged one after another (13 to 17 each), 18 last.
+ * Refusals: 1 to 4, 29 and 30 where the layout has the Magic Packet block, 5 to 18, in this order, the blocks judged one after
+ * another (13 to 17 each), 18 last.
  */
 srom_answer srom_read(const uint8_t *image, size_t image_length, srom_arguments arguments,
                       uint16_t *kinds, size_t kinds_length, uint16_t *offsets, size_t offsets_length);
@@ -126,6 +152,43 @@ typedef struct srom_part {
  * no array is lent) or the table has no such entry.
  */
 srom_part srom_view(const uint8_t *image, size_t image_length, srom_arguments arguments, size_t entry);
+
+/* ---- The Magic Packet block ---- */
+
+/*
+ * The 21143 from revision 2.0 on and the 21145 have it. Words stand low byte first:
+ *
+ *     byte        holds
+ *     96 to 101   SecureON password, its first byte first; the 21145 takes none, and has zeros here
+ *     102 to 107  IEEE address that packets must have to wake the station, its first byte first
+ *     108, 109    command (word)
+ *     110 to 125  reserved, 0
+ *     126         the CRC of words 48 to 62 and then byte 127, by the rule of the ID CRC
+ *     127         reserved, 0
+ *
+ * The command's bits: 0 MAGIC_DIS, do not wake; 1 Sec_ON_En, the packet must have the password; the media that are sensed
+ * meanwhile, 3 BNC, 4 AUI or, on the 21145, HomeRun, 5 TP10, 6 MII, 7 SYM; 8 LOCK, the command register cannot be read or
+ * written. The others are 0. Password, address and command are kept as they stand, and none of their bits is judged.
+ */
+typedef struct srom_magic {
+    uint8_t password[6];
+    uint8_t address[6];
+    uint16_t command;
+} srom_magic;
+
+typedef struct srom_magic_answer {
+    uint8_t number;
+    srom_magic magic;
+} srom_magic_answer;
+
+/* What the block says, whatever stands before it. Refusals: 1, 29, 30. */
+srom_magic_answer srom_read_magic(const uint8_t *image, size_t image_length);
+
+/*
+ * Writes the block, its reserved bytes and its CRC included, to bytes 96 to 127 of an image, and changes no other byte. What
+ * was written is read back. Refusal: 1.
+ */
+uint8_t srom_write_magic(srom_magic magic, uint8_t *image, size_t image_length);
 
 /* ---- The autosense walk ---- */
 
@@ -191,7 +254,7 @@ srom_walked srom_clear(srom_walk walk);
  *     27, 28      chip (word), its decimal number
  *     29, 30      connection type (word)
  *     31          general purpose control byte; 0 but for the 21140
- *     32, 33      the maker's bytes, 124 and 125 of the image
+ *     32, 33      the maker's bytes, 124 and 125 of the image, or 92 and 93 with a Magic Packet block
  *     34          N kinds (words): an extended block's type, SROM_KIND_COMPACT or SROM_KIND_21041
  *     34 + 2 * N  N body sizes (bytes)
  *     34 + 3 * N  T bytes, the N bodies: an extended block without its length and its type, any other block whole
@@ -202,10 +265,12 @@ srom_walked srom_clear(srom_walk walk);
  */
 
 /*
- * Writes the image of a sheet: one controller, its leaf at byte 30, both CRCs, zeros elsewhere. The image is unchanged on a
- * refusal. Refusals: 24, 1, 7, 25, 26, then those of srom_read without 12 for controller 0 at the newest level.
+ * Writes the image of a sheet: one controller, its leaf at byte 30, both CRCs, zeros elsewhere. With a Magic Packet block that
+ * is bytes 0 to 95; bytes 96 to 127 are kept as the image has them, and judged with the rest, so the block must stand there
+ * before the call (srom_write_magic). The image is unchanged on a refusal.
+ * Refusals: 24, 1, 7, 25, 26, then those of srom_read without 12 for controller 0 at the newest level in the layout.
  */
-uint8_t srom_write(const uint8_t *sheet, size_t sheet_length, uint8_t *image, size_t image_length);
+uint8_t srom_write(const uint8_t *sheet, size_t sheet_length, srom_layout layout, uint8_t *image, size_t image_length);
 
 typedef struct srom_made {
     uint8_t number;
@@ -213,12 +278,14 @@ typedef struct srom_made {
 } srom_made;
 
 /*
- * Makes the sheet of a tidy image, blocks of unknown types included. Bytes of the buffer behind the sheet are unchanged; on a
- * refusal all of them are. Writing the sheet gives the image back, and a sheet that was written comes back byte for byte. A
- * buffer of SROM_LONGEST_SHEET bytes is long enough for every image.
- * Refusals: those of srom_read without 12, for controller 0 at the newest level, then 27, then 12.
+ * Makes the sheet of a tidy image, blocks of unknown types included; a Magic Packet block is no part of it. Bytes of the
+ * buffer behind the sheet are unchanged; on a refusal all of them are. Writing the sheet gives the image back, with a Magic
+ * Packet block where the same block stands there already, and a sheet that was written comes back byte for byte. A buffer of
+ * SROM_LONGEST_SHEET bytes is long enough for every image.
+ * Refusals: those of srom_read without 12, for controller 0 at the newest level in the layout, then 27, then 12.
  */
-srom_made srom_make_sheet(const uint8_t *image, size_t image_length, uint16_t chip, uint8_t *buffer, size_t buffer_length);
+srom_made srom_make_sheet(const uint8_t *image, size_t image_length, uint16_t chip, srom_layout layout,
+                          uint8_t *buffer, size_t buffer_length);
 
 #ifdef __cplusplus
 }

@@ -1,11 +1,12 @@
 /*
  * The shape of a driver's probe routine: read the serial ROM, list its media, and let the autosense walk choose one.
  *
- *     probe IMAGE CHIP CONTROLLER LINKS..
+ *     probe IMAGE CHIP CONTROLLER [magic] LINKS..
  *
- * IMAGE is a file of 128 bytes, in place of the words that a driver clocks out of CSR9. Each LINKS is a row of 0 and 1, one
- * digit a block in the order in which the blocks stand, as the link tests of the media would report. Exit status: 0 a medium
- * is selected, 1 the image or a look is refused or nothing is selected, 2 bad usage or an unreadable file.
+ * IMAGE is a file of 128 bytes, in place of the words that a driver clocks out of CSR9; the word `magic` says that it has a
+ * Magic Packet block. Each LINKS is a row of 0 and 1, one digit a block in the order in which the blocks stand, as the link
+ * tests of the media would report. Exit status: 0 a medium is selected, 1 the image or a look is refused or nothing is
+ * selected, 2 bad usage or an unreadable file.
  */
 #include <srom.h>
 
@@ -46,6 +47,19 @@ static uint8_t list_media(const uint8_t *image, srom_arguments arguments)
         print_block(image, arguments, kinds[entry], offsets[entry], entry);
     printf("  %u resets, %u blocks of unknown types stepped over\n", (unsigned)answer.resets, (unsigned)answer.skipped);
     return SROM_ACCEPTED;
+}
+
+/* Prints the Magic Packet block of an accepted image, which a driver gives the chip before the station sleeps. */
+static void print_magic(const uint8_t *image)
+{
+    srom_magic magic = srom_read_magic(image, SROM_IMAGE_LENGTH).magic;
+    printf("wakes by address ");
+    for (size_t i = 0; i < sizeof magic.address; i++)
+        printf("%02x", magic.address[i]);
+    printf(", password ");
+    for (size_t i = 0; i < sizeof magic.password; i++)
+        printf("%02x", magic.password[i]);
+    printf(", command 0x%04x\n", (unsigned)magic.command);
 }
 
 /* A row of 0 and 1 as a report; how many bytes it has. */
@@ -115,18 +129,21 @@ int main(int argc, char **argv)
 {
     uint8_t image[SROM_IMAGE_LENGTH];
     if (argc < 4) {
-        fprintf(stderr, "usage: %s IMAGE CHIP CONTROLLER LINKS..\n", argv[0]);
+        fprintf(stderr, "usage: %s IMAGE CHIP CONTROLLER [magic] LINKS..\n", argv[0]);
         return 2;
     }
     if (!read_image(argv[1], image)) {
         fprintf(stderr, "%s: not a file of %d bytes\n", argv[1], SROM_IMAGE_LENGTH);
         return 2;
     }
-    srom_arguments arguments = {(uint16_t)atoi(argv[2]), (uint8_t)atoi(argv[3]), SROM_NEWEST_LEVEL};
+    srom_layout layout = {argc > 4 && strcmp(argv[4], "magic") == 0};
+    srom_arguments arguments = {(uint16_t)atoi(argv[2]), (uint8_t)atoi(argv[3]), SROM_NEWEST_LEVEL, layout};
     if (list_media(image, arguments) != SROM_ACCEPTED)
         return 1;
+    if (layout.magic)
+        print_magic(image);
     srom_walked walked = srom_load(srom_fresh(), image, SROM_IMAGE_LENGTH, arguments);
-    for (int i = 4; i < argc && walked.number == SROM_ACCEPTED; i++)
+    for (int i = layout.magic ? 5 : 4; i < argc && walked.number == SROM_ACCEPTED; i++)
         walked = look(walked.walk, argv[i]);
     return walked.number == SROM_ACCEPTED && walked.walk.selected != SROM_NONE ? 0 : 1;
 }

@@ -150,13 +150,8 @@ pub fn load(walk: Walk, image: &[u8], arguments: Arguments) -> Walked
         return Walked { number, walk };
     }
     let row = reading.row;
-    let start = reading.start;
-    let rows = rows_of(
-        &image[start..rom::LEAVES_END],
-        answer.blocks,
-        row,
-        arguments.level,
-    );
+    let rest = header::rest_from(image, arguments.layout, reading.start);
+    let rows = rows_of(rest, answer.blocks, row, arguments.level);
     let next = Walk {
         loaded: true,
         connection: answer.connection,

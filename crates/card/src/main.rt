@@ -1,5 +1,7 @@
 // The bench tool: what is on a card, and what an older driver would see of it. Everything that it shows is answered by the
 // proved crates below it; this one reads files, and prints.
+mod file;
+mod packet;
 mod sheets;
 
 use console::arguments;
@@ -12,6 +14,7 @@ use drivers::older;
 use libc::STDOUT_FILENO;
 use reader::Arguments;
 use report::words;
+use rom::refusal;
 use text::line::Line;
 use text::line::say;
 use text::slice::part;
@@ -25,8 +28,12 @@ fn usage() -> u8 {
   older FILE CHIP [OPTIONS]           what readers of each level see of it
   walk FILE CHIP REPORT.. [OPTIONS]   a look with each REPORT, a row of 0 and 1
                                       with a 1 for each block whose link is up
-  sheet FILE CHIP OUT [--force]       the image as a sheet
-  write SHEET OUT [--force]           the sheet as an image
+  sheet FILE CHIP OUT [--magic] [--force]
+                                      the image as a sheet
+  write SHEET OUT [--magic FROM] [--force]
+                                      the sheet as an image
+  magic FILE OUT --password P --address A --command C [--force]
+                                      the image with a new Magic Packet block
   map FILE CHIP OUT.svg [OPTIONS] [--force]
                                       a picture of the ROM
   refusals                            the refusal numbers in words
@@ -38,8 +45,12 @@ print words (0x08:  2034 0104); - is standard input. CHIP is 21041, 21140,
 21142, 21143 or 21145. OUT is not written over without --force.
 
 OPTIONS are --controller N, which counts from 0 and is 0 where it is not given,
-and --level N, 0 to 6, how many extended types the reader knows, which is the
-newest where it is not given. Options stand anywhere behind the command.
+--level N, 0 to 6, how many extended types the reader knows, which is the
+newest where it is not given, and --magic, for a card that is laid out with a
+Magic Packet block. Options stand anywhere behind the command.
+
+write --magic keeps the block of the image FROM. P and A are six bytes as
+xx:xx:xx:xx:xx:xx and C is a word of up to four digits, all in hexadecimal.
 
 The exit status is 0 for accepted, 1 for refused, 2 for bad usage or a file
 that cannot be read or written.
@@ -48,15 +59,22 @@ that cannot be read or written.
     status::ACCEPTED
 }
 
+fn show_number(number: u8) {
+    Line::new()
+        .right(number as u64, 4)
+        .to(6)
+        .show(STDOUT_FILENO);
+    words::show_refusal(number, STDOUT_FILENO);
+    say(b"");
+}
+
+// No call is refused with 28.
 fn refusals() -> u8 {
     let mut number = 0u8;
-    while number <= rom::refusal::UNTIDY {
-        Line::new()
-            .right(number as u64, 4)
-            .to(6)
-            .show(STDOUT_FILENO);
-        words::show_refusal(number, STDOUT_FILENO);
-        say(b"");
+    while number <= refusal::MAGIC_RESERVED {
+        if number != 28 {
+            show_number(number);
+        }
         number += 1;
     }
     status::ACCEPTED
@@ -64,10 +82,12 @@ fn refusals() -> u8 {
 
 // A command on the bytes of a file.
 fn run_on(bytes: &[u8], words: Words) -> u8 {
+    let layout = words.layout;
     let arguments = Arguments {
         chip: words.chip,
         controller: words.controller,
         level: words.level,
+        layout,
     };
     let force = words.force;
     let places = words.places;
@@ -78,7 +98,7 @@ fn run_on(bytes: &[u8], words: Words) -> u8 {
         command::WALK => looks::show(bytes, arguments, places[2]),
         command::SHEET => sheets::make(bytes, arguments, places[2], force),
         command::MAP => picture::show(bytes, arguments, places[2], force),
-        _ => sheets::write(bytes, places[1], force),
+        _ => sheets::write(bytes, layout, words.from, places[1], force),
     }
 }
 
@@ -88,6 +108,9 @@ fn run_with_file(words: Words) -> u8 {
     let input = input::read_file(places[0]);
     if !input.found {
         return status::USAGE;
+    }
+    if words.command == command::MAGIC {
+        return packet::write(input, words.magic, places[1], words.force);
     }
     let bytes = input.bytes;
     run_on(part(&bytes, 0, input.length), words)

@@ -1,7 +1,11 @@
 // `card sheet` and `card write`: an image to its sheet, and a sheet to its image.
-use console::output;
+use crate::file::save;
+use console::input;
+use console::input::Input;
 use console::status;
+use hexadecimal::held;
 use reader::Arguments;
+use rom::Layout;
 use rom::refusal;
 use text::line;
 use text::line::say;
@@ -11,27 +15,8 @@ use text::slice::part;
 // More than the sheet of any image has.
 const ROOM: usize = 1024;
 
-// Writes bytes to the file that a word names.
-fn save(bytes: &[u8], place: usize, force: bool) -> u8 {
-    let output = output::begin(place);
-    let file = output.file;
-    if file < 0 {
-        return status::USAGE;
-    }
-    let whole = io::write_all(file, bytes);
-    let done = output::finish(output, place, whole, force);
-    if !done {
-        return status::USAGE;
-    }
-    line::of(
-        b"ACCEPTED  # bytes are written",
-        [bytes.len() as u64, 0, 0, 0],
-    ).print();
-    status::ACCEPTED
-}
-
 // What keeps an image from being tidy.
-fn show_untidy(image: &[u8]) {
+fn show_untidy(image: &[u8], layout: Layout) {
     let controllers = byte_at(image, rom::CONTROLLER_COUNT_AT);
     let leaf = report::leaf_of(image, 0);
     if controllers != 1 {
@@ -45,21 +30,24 @@ fn show_untidy(image: &[u8]) {
             [leaf as u64, 0, 0, 0],
         ).print();
     } else {
-        say(b"  a byte behind the leaf's last, up to byte 123, is not 0");
+        line::of(
+            b"  a byte behind the leaf's last, before byte #, is not 0",
+            [layout.leaves_end() as u64, 0, 0, 0],
+        ).print();
     }
 }
 
 // Makes the sheet of an image, as the newest reader reads it for controller 0.
 pub fn make(image: &[u8], arguments: Arguments, place: usize, force: bool) -> u8 {
     let mut room = [0u8; ROOM];
-    let made = maker::make(image, arguments.chip, &mut room);
+    let made = maker::make(image, arguments.chip, arguments.layout, &mut room);
     let number = made.number;
     if number == refusal::ACCEPTED {
         return save(part(&room, 0, made.length), place, force);
     }
     if number == refusal::UNTIDY {
         report::show_refusal(number);
-        show_untidy(image);
+        show_untidy(image, arguments.layout);
         return status::REFUSED;
     }
     report::show_refused(image, arguments, number);
@@ -76,18 +64,52 @@ fn show_lengths(bytes: &[u8]) {
     ).print();
 }
 
+// What a refusal of the writer is about.
+fn show_reason(sheet: &[u8], layout: Layout, image: &[u8], number: u8) {
+    match number {
+        refusal::SHEET => show_lengths(sheet),
+        refusal::IMAGE_LENGTH => report::show_length(image),
+        refusal::SHEET_ENTRY => {}
+        refusal::LEAF_END => report::show_leaves_end(layout),
+        refusal::MAGIC_CRC | refusal::MAGIC_RESERVED => report::show_magic_field(image, number),
+        _ => say(b"  in the image that the sheet asks for"),
+    }
+}
+
+// What an image is written over: zeros, or the image that a word names, whose block is kept.
+fn output_of(layout: Layout, from: usize) -> Input {
+    if layout.magic {
+        return input::read_file(from);
+    }
+    Input {
+        found: true,
+        bytes: [0; held::ROOM],
+        length: rom::IMAGE_LENGTH,
+    }
+}
+
+// Writes the sheet to the image that is the front of the room.
+fn write_front(sheet: &[u8], layout: Layout, room: &mut [u8], length: usize) -> u8 {
+    if room.len() < length {
+        return refusal::IMAGE_LENGTH;
+    }
+    writer::write(sheet, layout, &mut room[0..length])
+}
+
 // Writes the image of a sheet.
-pub fn write(bytes: &[u8], place: usize, force: bool) -> u8 {
-    let mut image = [0u8; rom::IMAGE_LENGTH];
-    let number = writer::write(bytes, &mut image);
+pub fn write(sheet: &[u8], layout: Layout, from: usize, place: usize, force: bool) -> u8 {
+    let output = output_of(layout, from);
+    if !output.found {
+        return status::USAGE;
+    }
+    let length = output.length;
+    let mut room = output.bytes;
+    let number = write_front(sheet, layout, &mut room, length);
+    let image = part(&room, 0, length);
     if number == refusal::ACCEPTED {
-        return save(&image, place, force);
+        return save(image, place, force);
     }
     report::show_refusal(number);
-    if number == refusal::SHEET {
-        show_lengths(bytes);
-    } else if number < refusal::SHEET {
-        say(b"  in the image that the sheet asks for");
-    }
+    show_reason(sheet, layout, image, number);
     status::REFUSED
 }

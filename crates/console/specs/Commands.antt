@@ -5,9 +5,9 @@ use mathlib.Core.List.{List}
 use lib.Dec.{eqb, leb, ltb}
 use Rattle.rom.specs.Bytes.{pick}
 use Rattle.text.specs.Quoted.{quoted}
-use Rattle.text.specs.Numbers.{decimalNumber}
+use Rattle.text.specs.Numbers.{isAmong, decimalNumber}
 use Rattle.text.specs.Tables.{wordsFor}
-use Rattle.console.specs.Options.{forceOption}
+use Rattle.console.specs.Options.{levelOption, magicOption, forceOption}
 
 abbrev pub readCommand : ℕ
 readCommand = 1
@@ -27,11 +27,14 @@ mapCommand = 5
 abbrev pub writeCommand : ℕ
 writeCommand = 6
 
+abbrev pub magicCommand : ℕ
+magicCommand = 7
+
 abbrev pub helpCommand : ℕ
-helpCommand = 8
+helpCommand = 9
 
 unfoldable pub commandTable : List ℕ
-commandTable = quoted "read 1\nolder 2\nwalk 3\nsheet 4\nmap 5\nwrite 6\nrefusals 7\nhelp 8\n"
+commandTable = quoted "read 1\nolder 2\nwalk 3\nsheet 4\nmap 5\nwrite 6\nmagic 7\nrefusals 8\nhelp 9\n"
 
 -- the command that a word names, or 0
 abbrev pub pickCommand : ℕ → ℕ
@@ -46,11 +49,11 @@ commandOf word = pickCommand (decimalNumber (wordsFor commandTable word))
 unfoldable pub takesChip : ℕ → Bool
 takesChip command = leb command mapCommand
 
--- `help` and `refusals` take none; `write`, `read` and `older` two; those that take a report or a file to write three
+-- `help` and `refusals` take none; `write` and `magic`, `read` and `older` two; those that take a report or a file to write three
 unfoldable pub fewestOf : ℕ → ℕ
 fewestOf command =
-    pick (ltb writeCommand command) 0
-    (pick (eqb command writeCommand) 2
+    pick (ltb magicCommand command) 0
+    (pick (leb writeCommand command) 2
     (pick (leb command olderCommand) 2 3))
 
 -- 4 is more than are counted, and so no bound: `walk` takes as many reports as there are
@@ -63,9 +66,20 @@ mostOf command = pick (eqb command walkCommand) 4 (fewestOf command)
 unfoldable pub takesArguments : ℕ → Bool
 takesArguments command = eqb command readCommand || eqb command olderCommand || eqb command walkCommand || eqb command mapCommand
 
--- those that write a file
+-- those from `sheet` to `magic` write a file
 unfoldable pub takesForce : ℕ → Bool
-takesForce command = eqb command sheetCommand || eqb command mapCommand || eqb command writeCommand
+takesForce command = isAmong sheetCommand magicCommand command
+
+-- those that read a card, and `write`, take a layout
+abbrev pub takesLayout : ℕ → Bool
+takesLayout command = leb command writeCommand
+
+-- `magic` takes the fields of a Magic Packet block
+abbrev pub takesFields : ℕ → Bool
+takesFields command = eqb command magicCommand
 
 unfoldable pub takesOption : ℕ → ℕ → Bool
-takesOption command option = pick (eqb option forceOption) (takesForce command) (takesArguments command)
+takesOption command option =
+    pick (eqb option forceOption) (takesForce command)
+    (pick (eqb option magicOption) (takesLayout command)
+    (pick (ltb levelOption option) (takesFields command) (takesArguments command)))

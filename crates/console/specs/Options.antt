@@ -1,10 +1,12 @@
--- What a word behind the command is: an option, an option's number, or a plain word.
+-- The options, and whether a word is one.
 use Prim.Native.Nat.{ℕ}
-use mathlib.Core.Bool.{Bool, _||_}
 use mathlib.Core.List.{List}
-use lib.Dec.{eqb}
+use lib.Dec.{ltb}
 use lib.ListN.{take}
 use Rattle.rom.specs.Bytes.{pick}
+use Rattle.text.specs.Quoted.{quoted}
+use Rattle.text.specs.Numbers.{decimalNumber}
+use Rattle.text.specs.Tables.{wordsFor}
 use Rattle.console.specs.Word.{isWord}
 
 -- ## The roles of a word
@@ -18,27 +20,39 @@ controllerOption = 1
 abbrev pub levelOption : ℕ
 levelOption = 2
 
+abbrev pub passwordOption : ℕ
+passwordOption = 3
+
+abbrev pub addressOption : ℕ
+addressOption = 4
+
+abbrev pub commandOption : ℕ
+commandOption = 5
+
+abbrev pub magicOption : ℕ
+magicOption = 6
+
 abbrev pub forceOption : ℕ
-forceOption = 3
+forceOption = 7
 
 abbrev pub noOption : ℕ
-noOption = 4
+noOption = 8
 
-abbrev pub optionsNumber : ℕ
-optionsNumber = 5
+abbrev pub optionValue : ℕ
+optionValue = 9
 
--- two options take a number
-unfoldable pub takesNumber : ℕ → Bool
-takesNumber role = eqb role controllerOption || eqb role levelOption
+-- ## The option that a word is
+
+unfoldable pub optionTable : List ℕ
+optionTable = quoted "--controller 1\n--level 2\n--password 3\n--address 4\n--command 5\n--magic 6\n--force 7\n"
+
+-- a number of the table's, or past the last
+abbrev pub optionNumber : List ℕ → ℕ
+optionNumber word = decimalNumber (wordsFor optionTable word)
 
 -- a word that begins with two dashes is an option, or begins as one does
-unfoldable pub optionOf : List ℕ → ℕ
-optionOf word =
-    pick (isWord "--controller" word) controllerOption
-    (pick (isWord "--level" word) levelOption
-    (pick (isWord "--force" word) forceOption
-    (pick (isWord "--" (take 2 word)) noOption plainWord)))
+abbrev pub pickOption : List ℕ → ℕ → ℕ
+pickOption word n = pick (ltb forceOption n) (pick (isWord "--" (take 2 word)) noOption plainWord) n
 
--- behind an option that takes a number stands that number, whatever the word is
-unfoldable pub roleOf : List ℕ → ℕ → ℕ
-roleOf word before = pick (takesNumber before) optionsNumber (optionOf word)
+unfoldable pub optionOf : List ℕ → ℕ
+optionOf word = pickOption word (optionNumber word)

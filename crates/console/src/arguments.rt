@@ -1,7 +1,10 @@
 // The words that the program was started with.
 use crate::command;
 use crate::option;
+use crate::value;
 use block::NEWEST_LEVEL;
+use magic::Magic;
+use rom::Layout;
 use text::line::Line;
 use text::slice::part;
 use text::slice::same;
@@ -12,8 +15,12 @@ const LONGEST: usize = 255;
 // The plain words whose places are kept: one more than any command takes, `walk` apart.
 pub const KEPT: usize = 4;
 
+// The options by their numbers, of which 0 is none's.
+const OPTIONS: usize = 8;
+
 // What the words ask for. Not fine is what has been complained of. The plain words are those behind the command that are no
-// options and no numbers of options; the count of them goes no further than the places that are kept.
+// options and no values of options; the count of them goes no further than the places that are kept. `from` is the place of
+// the value of --magic in `write`, and `magic` what the options of `magic` say.
 pub struct Words {
     pub fine: bool,
     pub command: u8,
@@ -22,9 +29,11 @@ pub struct Words {
     pub chip: u16,
     pub controller: u8,
     pub level: u8,
+    pub layout: Layout,
+    pub from: usize,
+    pub magic: Magic,
     pub force: bool,
-    has_controller: bool,
-    has_level: bool,
+    given: [bool; OPTIONS],
 }
 
 // ## Complaints
@@ -59,10 +68,10 @@ fn command_at(place: usize) -> u8 {
     command::command_of(&room[..length])
 }
 
-fn role_at(place: usize, before: u8) -> u8 {
+fn role_at(place: usize, before: u8, command: u8) -> u8 {
     let mut room = [0u8; LONGEST];
     let length = os::arg(place, &mut room);
-    option::role_of(&room[..length], before)
+    option::role_of(&room[..length], before, command)
 }
 
 fn small_at(place: usize) -> u16 {
@@ -75,6 +84,24 @@ fn chip_at(place: usize) -> u16 {
     let mut room = [0u8; LONGEST];
     let length = os::arg(place, &mut room);
     option::chip_of(&room[..length])
+}
+
+fn is_six_bytes_at(place: usize) -> bool {
+    let mut room = [0u8; LONGEST];
+    let length = os::arg(place, &mut room);
+    value::is_six_bytes(&room[..length])
+}
+
+fn six_bytes_at(place: usize) -> [u8; value::BYTES] {
+    let mut room = [0u8; LONGEST];
+    let length = os::arg(place, &mut room);
+    value::six_bytes(&room[..length])
+}
+
+fn command_word_at(place: usize) -> usize {
+    let mut room = [0u8; LONGEST];
+    let length = os::arg(place, &mut room);
+    value::command_word(&room[..length])
 }
 
 // ## One word more
@@ -90,9 +117,15 @@ impl Words {
             chip: 0,
             controller: 0,
             level: NEWEST_LEVEL,
+            layout: rom::WITHOUT_MAGIC,
+            from: 0,
+            magic: Magic {
+                password: [0; value::BYTES],
+                address: [0; value::BYTES],
+                command: 0,
+            },
             force: false,
-            has_controller: false,
-            has_level: false,
+            given: [false; OPTIONS],
         }
     }
 
@@ -113,6 +146,22 @@ impl Words {
         )
     }
 
+    fn wrong_bytes(self, what: &[u8], place: usize) -> Words {
+        self.wrong(
+            what,
+            place,
+            b"--password P and --address A are xx:xx:xx:xx:xx:xx in hexadecimal",
+        )
+    }
+
+    fn wrong_command(self, what: &[u8], place: usize) -> Words {
+        self.wrong(
+            what,
+            place,
+            b"--command C is one to four hexadecimal digits, with 0x before or not",
+        )
+    }
+
     fn wrong_count(self, what: &[u8], place: usize) -> Words {
         self.wrong(what, place, b"./card help says which words each takes")
     }
@@ -130,11 +179,20 @@ impl Words {
 
     // Whether an option has been given.
     fn has(self, option: u8) -> bool {
-        match option {
-            option::CONTROLLER => self.has_controller,
-            option::LEVEL => self.has_level,
-            _ => self.force,
+        let given = self.given;
+        given[(option as usize) % OPTIONS]
+    }
+
+    fn with_given(self, option: u8) -> Words {
+        let mut next = self;
+        next.given[(option as usize) % OPTIONS] = true;
+        if option == option::MAGIC {
+            next.layout = rom::WITH_MAGIC;
         }
+        if option == option::FORCE {
+            next.force = true;
+        }
+        next
     }
 
     fn with_option(self, option: u8, place: usize) -> Words {
@@ -154,18 +212,26 @@ impl Words {
                 b"each is given at most once",
             );
         }
-        let mut next = self;
-        if option == option::CONTROLLER {
-            next.has_controller = true;
-        } else if option == option::LEVEL {
-            next.has_level = true;
-        } else {
-            next.force = true;
-        }
-        next
+        self.with_given(option)
     }
 
-    // The number of an option.
+    // What begins as an option does, and is none.
+    fn unknown(self, place: usize) -> Words {
+        if self.command == command::MAGIC {
+            return self.wrong(
+                b"no such option",
+                place,
+                b"the options are --password P, --address A, --command C and --force",
+            );
+        }
+        self.wrong(
+            b"no such option",
+            place,
+            b"the options are --controller N, --level N, --magic and --force",
+        )
+    }
+
+    // The value of --controller or --level.
     fn with_number(self, option: u8, place: usize) -> Words {
         let number = small_at(place);
         if 255 < number {
@@ -180,13 +246,75 @@ impl Words {
         next
     }
 
+    // The value of --password or --address.
+    fn with_bytes(self, option: u8, place: usize) -> Words {
+        let found = is_six_bytes_at(place);
+        if !found {
+            return self.wrong_bytes(b"no six bytes with colons between them", place);
+        }
+        let bytes = six_bytes_at(place);
+        let mut magic = self.magic;
+        if option == option::PASSWORD {
+            magic.password = bytes;
+        } else {
+            magic.address = bytes;
+        }
+        let mut next = self;
+        next.magic = magic;
+        next
+    }
+
+    // The value of --command.
+    fn with_command(self, place: usize) -> Words {
+        let number = command_word_at(place);
+        if 65_535 < number {
+            return self.wrong_command(b"no word of one to four digits", place);
+        }
+        let command = number as u16;
+        let mut next = self;
+        next.magic.command = command;
+        next
+    }
+
+    // The value of --magic, a file's name.
+    fn with_from(self, place: usize) -> Words {
+        let mut next = self;
+        next.from = place;
+        next
+    }
+
+    fn with_value(self, option: u8, place: usize) -> Words {
+        match option {
+            option::PASSWORD | option::ADDRESS => self.with_bytes(option, place),
+            option::COMMAND => self.with_command(place),
+            option::MAGIC => self.with_from(place),
+            _ => self.with_number(option, place),
+        }
+    }
+
+    // An option behind which no value stands.
+    fn without_value(self, option: u8, place: usize) -> Words {
+        match option {
+            option::PASSWORD | option::ADDRESS => {
+                self.wrong_bytes(b"no bytes behind the option", place)
+            }
+            option::COMMAND => self.wrong_command(b"no word behind the option", place),
+            option::MAGIC => self.wrong(
+                b"no file behind the option",
+                place,
+                b"write SHEET OUT --magic FROM keeps the block of the image FROM",
+            ),
+            _ => self.wrong_number(b"no number behind the option", place),
+        }
+    }
+
     // No word more, behind the last one, of a role.
     fn ended(self, role: u8, last: usize) -> Words {
-        let waits = option::takes_number(role);
+        let waits = option::takes_value(self.command, role);
         if !waits {
             return self;
         }
-        self.wrong_number(b"no number behind the option", last)
+        self.without_value(role, last)
     }
 
     // The place of a plain word.
@@ -233,18 +361,42 @@ impl Words {
         }
         next
     }
+
+    fn missing(self, what: &[u8]) -> Words {
+        self.wrong(
+            what,
+            1,
+            b"magic takes all of --password P, --address A and --command C",
+        )
+    }
+
+    // Whether the options are given that `magic` cannot do without.
+    fn complete(self) -> Words {
+        if !self.fine {
+            return self;
+        }
+        if self.command != command::MAGIC {
+            return self;
+        }
+        if !self.has(option::PASSWORD) {
+            return self.missing(b"the command needs --password P");
+        }
+        if !self.has(option::ADDRESS) {
+            return self.missing(b"the command needs --address A");
+        }
+        if !self.has(option::COMMAND) {
+            return self.missing(b"the command needs --command C");
+        }
+        self
+    }
 }
 
 // One word more, of a role, behind one of another.
 fn with_word(words: Words, place: usize, role: u8, before: u8) -> Words {
     match role {
         option::PLAIN => words.with_plain(place),
-        option::NUMBER => words.with_number(before, place),
-        option::UNKNOWN => words.wrong(
-            b"no such option",
-            place,
-            b"the options are --controller N, --level N and --force",
-        ),
+        option::VALUE => words.with_value(before, place),
+        option::UNKNOWN => words.unknown(place),
         _ => words.with_option(role, place),
     }
 }
@@ -259,7 +411,7 @@ fn read_behind(command: u8, end: usize) -> Words {
     let mut place = 2;
     while place < end {
         let before = role;
-        role = role_at(place, before);
+        role = role_at(place, before, command);
         words = with_word(words, place, role, before);
         if !words.fine {
             return words;
@@ -281,8 +433,8 @@ pub fn read() -> Words {
         return Words::of(command).wrong(
             b"no such command",
             1,
-            b"the commands are read, older, walk, sheet, write, map, refusals and help",
+            b"there are read, older, walk, sheet, write, magic, map, refusals and help",
         );
     }
-    read_behind(command, end).counted().with_chip()
+    read_behind(command, end).counted().with_chip().complete()
 }

@@ -18,9 +18,11 @@ pub const MAP: u8 = 5;
 
 pub const WRITE: u8 = 6;
 
-pub const REFUSALS: u8 = 7;
+pub const MAGIC: u8 = 7;
 
-pub const HELP: u8 = 8;
+pub const REFUSALS: u8 = 8;
+
+pub const HELP: u8 = 9;
 
 // The command that a word names.
 pub(crate) fn command_of(word: &[u8]) -> u8
@@ -33,8 +35,9 @@ walk 3
 sheet 4
 map 5
 write 6
-refusals 7
-help 8
+magic 7
+refusals 8
+help 9
 ",
         word,
     ));
@@ -55,10 +58,10 @@ pub(crate) fn takes_chip(command: u8) -> bool
 pub(crate) fn fewest(command: u8) -> usize
     ensures { λ r. ⌜ r ≡ fewestOf command ⌝ }
 {
-    if WRITE < command {
+    if MAGIC < command {
         return 0;
     }
-    if command == WRITE {
+    if WRITE <= command {
         return 2;
     }
     if command <= OLDER {
@@ -95,13 +98,10 @@ fn takes_arguments(command: u8) -> bool
 fn takes_force(command: u8) -> bool
     ensures { λ r. ⌜ r ≡ takesForce command ⌝ }
 {
-    if command == SHEET {
-        return true;
+    if command < SHEET {
+        return false;
     }
-    if command == MAP {
-        return true;
-    }
-    command == WRITE
+    command <= MAGIC
 }
 
 // Whether a command takes an option.
@@ -110,6 +110,12 @@ pub(crate) fn takes(command: u8, option: u8) -> bool
 {
     if option == option::FORCE {
         return takes_force(command);
+    }
+    if option == option::MAGIC {
+        return command <= WRITE;
+    }
+    if option::LEVEL < option {
+        return command == MAGIC;
     }
     takes_arguments(command)
 }

@@ -5,3 +5,4 @@ pub mod input;
 pub mod option;
 pub mod output;
 pub mod status;
+mod value;

@@ -1,10 +1,12 @@
-// What a word behind the command is: an option, an option's number, or a plain word.
+// What a word behind the command is: an option, an option's value, or a plain word.
+use crate::command;
 use block::chip;
 use text::slice::part;
 use text::slice::same;
 ghost use mathlib.Core.Path.{_≡_};
 ghost use Rattle.console.specs.Word.{smallNumber, chipNamed};
-ghost use Rattle.console.specs.Options.{takesNumber, optionOf, roleOf};
+ghost use Rattle.console.specs.Options.{optionOf};
+ghost use Rattle.console.specs.Roles.{takesValue, roleOf};
 
 // ## The roles of a word
 
@@ -14,39 +16,55 @@ pub const CONTROLLER: u8 = 1;
 
 pub const LEVEL: u8 = 2;
 
-pub const FORCE: u8 = 3;
+pub const PASSWORD: u8 = 3;
+
+pub const ADDRESS: u8 = 4;
+
+pub const COMMAND: u8 = 5;
+
+pub const MAGIC: u8 = 6;
+
+pub const FORCE: u8 = 7;
 
 // It begins as an option does, and is none.
-pub const UNKNOWN: u8 = 4;
+pub const UNKNOWN: u8 = 8;
 
-// The number of the option before it.
-pub const NUMBER: u8 = 5;
+// The value of the option before it.
+pub const VALUE: u8 = 9;
 
-// Whether an option takes a number.
-pub(crate) fn takes_number(role: u8) -> bool
-    ensures { λ r. ⌜ r ≡ takesNumber role ⌝ }
+// Whether an option of a command takes a value: all but --force and --magic do, and in `write` --magic does.
+pub(crate) fn takes_value(command: u8, option: u8) -> bool
+    ensures { λ r. ⌜ r ≡ takesValue command option ⌝ }
 {
-    if role == CONTROLLER {
+    if option == PLAIN {
+        return false;
+    }
+    if option <= COMMAND {
         return true;
     }
-    role == LEVEL
+    if option != MAGIC {
+        return false;
+    }
+    command == command::WRITE
 }
 
 // The option that a word is.
 fn option_of(word: &[u8]) -> u8
     ensures { λ r. ⌜ r ≡ optionOf (now (word .entry)) ⌝ }
 {
-    let controller = same(word, b"--controller");
-    if controller {
-        return CONTROLLER;
-    }
-    let level = same(word, b"--level");
-    if level {
-        return LEVEL;
-    }
-    let force = same(word, b"--force");
-    if force {
-        return FORCE;
+    let number = text::number(text::words(
+        b"--controller 1
+--level 2
+--password 3
+--address 4
+--command 5
+--magic 6
+--force 7
+",
+        word,
+    ));
+    if number <= (FORCE as u32) {
+        return number as u8;
     }
     let dashed = same(part(word, 0, 2), b"--");
     if dashed {
@@ -55,13 +73,13 @@ fn option_of(word: &[u8]) -> u8
     PLAIN
 }
 
-// The role of a word behind one of a role.
-pub fn role_of(word: &[u8], before: u8) -> u8
-    ensures { λ r. ⌜ r ≡ roleOf (now (word .entry)) before ⌝ }
+// The role of a word of a command, behind one of a role.
+pub fn role_of(word: &[u8], before: u8, command: u8) -> u8
+    ensures { λ r. ⌜ r ≡ roleOf (now (word .entry)) before command ⌝ }
 {
-    let number = takes_number(before);
-    if number {
-        return NUMBER;
+    let value = takes_value(command, before);
+    if value {
+        return VALUE;
     }
     option_of(word)
 }

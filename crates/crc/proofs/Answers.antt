@@ -1,29 +1,40 @@
--- An image of 128 bytes is answered with its CRC, any other with 1 and 0. Assumes nothing.
+-- An image of the right length is answered with its CRC, any other with 1 and 0. Assumes nothing.
 use Prim.Native.Nat.{ℕ}
-use mathlib.Core.Path.{_≡_}
+use mathlib.Core.Path.{_≡_, refl, sym, ap, _∙_}
 use mathlib.Core.List.{List}
 use lib.Dec.{lit<}
 use lib.ListN.{length}
 use borrow.Author.Tests.{eq-eqb, ne-eqb}
+use Rattle.rom.specs.declared.Layout.{Layout}
+use Rattle.rom.specs.Geometry.{withoutMagic, withMagic, imageLength}
 use Rattle.rom.specs.Bytes.{pick}
-use Rattle.rom.specs.Refusal.{Numbered, firstMet}
+use Rattle.rom.specs.Refusal.{Numbered, Exact, firstMet}
 use Rattle.rom.proofs.First.{exact}
-use Rattle.crc.specs.Answer.{crcCauses, answer, sromAnswer, idAnswer}
+use Rattle.crc.specs.declared.Checksum.{Checksum}
+use Rattle.crc.specs.Answer.{crcCauses, answer, sromAnswer, idAnswer, magicAnswer}
 use Rattle.crc.specs.Claims.{ExactCrcs}
 
-module _ (image : List ℕ) (crc : ℕ) where
-  pub refused : (length image ≡ 128 → ⊥) → record { number = 1; value = 0 } ≡ answer (firstMet (crcCauses image)) crc
+module _ (l : Layout) (image : List ℕ) (n crc : ℕ) (long : n ≡ imageLength l) where
+  pub refused : (length image ≡ n → ⊥) → record { number = 1; value = 0 } ≡ answer (firstMet (crcCauses l image)) crc
   unfolding answer firstMet crcCauses pick
-  refused h = simp (ne-eqb (length image) 128 h)
+  refused h = rw (← long) (simp (ne-eqb (length image) n h))
 
-  pub accepted : length image ≡ 128 → record { number = 0; value = crc } ≡ answer (firstMet (crcCauses image)) crc
+  pub accepted : length image ≡ n → record { number = 0; value = crc } ≡ answer (firstMet (crcCauses l image)) crc
   unfolding answer firstMet crcCauses pick
-  accepted h = simp (eq-eqb (length image) 128 h)
+  accepted h = rw (← long) (simp (eq-eqb (length image) n h))
 
-numbered : (image : List ℕ) → Numbered (crcCauses image)
+-- the value that is answered for an image of the right length
+pub answered : (l : Layout) (image : List ℕ) (crc : ℕ) (r : Checksum) → length image ≡ imageLength l
+    → r ≡ answer (firstMet (crcCauses l image)) crc → r .value ≡ crc
+answered l image crc r long e = ap (λ (x : Checksum). x .value) (e ∙ sym (accepted l image (imageLength l) crc refl long))
+
+numbered : (l : Layout) (image : List ℕ) → Numbered (crcCauses l image)
 unfolding crcCauses
-numbered image = (lit< tt, tt)
+numbered l image = (lit< tt, tt)
 
 pub exact-crcs : ExactCrcs
-unfolding sromAnswer idAnswer answer
-exact-crcs image = let e = exact (crcCauses image) (numbered image) .0 in (e, e)
+unfolding sromAnswer idAnswer magicAnswer answer
+exact-crcs image = (λ l. e l, e withoutMagic, e withMagic)
+  where
+    e : (l : Layout) → Exact (crcCauses l image) (firstMet (crcCauses l image))
+    e l = exact (crcCauses l image) (numbered l image) .0

@@ -1,7 +1,7 @@
 pub mod Below
 pub mod Tabulated
 pub mod Xor
-pub mod Identity
+pub mod Eight
 pub mod Mirror
 pub mod Answers
 pub mod Worked

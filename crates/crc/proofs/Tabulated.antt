@@ -5,10 +5,10 @@ use mathlib.Core.List.{List}
 use Prim.Native.Nat.{ℕ, zero, suc, _+_, _<_}
 use native.Mathlib.Nat.{add-zero, zero-add, add-suc, suc-add, le-of-suc-le-suc, not-suc-le-zero}
 use lib.ListN.{getD}
-use Rattle.crc.specs.Crc.{idBits}
+use Rattle.crc.specs.Crc.{crc8Bits}
 use Rattle.crc.specs.Inside.{reflected, turns}
 use Rattle.rom.specs.Bytes.{valuesFrom}
-use Rattle.crc.specs.Inside.{sromTable, idTable}
+use Rattle.crc.specs.Inside.{sromTable, crc8Table}
 
 from : (f : ℕ → ℕ) (n i k : ℕ) → k < n → getD (valuesFrom f i n) k 0 ≡ f (i + k)
 from f zero i k h = absurd (not-suc-le-zero h)
@@ -25,6 +25,6 @@ module _ (xs : List ℕ) (k : ℕ) where
   unfolding sromTable
   srom-entry e h = at (turns reflected 8) 256 e h
 
-  pub id-entry : xs ≡ idTable → k < 256 → getD xs k 0 ≡ idBits 8 k 0
-  unfolding idTable
-  id-entry e h = at (λ (r : ℕ). idBits 8 r 0) 256 e h
+  pub crc8-entry : xs ≡ crc8Table → k < 256 → getD xs k 0 ≡ crc8Bits 8 k 0
+  unfolding crc8Table
+  crc8-entry e h = at (λ (r : ℕ). crc8Bits 8 r 0) 256 e h

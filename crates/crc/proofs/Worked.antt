@@ -1,8 +1,10 @@
 -- The worked image, by computation. Assumes nothing.
 use mathlib.Core.Path.{refl}
-use Rattle.crc.specs.Crc.{sromCrc, idCrc}
+use Rattle.rom.specs.Geometry.{imageLength, magicAt, magicWord, boardLength, checkedLength}
+use Rattle.rom.specs.Bytes.{pick}
+use Rattle.crc.specs.Crc.{sromCrc, idCrc, magicCrc}
 use Rattle.crc.specs.Claims.{CrcsWorked}
 
 pub worked : CrcsWorked
-unfolding sromCrc idCrc
-worked = (refl, refl)
+unfolding sromCrc idCrc magicCrc checkedLength boardLength pick imageLength magicAt magicWord
+worked = (refl, refl, refl, refl)

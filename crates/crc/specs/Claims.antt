@@ -1,23 +1,41 @@
--- What is claimed of the two CRCs, for every image.
-use Prim.Native.Nat.{ℕ}
+-- What is claimed of the CRCs, for every image.
+use Prim.Native.Nat.{ℕ, suc, _+_, _*_}
 use mathlib.Core.Path.{_≡_}
 use mathlib.Core.List.{List}
+use Rattle.rom.specs.declared.Layout.{Layout}
+use Rattle.rom.specs.Geometry.{withoutMagic, withMagic, idCrcAt, magicAt, magicWord}
 use Rattle.rom.specs.Bytes.{byteAt, valuesFrom}
 use Rattle.rom.specs.Refusal.{Exact}
-use Rattle.crc.specs.Crc.{ones, sromCrc, idBits, idWords, idCrc}
-use Rattle.crc.specs.Answer.{crcCauses, sromAnswer, idAnswer}
+use Rattle.crc.specs.Crc.{ones, sromCrc, crc8Bits, crc8Words, crc8, idCrc, magicCrc}
+use Rattle.crc.specs.Answer.{crcCauses, sromAnswer, idAnswer, magicAnswer}
 
 -- a number other than 0 means that its cause is met and none before it; 0 that none is met
 abbrev pub ExactCrcs : Type 0
-ExactCrcs = (image : List ℕ) → Exact (crcCauses image) (sromAnswer image .number) × Exact (crcCauses image) (idAnswer image .number)
+ExactCrcs =
+    (image : List ℕ)
+    → ((l : Layout) → Exact (crcCauses l image) (sromAnswer l image .number))
+    × Exact (crcCauses withoutMagic image) (idAnswer image .number)
+    × Exact (crcCauses withMagic image) (magicAnswer image .number)
 
--- where byte 16 is the ID CRC, feeding it in leaves the register 0
+-- where the low byte behind n words from word w on is their CRC8, feeding it in leaves the register 0
 abbrev pub RegisterIsZero : Type 0
-RegisterIsZero = (image : List ℕ) → byteAt image 16 ≡ idCrc image → idBits 8 (idCrc image) (byteAt image 16) ≡ 0
+RegisterIsZero =
+    (n w : ℕ) (image : List ℕ) → byteAt image (2 * (w + n)) ≡ crc8 n w image
+    → crc8Bits 8 (crc8 n w image) (byteAt image (2 * (w + n))) ≡ 0
 
--- and so do words 0 to 8, as the chip takes them
+-- and so do the words themselves with the one behind them, as the chip takes them
 abbrev pub WordsLeaveZero : Type 0
-WordsLeaveZero = (image : List ℕ) → byteAt image 16 ≡ idCrc image → idWords 9 0 (ones 8) image ≡ 0
+WordsLeaveZero =
+    (n w : ℕ) (image : List ℕ) → byteAt image (2 * (w + n)) ≡ crc8 n w image → crc8Words (suc n) w (ones 8) image ≡ 0
+
+-- the ID block: where byte 16 is its CRC, words 0 to 8 leave 0
+abbrev pub IdLeavesZero : Type 0
+IdLeavesZero = (image : List ℕ) → byteAt image idCrcAt ≡ idCrc image → crc8Words 9 0 (ones 8) image ≡ 0
+
+-- the Magic Packet block: where byte 126 is its CRC, words 48 to 63 leave 0
+abbrev pub MagicLeavesZero : Type 0
+MagicLeavesZero =
+    (image : List ℕ) → byteAt image (magicAt withMagic + 30) ≡ magicCrc image → crc8Words 16 (magicWord withMagic) (ones 8) image ≡ 0
 
 -- the image whose bytes are 0, 1, 2 and so on to 127
 abbrev pub counting : List ℕ
@@ -25,4 +43,5 @@ counting = valuesFrom (λ i. i) 0 128
 
 -- its CRCs, as the second implementation (tests/second) has them
 abbrev pub CrcsWorked : Type 0
-CrcsWorked = (sromCrc counting ≡ 0x1FB5) × (idCrc counting ≡ 0x22)
+CrcsWorked =
+    (sromCrc withoutMagic counting ≡ 0x1FB5) × (idCrc counting ≡ 0x22) × (sromCrc withMagic counting ≡ 0x49EE) × (magicCrc counting ≡ 0x53)

@@ -1,10 +1,12 @@
--- The SROM CRC and the ID CRC of an image (document 01, 'The image'). A register is a number below 2 to the power of its
+-- The SROM CRC of an image, and the CRC8 of its ID block and of its Magic Packet block (document 01, 'The image'; document 02,
+-- request 1). A register is a number below 2 to the power of its
 -- width; a shift is a product or a quotient, XOR the machine's.
 use mathlib.Core.List.{List, [], _∷_}
 use Prim.Native.Nat.{ℕ, zero, suc, _+_, _-_, _*_, _/_, _%_, _^_}
 use lib.Bits.{bitXor}
 use lib.ListN.{take}
-use Rattle.rom.specs.Geometry.{checkedLength}
+use Rattle.rom.specs.declared.Layout.{Layout}
+use Rattle.rom.specs.Geometry.{withMagic, magicWord, checkedLength}
 use Rattle.rom.specs.Bytes.{byteAt, wordAt}
 
 -- ## One bit, for a register of any width
@@ -49,21 +51,21 @@ reversed (suc n) front x = reversed n (front * 2 + x % 2) (x / 2)
 abbrev pub complement : ℕ → ℕ → ℕ
 complement width x = ones width - x
 
--- the register after bytes 0 to 125, its 32 bits reversed and complemented; the low 16 are stored
-unfoldable pub sromCrc : List ℕ → ℕ
+-- the register after the bytes before it, its 32 bits reversed and complemented; the low 16 are stored
+unfoldable pub sromCrc : Layout → List ℕ → ℕ
 unfolding sromBytes reversed
-sromCrc image = complement 32 (reversed 32 0 (sromBytes (ones 32) (take checkedLength image))) % 2 ^ 16
+sromCrc l image = complement 32 (reversed 32 0 (sromBytes (ones 32) (take (checkedLength l) image))) % 2 ^ 16
 
--- ## The ID CRC
+-- ## The CRC8 of the ID block and of the Magic Packet block (000, Appendix B)
 
-abbrev pub idPolynomial : ℕ
-idPolynomial = 0x07
+abbrev pub crc8Polynomial : ℕ
+crc8Polynomial = 0x07
 
 -- the n low bits of x, from their top bit
-unfoldable pub idBits : ℕ → ℕ → ℕ → ℕ
+unfoldable pub crc8Bits : ℕ → ℕ → ℕ → ℕ
 unfolding step
-idBits zero r x = r
-idBits (suc n) r x = idBits n (step 7 idPolynomial r (x / 2 ^ n % 2)) x
+crc8Bits zero r x = r
+crc8Bits (suc n) r x = crc8Bits n (step 7 crc8Polynomial r (x / 2 ^ n % 2)) x
 
 -- word w covers bytes 2w and 2w+1
 unfoldable pub word : List ℕ → ℕ → ℕ
@@ -71,12 +73,22 @@ unfolding wordAt
 word image w = wordAt image (2 * w)
 
 -- n words from word w on
-unfoldable pub idWords : ℕ → ℕ → ℕ → List ℕ → ℕ
-unfolding idBits word
-idWords zero w r image = r
-idWords (suc n) w r image = idWords n (w + 1) (idBits 16 r (word image w)) image
+unfoldable pub crc8Words : ℕ → ℕ → ℕ → List ℕ → ℕ
+unfolding crc8Bits word
+crc8Words zero w r image = r
+crc8Words (suc n) w r image = crc8Words n (w + 1) (crc8Bits 16 r (word image w)) image
 
--- words 0 to 7 and then byte 17, the high byte of word 8; uncomplemented
+-- n words from word w on and then the high byte of the next; uncomplemented
+unfoldable pub crc8 : ℕ → ℕ → List ℕ → ℕ
+unfolding crc8Words
+crc8 n w image = crc8Bits 8 (crc8Words n w (ones 8) image) (byteAt image (2 * (w + n) + 1))
+
+-- words 0 to 7 and then byte 17, the high byte of word 8
 unfoldable pub idCrc : List ℕ → ℕ
-unfolding idWords
-idCrc image = idBits 8 (idWords 8 0 (ones 8) image) (byteAt image 17)
+unfolding crc8
+idCrc image = crc8 8 0 image
+
+-- words 48 to 62 and then byte 127, the high byte of word 63
+unfoldable pub magicCrc : List ℕ → ℕ
+unfolding crc8
+magicCrc image = crc8 15 (magicWord withMagic) image

@@ -4,7 +4,7 @@ use mathlib.Core.List.{List, [], _∷_}
 use Prim.Native.Nat.{ℕ, zero, suc, _/_, _%_}
 use lib.Bits.{bitXor}
 use Rattle.rom.specs.Bytes.{valuesFrom}
-use Rattle.crc.specs.Crc.{xorIf, idBits}
+use Rattle.crc.specs.Crc.{xorIf, crc8Bits}
 
 -- ## The register in reverse
 
@@ -39,6 +39,6 @@ unfoldable pub sromTable : List ℕ
 unfolding turns
 sromTable = valuesFrom (turns reflected 8) 0 256
 
-unfoldable pub idTable : List ℕ
-unfolding idBits
-idTable = valuesFrom (λ (r : ℕ). idBits 8 r 0) 0 256
+unfoldable pub crc8Table : List ℕ
+unfolding crc8Bits
+crc8Table = valuesFrom (λ (r : ℕ). crc8Bits 8 r 0) 0 256

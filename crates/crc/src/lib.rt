@@ -1,9 +1,11 @@
-// The two checksums of the serial ROM (document 01, 'The image').
-mod id;
+// The checksums of the serial ROM (document 01, 'The image'; document 02, request 1).
+mod crc8;
 mod srom;
 
+use rom::Layout;
+use rom::WordNumber;
 ghost use mathlib.Core.Path.{_≡_};
-ghost use Rattle.crc.specs.Answer.{sromAnswer, idAnswer};
+ghost use Rattle.crc.specs.Answer.{sromAnswer, idAnswer, magicAnswer};
 
 // A CRC, or a refusal's number and 0.
 #[repr(C)]
@@ -12,11 +14,11 @@ pub struct Checksum {
     pub value: u16,
 }
 
-// The CRC that bytes 126 and 127 of an image should hold.
-pub fn srom_crc(image: &[u8]) -> Checksum
-    ensures { λ r. ⌜ r ≡ sromAnswer (now (image .entry)) ⌝ }
+// The CRC that the last word of an image's board should hold.
+pub fn srom_crc(image: &[u8], layout: Layout) -> Checksum
+    ensures { λ r. ⌜ r ≡ sromAnswer layout (now (image .entry)) ⌝ }
 {
-    if image.len() != rom::IMAGE_LENGTH {
+    if image.len() != layout.image_length() {
         return Checksum {
             number: rom::refusal::IMAGE_LENGTH,
             value: 0,
@@ -24,7 +26,7 @@ pub fn srom_crc(image: &[u8]) -> Checksum
     }
     Checksum {
         number: rom::refusal::ACCEPTED,
-        value: srom::of(image),
+        value: srom::of(image, layout),
     }
 }
 
@@ -32,7 +34,7 @@ pub fn srom_crc(image: &[u8]) -> Checksum
 pub fn id_crc(image: &[u8]) -> Checksum
     ensures { λ r. ⌜ r ≡ idAnswer (now (image .entry)) ⌝ }
 {
-    if image.len() != rom::IMAGE_LENGTH {
+    if image.len() != rom::WITHOUT_MAGIC.image_length() {
         return Checksum {
             number: rom::refusal::IMAGE_LENGTH,
             value: 0,
@@ -40,6 +42,22 @@ pub fn id_crc(image: &[u8]) -> Checksum
     }
     Checksum {
         number: rom::refusal::ACCEPTED,
-        value: id::of(image) as u16,
+        value: crc8::of(image, WordNumber(0), 8) as u16,
+    }
+}
+
+// The CRC that byte 126 of an image with a Magic Packet block should hold.
+pub fn magic_crc(image: &[u8]) -> Checksum
+    ensures { λ r. ⌜ r ≡ magicAnswer (now (image .entry)) ⌝ }
+{
+    if image.len() != rom::WITH_MAGIC.image_length() {
+        return Checksum {
+            number: rom::refusal::IMAGE_LENGTH,
+            value: 0,
+        };
+    }
+    Checksum {
+        number: rom::refusal::ACCEPTED,
+        value: crc8::of(image, rom::WITH_MAGIC.magic_word(), 15) as u16,
     }
 }

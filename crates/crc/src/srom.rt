@@ -1,5 +1,5 @@
 // The SROM CRC, a byte at a time: the register is kept with its bits in reverse and shifts right.
-use rom::ByteOffset;
+use rom::Layout;
 ghost use mathlib.Core.Path.{_≡_};
 ghost use Prim.Native.Nat.{_≤_};
 ghost use lib.Bits.{bitXor};
@@ -284,24 +284,25 @@ fn turned(table: &[u32; 256], mixed: u32, next: u8) -> u32
 }
 
 // The register after the checked bytes.
-fn register_of(image: &[u8]) -> u32
-    requires { ⌜ checkedLength ≤ length (now image) ⌝ }
-    ensures { λ r. ⌜ r ≡ reversed 32 0 (sromBytes (ones 32) (take checkedLength (now (image .entry)))) ⌝ }
+fn register_of(image: &[u8], layout: Layout) -> u32
+    requires { ⌜ checkedLength layout ≤ length (now image) ⌝ }
+    ensures { λ r. ⌜ r ≡ reversed 32 0 (sromBytes (ones 32) (take (checkedLength layout) (now (image .entry)))) ⌝ }
 {
     let table = table();
-    let mut mixed: u32 = 0xFFFF_FFFF ^ (rom::byte_at(image, ByteOffset(0)) as u32);
+    let checked = layout.checked_length();
+    let mut mixed: u32 = 0xFFFF_FFFF ^ (image[0] as u32);
     let mut at: usize = 1;
-    while at < rom::CHECKED_LENGTH {
-        mixed = turned(&table, mixed, rom::byte_at(image, ByteOffset(at)));
+    while at < checked {
+        mixed = turned(&table, mixed, image[at]);
         at += 1;
     }
     turned(&table, mixed, 0)
 }
 
-// The CRC that an image's last word should hold.
-pub(crate) fn of(image: &[u8]) -> u16
-    requires { ⌜ checkedLength ≤ length (now image) ⌝ }
-    ensures { λ r. ⌜ r ≡ sromCrc (now (image .entry)) ⌝ }
+// The CRC that the board's last word should hold.
+pub(crate) fn of(image: &[u8], layout: Layout) -> u16
+    requires { ⌜ checkedLength layout ≤ length (now image) ⌝ }
+    ensures { λ r. ⌜ r ≡ sromCrc layout (now (image .entry)) ⌝ }
 {
-    ((0xFFFF_FFFF - register_of(image)) % 0x1_0000) as u16
+    ((0xFFFF_FFFF - register_of(image, layout)) % 0x1_0000) as u16
 }

@@ -1,23 +1,65 @@
-// Both CRCs of each image on standard input, one line an image; an image that is cut short is refused.
+// The CRCs of each image on standard input, one line an image: SROM CRC and ID CRC, the SROM CRC beside a Magic Packet block and
+// the block's own, and then what the block says. An image that is cut short is refused.
 use libc::STDIN_FILENO;
 use libc::STDOUT_FILENO;
+use magic::Magic;
 
 fn print_refusal(number: u8) {
     io::write_all(STDOUT_FILENO, b"refused ");
     io::print_decimal(STDOUT_FILENO, number as u64);
-    io::write_all(STDOUT_FILENO, b"\n");
+}
+
+fn print_space() {
+    io::write_all(STDOUT_FILENO, b" ");
+}
+
+fn print_crcs(image: &[u8]) {
+    io::print_hex(
+        STDOUT_FILENO,
+        crc::srom_crc(image, rom::WITHOUT_MAGIC).value as u64,
+        4,
+    );
+    print_space();
+    io::print_hex(STDOUT_FILENO, crc::id_crc(image).value as u64, 2);
+    print_space();
+    io::print_hex(
+        STDOUT_FILENO,
+        crc::srom_crc(image, rom::WITH_MAGIC).value as u64,
+        4,
+    );
+    print_space();
+    io::print_hex(STDOUT_FILENO, crc::magic_crc(image).value as u64, 2);
+}
+
+fn print_magic(magic: Magic) {
+    let password = magic.password;
+    vectors::print_bytes(&password);
+    print_space();
+    let address = magic.address;
+    vectors::print_bytes(&address);
+    print_space();
+    io::print_hex(STDOUT_FILENO, magic.command as u64, 4);
+}
+
+fn print_block(image: &[u8]) {
+    let answer = magic::read(image);
+    if answer.number != rom::refusal::ACCEPTED {
+        print_refusal(answer.number);
+        return;
+    }
+    let magic = answer.magic;
+    print_magic(magic);
 }
 
 fn print_line(image: &[u8]) {
-    let srom = crc::srom_crc(image);
-    if srom.number != rom::refusal::ACCEPTED {
-        print_refusal(srom.number);
-        return;
+    let number = crc::srom_crc(image, rom::WITHOUT_MAGIC).number;
+    if number != rom::refusal::ACCEPTED {
+        print_refusal(number);
+    } else {
+        print_crcs(image);
+        print_space();
+        print_block(image);
     }
-    let id = crc::id_crc(image);
-    io::print_hex(STDOUT_FILENO, srom.value as u64, 4);
-    io::write_all(STDOUT_FILENO, b" ");
-    io::print_hex(STDOUT_FILENO, id.value as u64, 2);
     io::write_all(STDOUT_FILENO, b"\n");
 }
 

@@ -2,6 +2,7 @@
 use autosense::Walk;
 use autosense::Walked;
 use console::arguments;
+use console::command;
 use console::option;
 use console::status;
 use libc::STDOUT_FILENO;
@@ -59,7 +60,7 @@ fn report_at(place: usize) -> Report {
 fn role_at(place: usize, before: u8) -> u8 {
     let mut room = [0u8; LONGEST];
     let length = os::arg(place, &mut room);
-    option::role_of(&room[..length], before)
+    option::role_of(&room[..length], before, command::WALK)
 }
 
 // Whether a word of a role should be a report and is none.
@@ -112,7 +113,8 @@ fn selected_words(line: Line, image: &[u8], arguments: Arguments, selected: u8) 
         b"block # at byte #, ",
         [selected as u64, place.start as u64, 0, 0],
     );
-    words::medium_words(line, report::block_bytes(image, place), place.kind)
+    let bytes = report::block_bytes(image, arguments.layout, place);
+    words::medium_words(line, bytes, place.kind)
 }
 
 fn show_state(line: Line, image: &[u8], arguments: Arguments, walk: Walk) {

@@ -18,11 +18,9 @@ const WIDTH: usize = 5;
 const NAMED: u8 = 6;
 
 fn at_level(arguments: Arguments, level: u8) -> Arguments {
-    Arguments {
-        chip: arguments.chip,
-        controller: arguments.controller,
-        level,
-    }
+    let mut other = arguments;
+    other.level = level;
+    other
 }
 
 // How many levels stand side by side: those up to the reader's.
@@ -95,7 +93,7 @@ fn block_words(line: Line, bytes: &[u8], kind: u16) -> Line {
 
 fn show_block(image: &[u8], arguments: Arguments, number: u8) {
     let place = survey::block_place(image, arguments, number);
-    let bytes = report::block_bytes(image, place);
+    let bytes = report::block_bytes(image, arguments.layout, place);
     let line = line::of(b"  block # at #", [number as u64, place.start as u64, 0, 0]).to(19);
     let line = block_words(line, bytes, place.kind);
     cells(line, image, arguments, place).print();

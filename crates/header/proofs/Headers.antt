@@ -5,23 +5,23 @@ use mathlib.Core.List.{List, _++_}
 use mathlib.Core.Path.{_≡_, refl, ap, sym, _∙_}
 use mathlib.Core.Bool.{Bool, true, false, _||_, not}
 use lib.Dec.{eqb, leb, ltb, lit<, eqb·suc-zero}
-use lib.ListN.{length}
+use lib.ListN.{length, take, drop, length-drop, drop-of-length-le}
+use lib.Seq.{take-all, take-nil, drop-length}
 use borrow.Author.Tests.{eq-eqb, ne-eqb, le-leb, lt-leb, lt-ltb, le-ltb, ltb-false, eqb-true, eqb-false, not-false}
-use Rattle.rom.specs.Geometry.{imageLength, leavesEnd, mostControllers}
+use Rattle.rom.specs.declared.Layout.{Layout}
+use Rattle.rom.specs.Geometry.{withMagic, imageLength, leavesEnd, mostControllers}
 use Rattle.rom.specs.Bytes.{pick, byteAt, wordAt, isIn}
 use Rattle.rom.specs.Refusal.{firstMet, Numbered}
 use Rattle.rom.proofs.First.{numbered-append, none-here, after-accepted, after-refused, both-accepted}
 use Rattle.rom.proofs.Truth.{or-false}
-use Rattle.crc.specs.declared.Checksum.{Checksum}
-use Rattle.crc.specs.Crc.{sromCrc, idCrc}
-use Rattle.crc.specs.Answer.{sromAnswer, idAnswer}
-use Rattle.crc.proofs.Answers.{accepted}
+use Rattle.rom.proofs.Layouts.{geometry, one-length}
+use Rattle.magic.specs.Answer.{magicLengthCause, magicBlockCauses, magicReadCauses, magicReadNumber}
 use Rattle.format.specs.Chips.{chips, placeOf, rowOf}
 use Rattle.format.proofs.Lists.{in-place}
 use Rattle.header.specs.declared.Arguments.{Arguments}
 use Rattle.header.specs.declared.Header.{Header}
 use Rattle.header.specs.Image.{versions, controllerCount, reservedAt, baseAddress, addressOf, headerLength, controlByte, blocksAt}
-use Rattle.header.specs.Image.{blockCount, badCount, imageCauses, argumentCauses, leafHeaderCauses}
+use Rattle.header.specs.Image.{blockCount, badCount, magicCauses, imageCauses, argumentCauses, leafHeaderCauses}
 use Rattle.header.specs.Header.{rowFor, leafFor, startFor, countFor, headerCauses, noHeader, foundHeader, headerFor}
 
 -- ## The image alone
@@ -39,35 +39,39 @@ module _ (version : ℕ) where
       go true e = simp (eq-eqb 4 version (sym (eqb-true version 4 e)))
       go false e = simp (ne-eqb 4 version (λ f. eqb-false version 4 e (sym f)))
 
--- for an image of the right length the CRC calls answer the CRCs
-module _ (image : List ℕ) (h : length image ≡ imageLength) where
-  pub srom-value : (r : Checksum) → r ≡ sromAnswer image → r .value ≡ sromCrc image
-  unfolding sromAnswer
-  srom-value r e = rw e (sym (ap (λ (c : Checksum). c .value) (accepted image (sromCrc image) h)))
-
-  pub id-value : (r : Checksum) → r ≡ idAnswer image → r .value ≡ idCrc image
-  unfolding idAnswer
-  id-value r e = rw e (sym (ap (λ (c : Checksum). c .value) (accepted image (idCrc image) h)))
-
-module _ (image : List ℕ) where
-  pub count-zero : controllerCount image ≡ 0 → true ≡ badCount image
+module _ (l : Layout) (image : List ℕ) where
+  pub count-zero : controllerCount image ≡ 0 → true ≡ badCount l image
   unfolding badCount
   count-zero e = simp (eq-eqb (controllerCount image) 0 e)
 
-  pub count-more : (controllerCount image ≡ 0 → ⊥) → mostControllers < controllerCount image → true ≡ badCount image
+  pub count-more : (controllerCount image ≡ 0 → ⊥) → mostControllers l < controllerCount image → true ≡ badCount l image
   unfolding badCount
-  count-more n h = simp (ne-eqb (controllerCount image) 0 n, lt-ltb mostControllers (controllerCount image) h)
+  count-more n h = simp (ne-eqb (controllerCount image) 0 n, lt-ltb (mostControllers l) (controllerCount image) h)
 
-  pub count-fine : (controllerCount image ≡ 0 → ⊥) → controllerCount image ≤ mostControllers
-      → not (eqb (byteAt image (reservedAt image)) 0) ≡ badCount image
+  pub count-fine : (controllerCount image ≡ 0 → ⊥) → controllerCount image ≤ mostControllers l
+      → not (eqb (byteAt image (reservedAt image)) 0) ≡ badCount l image
   unfolding badCount
-  count-fine n h = simp (ne-eqb (controllerCount image) 0 n, le-ltb mostControllers (controllerCount image) h)
+  count-fine n h = simp (ne-eqb (controllerCount image) 0 n, le-ltb (mostControllers l) (controllerCount image) h)
 
-  pub measured : length image ≡ imageLength → not (eqb (length image) imageLength) ≡ false
-  measured e = simp (eq-eqb (length image) imageLength e)
+  pub magic-numbered : Numbered (magicCauses l image)
+  unfolding magicCauses
+  magic-numbered = (lit< tt, (lit< tt, tt))
 
-  pub not-measured : (length image ≡ imageLength → ⊥) → not (eqb (length image) imageLength) ≡ true
-  not-measured n = simp (ne-eqb (length image) imageLength n)
+  -- the block is judged only where it is said to be there
+  pub no-magic : l .magic ≡ false → 0 ≡ firstMet (magicCauses l image)
+  unfolding magicCauses firstMet pick
+  no-magic e = rw e
+
+  pub magic-judged : length image ≡ imageLength l → l .magic ≡ true → magicReadNumber image ≡ firstMet (magicCauses l image)
+  unfolding magicCauses firstMet pick magicReadNumber magicReadCauses magicBlockCauses magicLengthCause
+  magic-judged h e = rw e (simp (eq-eqb (length image) (imageLength withMagic) (h ∙ one-length l withMagic)))
+
+module _ (image : List ℕ) (n : ℕ) {m : ℕ} (e : m ≡ n) where
+  pub measured : length image ≡ m → not (eqb (length image) n) ≡ false
+  measured h = simp (eq-eqb (length image) n (h ∙ e))
+
+  pub not-measured : (length image ≡ m → ⊥) → not (eqb (length image) n) ≡ true
+  not-measured h = simp (ne-eqb (length image) n (λ z. h (z ∙ sym e)))
 
 -- ## The arguments
 
@@ -83,63 +87,81 @@ module _ (chip : ℕ) where
 
 -- ## The leaf's header
 
-module _ (leaf reserved row : ℕ) where
-  pub too-early : leaf ≤ reserved → (leb leaf reserved || ltb leavesEnd (blocksAt row leaf)) ≡ true
+module _ (end leaf reserved row : ℕ) where
+  pub too-early : leaf ≤ reserved → (leb leaf reserved || ltb end (blocksAt row leaf)) ≡ true
   too-early h = simp (le-leb leaf reserved h)
 
-  pub too-late : reserved < leaf → leavesEnd < blocksAt row leaf → (leb leaf reserved || ltb leavesEnd (blocksAt row leaf)) ≡ true
-  too-late h g = simp (lt-leb leaf reserved h, lt-ltb leavesEnd (blocksAt row leaf) g)
+  pub too-late : reserved < leaf → end < blocksAt row leaf → (leb leaf reserved || ltb end (blocksAt row leaf)) ≡ true
+  too-late h g = simp (lt-leb leaf reserved h, lt-ltb end (blocksAt row leaf) g)
 
-  pub in-bounds : reserved < leaf → blocksAt row leaf ≤ leavesEnd → (leb leaf reserved || ltb leavesEnd (blocksAt row leaf)) ≡ false
-  in-bounds h g = simp (lt-leb leaf reserved h, le-ltb leavesEnd (blocksAt row leaf) g)
+  pub in-bounds : reserved < leaf → blocksAt row leaf ≤ end → (leb leaf reserved || ltb end (blocksAt row leaf)) ≡ false
+  in-bounds h g = simp (lt-leb leaf reserved h, le-ltb end (blocksAt row leaf) g)
+
+-- ## The leaf's rest, where the image or the leaves end before it, and where the image ends inside it
+
+module _ (s : List ℕ) (end start : ℕ) where
+  pub rest-past : length s < start → take (length s - length s) (drop (length s) s) ≡ take (end - start) (drop start s)
+  rest-past h =
+      rw (drop-length s, drop-of-length-le s {i = start} (omega arith)) (take-nil (length s - length s) ∙ sym (take-nil (end - start)))
+
+  pub rest-none : end < start → take (start - start) (drop start s) ≡ take (end - start) (drop start s)
+  rest-none h = let e : start - start ≡ end - start = omega arith in ap (λ (n : ℕ). take n (drop start s)) e
+
+  pub rest-cut : start ≤ length s → length s < end → take (length s - start) (drop start s) ≡ take (end - start) (drop start s)
+  rest-cut h g =
+      take-all (length s - start) (drop start s) (simp length-drop (omega arith))
+      ∙ sym (take-all (end - start) (drop start s) (simp length-drop (omega arith)))
 
 -- ## The whole header
 
-pub image-numbered : (image : List ℕ) → Numbered (imageCauses image)
-unfolding imageCauses
-image-numbered image = (lit< tt, (lit< tt, (lit< tt, (lit< tt, (lit< tt, tt)))))
+pub image-numbered : (l : Layout) (image : List ℕ) → Numbered (imageCauses l image)
+unfolding imageCauses magicCauses
+image-numbered l image = (lit< tt, (lit< tt, (lit< tt, (lit< tt, (lit< tt, (lit< tt, (lit< tt, tt)))))))
 
 pub argument-numbered : (image : List ℕ) (a : Arguments) → Numbered (argumentCauses image a)
 unfolding argumentCauses
 argument-numbered image a = (lit< tt, (lit< tt, (lit< tt, (lit< tt, tt))))
 
-leaf-header-numbered : (image : List ℕ) (row leaf : ℕ) → Numbered (leafHeaderCauses image row leaf)
+leaf-header-numbered : (l : Layout) (image : List ℕ) (row leaf : ℕ) → Numbered (leafHeaderCauses l image row leaf)
 unfolding leafHeaderCauses
-leaf-header-numbered image row leaf = (lit< tt, (lit< tt, tt))
+leaf-header-numbered l image row leaf = (lit< tt, (lit< tt, tt))
 
 module _ (image : List ℕ) (a : Arguments) where
   pub header-numbered : Numbered (headerCauses image a)
   unfolding headerCauses
   header-numbered =
-      numbered-append (imageCauses image) _ (image-numbered image)
-      (numbered-append (argumentCauses image a) _ (argument-numbered image a) (leaf-header-numbered image (rowFor a) (leafFor image a)))
+      numbered-append (imageCauses (a .layout) image) _ (image-numbered (a .layout) image)
+      (numbered-append (argumentCauses image a) _ (argument-numbered image a)
+      (leaf-header-numbered (a .layout) image (rowFor a) (leafFor image a)))
 
   -- a refusal of the image, of the arguments or of the leaf's header is the header's; without any, the header is found
   refused-by : (n : ℕ) → (n ≡ 0 → ⊥) → firstMet (headerCauses image a) ≡ n → noHeader n ≡ headerFor image a
   unfolding headerFor pick
   refused-by n h e = rw e (simp (ne-eqb n 0 h))
 
-  pub by-image : (n : ℕ) → (n ≡ 0 → ⊥) → n ≡ firstMet (imageCauses image) → noHeader n ≡ headerFor image a
+  pub by-image : (n : ℕ) → (n ≡ 0 → ⊥) → n ≡ firstMet (imageCauses (a .layout) image) → noHeader n ≡ headerFor image a
   unfolding headerCauses
-  by-image n h e = refused-by n h (after-refused (imageCauses image) _ n h (sym e))
+  by-image n h e = refused-by n h (after-refused (imageCauses (a .layout) image) _ n h (sym e))
 
-  module _ (i : 0 ≡ firstMet (imageCauses image)) where
-    past-image : firstMet (headerCauses image a) ≡ firstMet (argumentCauses image a ++ leafHeaderCauses image (rowFor a) (leafFor image a))
+  module _ (i : 0 ≡ firstMet (imageCauses (a .layout) image)) where
+    past-image : firstMet (headerCauses image a)
+        ≡ firstMet (argumentCauses image a ++ leafHeaderCauses (a .layout) image (rowFor a) (leafFor image a))
     unfolding headerCauses
-    past-image = after-accepted (imageCauses image) _ (image-numbered image) (sym i)
+    past-image = after-accepted (imageCauses (a .layout) image) _ (image-numbered (a .layout) image) (sym i)
 
     pub by-arguments : (n : ℕ) → (n ≡ 0 → ⊥) → n ≡ firstMet (argumentCauses image a) → noHeader n ≡ headerFor image a
     by-arguments n h e = refused-by n h (past-image ∙ after-refused (argumentCauses image a) _ n h (sym e))
 
     module _ (g : 0 ≡ firstMet (argumentCauses image a)) where
-      past-arguments : firstMet (headerCauses image a) ≡ firstMet (leafHeaderCauses image (rowFor a) (leafFor image a))
+      past-arguments : firstMet (headerCauses image a) ≡ firstMet (leafHeaderCauses (a .layout) image (rowFor a) (leafFor image a))
       past-arguments = past-image ∙ after-accepted (argumentCauses image a) _ (argument-numbered image a) (sym g)
 
-      pub by-leaf : (n : ℕ) → (n ≡ 0 → ⊥) → n ≡ firstMet (leafHeaderCauses image (rowFor a) (leafFor image a))
+      pub by-leaf : (n : ℕ) → (n ≡ 0 → ⊥) → n ≡ firstMet (leafHeaderCauses (a .layout) image (rowFor a) (leafFor image a))
           → noHeader n ≡ headerFor image a
       by-leaf n h e = refused-by n h (past-arguments ∙ sym e)
 
-      pub header-found : 0 ≡ firstMet (leafHeaderCauses image (rowFor a) (leafFor image a)) → foundHeader image a ≡ headerFor image a
+      pub header-found : 0 ≡ firstMet (leafHeaderCauses (a .layout) image (rowFor a) (leafFor image a))
+          → foundHeader image a ≡ headerFor image a
       unfolding headerFor pick
       header-found e = rw (past-arguments ∙ sym e)
 
@@ -174,18 +196,18 @@ module _ (image : List ℕ) (a : Arguments) where
   unfolding headerFor pick
   header-accepted e = rw e
 
-  pub whole-image : firstMet (headerCauses image a) ≡ 0 → length image ≡ imageLength
+  pub whole-image : firstMet (headerCauses image a) ≡ 0 → length image ≡ imageLength (a .layout)
   unfolding headerCauses imageCauses
   whole-image e =
-      let i = both-accepted (imageCauses image) _ (image-numbered image) e .0 in
-      eqb-true (length image) imageLength (not-false _ (none-here _ _ (lit< tt) i .0))
+      let i = both-accepted (imageCauses (a .layout) image) _ (image-numbered (a .layout) image) e .0 in
+      eqb-true (length image) (imageLength (a .layout)) (not-false _ (none-here _ _ (lit< tt) i .0))
 
-  pub start-fits : firstMet (headerCauses image a) ≡ 0 → startFor image a ≤ leavesEnd
+  pub start-fits : firstMet (headerCauses image a) ≡ 0 → startFor image a ≤ leavesEnd (a .layout)
   unfolding headerCauses leafHeaderCauses
   start-fits e =
-      let g = both-accepted (imageCauses image) _ (image-numbered image) e .1 in
+      let g = both-accepted (imageCauses (a .layout) image) _ (image-numbered (a .layout) image) e .1 in
       let l = both-accepted (argumentCauses image a) _ (argument-numbered image a) g .1 in
-      ltb-false leavesEnd (startFor image a) (or-false (leb (leafFor image a) _) _ (none-here _ _ (lit< tt) l .0) .1)
+      ltb-false (leavesEnd (a .layout)) (startFor image a) (or-false (leb (leafFor image a) _) _ (none-here _ _ (lit< tt) l .0) .1)
 
 -- The header that the code has read.
 module _ (image : List ℕ) (a : Arguments) (h : Header) (eh : h ≡ headerFor image a) where
@@ -203,9 +225,9 @@ module _ (image : List ℕ) (a : Arguments) (h : Header) (eh : h ≡ headerFor i
     unfolding foundHeader
     read-count = rw read-found
 
-    pub read-start : h .start ≤ leavesEnd
+    pub read-start : h .start ≤ leavesEnd (a .layout)
     unfolding foundHeader
     read-start = rw read-found (start-fits image a no-refusal)
 
-    pub read-end : leavesEnd ≤ length image
-    read-end = omega (arith, whole-image image a no-refusal)
+    pub read-end : leavesEnd (a .layout) ≤ length image
+    read-end = let g = geometry (a .layout) in omega (arith, whole-image image a no-refusal)

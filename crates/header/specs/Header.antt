@@ -25,13 +25,14 @@ countFor image a = blockCount image (rowFor a) (leafFor image a)
 
 -- the same arguments for a reader of a level
 abbrev pub atLevel : Arguments → ℕ → Arguments
-atLevel a level = record { chip = a .chip; controller = a .controller; level = level }
+atLevel a level = record { chip = a .chip; controller = a .controller; level = level; layout = a .layout }
 
 -- ## Why a header is refused
 
--- 1 to 11
+-- 1 to 4, 29, 30, 5 to 11
 unfoldable pub headerCauses : List ℕ → Arguments → List Cause
-headerCauses image a = imageCauses image ++ (argumentCauses image a ++ leafHeaderCauses image (rowFor a) (leafFor image a))
+headerCauses image a =
+    imageCauses (a .layout) image ++ (argumentCauses image a ++ leafHeaderCauses (a .layout) image (rowFor a) (leafFor image a))
 
 -- ## What the code keeps of a header
 

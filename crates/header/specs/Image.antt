@@ -1,14 +1,16 @@
 -- The image: its header and a controller's leaf (document 01, 'The image', 'Leaf and blocks').
 use Prim.Native.Nat.{ℕ, _+_, _-_, _*_, _^_}
-use mathlib.Core.List.{List, [], _∷_}
-use mathlib.Core.Bool.{Bool, _||_, not}
+use mathlib.Core.List.{List, [], _∷_, _++_}
+use mathlib.Core.Bool.{Bool, _&&_, _||_, not}
 use lib.Dec.{eqb, leb, ltb}
 use lib.ListN.{length, take, drop}
-use Rattle.rom.specs.Geometry.{imageLength, checkedLength, leavesEnd, idCrcAt, versionAt, controllerCountAt, addressAt, controllersAt}
-use Rattle.rom.specs.Geometry.{mostControllers}
+use Rattle.rom.specs.declared.Layout.{Layout}
+use Rattle.rom.specs.Geometry.{imageLength, checkedLength, leavesEnd, mostControllers, idCrcAt, versionAt, controllerCountAt, addressAt}
+use Rattle.rom.specs.Geometry.{controllersAt}
 use Rattle.rom.specs.Bytes.{pick, byteAt, wordAt, isIn}
 use Rattle.rom.specs.Refusal.{Cause, _⇒_}
 use Rattle.crc.specs.Crc.{sromCrc, idCrc}
+use Rattle.magic.specs.Block.{badCrc, badReserved}
 use Rattle.format.specs.Chips.{chips, row21140, isConnection, newestLevel}
 use Rattle.header.specs.declared.Arguments.{Arguments}
 
@@ -55,24 +57,27 @@ unfoldable pub blockCount : List ℕ → ℕ → ℕ → ℕ
 blockCount image row leaf = byteAt image (blocksAt row leaf - 1)
 
 -- the leaf's rest from its first block on
-unfoldable pub restFrom : List ℕ → ℕ → List ℕ
-restFrom image start = take (leavesEnd - start) (drop start image)
+unfoldable pub restFrom : Layout → List ℕ → ℕ → List ℕ
+restFrom l image start = take (leavesEnd l - start) (drop start image)
 
--- ## Why an image is refused before its blocks are judged (document 01, 1 to 11)
+-- ## Why an image is refused before its blocks are judged (1 to 4, 29, 30, 5 to 11)
 
 -- from the image alone
-unfoldable pub badCount : List ℕ → Bool
-badCount image =
-    eqb (controllerCount image) 0 || ltb mostControllers (controllerCount image) || not (eqb (byteAt image (reservedAt image)) 0)
+unfoldable pub badCount : Layout → List ℕ → Bool
+badCount l image =
+    eqb (controllerCount image) 0 || ltb (mostControllers l) (controllerCount image) || not (eqb (byteAt image (reservedAt image)) 0)
 
-unfoldable pub imageCauses : List ℕ → List Cause
-imageCauses image =
-    (1 ⇒ not (eqb (length image) imageLength))
+-- of a Magic Packet block, where the caller says that it is there
+unfoldable pub magicCauses : Layout → List ℕ → List Cause
+magicCauses l image = (29 ⇒ l .magic && badCrc image) ∷ (30 ⇒ l .magic && badReserved image) ∷ []
+
+unfoldable pub imageCauses : Layout → List ℕ → List Cause
+imageCauses l image =
+    (1 ⇒ not (eqb (length image) (imageLength l)))
     ∷ (2 ⇒ not (isIn (byteAt image versionAt) versions))
-    ∷ (3 ⇒ not (eqb (wordAt image checkedLength) (sromCrc image)))
+    ∷ (3 ⇒ not (eqb (wordAt image (checkedLength l)) (sromCrc l image)))
     ∷ (4 ⇒ not (eqb (byteAt image idCrcAt) (idCrc image)))
-    ∷ (5 ⇒ badCount image)
-    ∷ []
+    ∷ (magicCauses l image ++ (5 ⇒ badCount l image) ∷ [])
 
 -- from the arguments
 unfoldable pub argumentCauses : List ℕ → Arguments → List Cause
@@ -83,9 +88,9 @@ argumentCauses image a =
     ∷ (9 ⇒ leb (2 ^ 48) (addressOf image (a .controller)))
     ∷ []
 
--- from the leaf's header: it starts behind the reserved byte and ends before byte 124
-unfoldable pub leafHeaderCauses : List ℕ → ℕ → ℕ → List Cause
-leafHeaderCauses image row leaf =
-    (10 ⇒ leb leaf (reservedAt image) || ltb leavesEnd (blocksAt row leaf))
+-- from the leaf's header: it starts behind the reserved byte and ends where leaves do
+unfoldable pub leafHeaderCauses : Layout → List ℕ → ℕ → ℕ → List Cause
+leafHeaderCauses l image row leaf =
+    (10 ⇒ leb leaf (reservedAt image) || ltb (leavesEnd l) (blocksAt row leaf))
     ∷ (11 ⇒ not (isConnection row (wordAt image leaf)))
     ∷ []

@@ -1,30 +1,33 @@
 // An image's header, and the header of a controller's leaf (document 01, 'The image').
 use block::chip;
 use rom::ByteOffset;
+use rom::Layout;
 use rom::refusal;
 ghost use mathlib.Core.Path.{_≡_};
 ghost use mathlib.Core.Bool.{not};
 ghost use Prim.Native.Nat.{_+_, _*_, _^_, _<_, _≤_};
 ghost use lib.Dec.{eqb};
 ghost use lib.ListN.{length};
-ghost use Rattle.rom.specs.Geometry.{imageLength, checkedLength, idCrcAt, versionAt};
+ghost use Rattle.rom.specs.Geometry.{withoutMagic, imageLength, checkedLength, idCrcAt, versionAt};
 ghost use Rattle.rom.specs.Bytes.{byteAt, wordAt, isIn};
 ghost use Rattle.rom.specs.Refusal.{firstMet};
 ghost use Rattle.crc.specs.Crc.{sromCrc, idCrc};
-ghost use Rattle.header.specs.Image.{versions, controllerCount, reservedAt, baseAddress, headerLength, controlByte, badCount};
-ghost use Rattle.header.specs.Image.{imageCauses, argumentCauses, leafHeaderCauses};
+ghost use Rattle.header.specs.Image.{versions, controllerCount, reservedAt, baseAddress, headerLength, controlByte};
+ghost use Rattle.header.specs.Image.{restFrom, badCount, magicCauses, imageCauses, argumentCauses, leafHeaderCauses};
 ghost use Rattle.header.specs.Header.{rowFor, leafFor, noHeader, foundHeader, headerFor};
 
 const FIRST_VERSION: u8 = 3;
 
 const LAST_VERSION: u8 = 4;
 
-// What a reading is told beside the image: the chip by its decimal number, the controller from 0, and the reader's level.
+// What a reading is told beside the image: the chip by its decimal number, the controller from 0, the reader's level, and how
+// the image is laid out.
 #[repr(C)]
 pub struct Arguments {
     pub chip: u16,
     pub controller: u8,
     pub level: u8,
+    pub layout: Layout,
 }
 
 // What the header says of a controller's leaf, or a refusal's number and zeros. The row is the chip's, and start is where
@@ -65,17 +68,17 @@ fn bad_version(image: &[u8]) -> bool
 }
 
 // Whether the SROM CRC is not the stored one.
-fn bad_srom_crc(image: &[u8]) -> bool
-    requires { ⌜ length (now image) ≡ imageLength ⌝ }
-    ensures { λ r. ⌜ r ≡ not (eqb (wordAt (now (image .entry)) checkedLength) (sromCrc (now (image .entry)))) ⌝ }
+fn bad_srom_crc(image: &[u8], layout: Layout) -> bool
+    requires { ⌜ length (now image) ≡ imageLength layout ⌝ }
+    ensures { λ r. ⌜ r ≡ not (eqb (wordAt (now (image .entry)) (checkedLength layout)) (sromCrc layout (now (image .entry)))) ⌝ }
 {
-    let stored = rom::word_at(image, ByteOffset(rom::CHECKED_LENGTH));
-    stored != crc::srom_crc(image).value
+    let stored = rom::word_at(image, ByteOffset(layout.checked_length()));
+    stored != crc::srom_crc(image, layout).value
 }
 
 // Whether the ID CRC is not the stored one.
 fn bad_id_crc(image: &[u8]) -> bool
-    requires { ⌜ length (now image) ≡ imageLength ⌝ }
+    requires { ⌜ length (now image) ≡ imageLength withoutMagic ⌝ }
     ensures { λ r. ⌜ r ≡ not (eqb (byteAt (now (image .entry)) idCrcAt) (idCrc (now (image .entry)))) ⌝ }
 {
     let stored = rom::byte_at(image, ByteOffset(rom::ID_CRC_AT));
@@ -96,32 +99,43 @@ fn reserved_at(image: &[u8]) -> usize
 }
 
 // Whether the controller count is out of bounds, or the reserved byte is not 0.
-fn bad_count(image: &[u8]) -> bool
-    ensures { λ r. ⌜ r ≡ badCount (now (image .entry)) ⌝ }
+fn bad_count(image: &[u8], layout: Layout) -> bool
+    ensures { λ r. ⌜ r ≡ badCount layout (now (image .entry)) ⌝ }
 {
     let count = controller_count(image);
     if count == 0 {
         return true;
     }
-    if rom::MOST_CONTROLLERS < count {
+    if layout.most_controllers() < count {
         return true;
     }
     let reserved = rom::byte_at(image, ByteOffset(reserved_at(image)));
     reserved != 0
 }
 
-// Refusals 1 to 5, from the image alone.
-fn image_refusal(image: &[u8]) -> u8
-    ensures { λ r. ⌜ r ≡ firstMet (imageCauses (now (image .entry))) ⌝ }
+// Refusals 29 and 30, of a Magic Packet block where the caller says that it is there.
+fn magic_refusal(image: &[u8], layout: Layout) -> u8
+    requires { ⌜ length (now image) ≡ imageLength layout ⌝ }
+    ensures { λ r. ⌜ r ≡ firstMet (magicCauses layout (now (image .entry))) ⌝ }
 {
-    if image.len() != rom::IMAGE_LENGTH {
+    if layout.magic {
+        return magic::judge(image);
+    }
+    refusal::ACCEPTED
+}
+
+// Refusals 1 to 4, 29, 30 and 5, from the image alone.
+fn image_refusal(image: &[u8], layout: Layout) -> u8
+    ensures { λ r. ⌜ r ≡ firstMet (imageCauses layout (now (image .entry))) ⌝ }
+{
+    if image.len() != layout.image_length() {
         return refusal::IMAGE_LENGTH;
     }
     let version = bad_version(image);
     if version {
         return refusal::VERSION;
     }
-    let srom_crc = bad_srom_crc(image);
+    let srom_crc = bad_srom_crc(image, layout);
     if srom_crc {
         return refusal::SROM_CRC;
     }
@@ -129,7 +143,11 @@ fn image_refusal(image: &[u8]) -> u8
     if id_crc {
         return refusal::ID_CRC;
     }
-    let count = bad_count(image);
+    let magic = magic_refusal(image, layout);
+    if magic != refusal::ACCEPTED {
+        return magic;
+    }
+    let count = bad_count(image, layout);
     if count {
         return refusal::CONTROLLER_COUNT;
     }
@@ -195,14 +213,14 @@ fn control_byte(image: &[u8], row: usize, leaf: usize) -> u8
 }
 
 // Refusals 10 and 11, from the header of the leaf.
-fn leaf_refusal(image: &[u8], row: usize, leaf: usize) -> u8
+fn leaf_refusal(image: &[u8], layout: Layout, row: usize, leaf: usize) -> u8
     requires { ⌜ leaf < 65536 ⌝ }
-    ensures { λ r. ⌜ r ≡ firstMet (leafHeaderCauses (now (image .entry)) row leaf) ⌝ }
+    ensures { λ r. ⌜ r ≡ firstMet (leafHeaderCauses layout (now (image .entry)) row leaf) ⌝ }
 {
     if leaf <= reserved_at(image) {
         return refusal::LEAF_HEADER;
     }
-    if rom::LEAVES_END < leaf + header_length(row) {
+    if layout.leaves_end() < leaf + header_length(row) {
         return refusal::LEAF_HEADER;
     }
     let permitted = chip::is_connection(row, rom::word_at(image, ByteOffset(leaf)));
@@ -229,11 +247,12 @@ fn header_at(image: &[u8], arguments: Arguments, row: usize, leaf: usize) -> Hea
     }
 }
 
-// The header, or the first of refusals 1 to 11.
+// The header, or the first of refusals 1 to 4, 29, 30 and 5 to 11.
 pub fn read_header(image: &[u8], arguments: Arguments) -> Header
     ensures { λ r. ⌜ r ≡ headerFor (now (image .entry)) arguments ⌝ }
 {
-    let number = image_refusal(image);
+    let layout = arguments.layout;
+    let number = image_refusal(image, layout);
     if number != refusal::ACCEPTED {
         return refused(number);
     }
@@ -244,9 +263,27 @@ pub fn read_header(image: &[u8], arguments: Arguments) -> Header
     let row = chip::row_of(arguments.chip);
     let controller = arguments.controller as usize;
     let leaf = rom::word_at(image, ByteOffset(rom::CONTROLLERS_AT + 3 * controller + 1)) as usize;
-    let number = leaf_refusal(image, row, leaf);
+    let number = leaf_refusal(image, layout, row, leaf);
     if number != refusal::ACCEPTED {
         return refused(number);
     }
     header_at(image, arguments, row, leaf)
+}
+
+// The leaf's rest from its first block on, as part of the image.
+pub fn rest_from(image: &[u8], layout: Layout, start: usize) -> &[u8]
+    ensures { λ r. ⌜ now r ≡ restFrom layout (now (image .entry)) start ⌝ }
+{
+    let end = layout.leaves_end();
+    let length = image.len();
+    if length < start {
+        return &image[length..];
+    }
+    if end < start {
+        return &image[start..start];
+    }
+    if length < end {
+        return &image[start..];
+    }
+    &image[start..end]
 }

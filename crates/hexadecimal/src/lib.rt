@@ -3,7 +3,7 @@ mod form;
 mod group;
 pub mod held;
 pub mod mode;
-mod offset;
+pub mod offset;
 mod row;
 
 use held::Held;

@@ -33,7 +33,7 @@ fn is_of(digits: bool, byte: u8) -> bool
 }
 
 // How many such characters a text begins with.
-fn run(digits: bool, source: &[u8]) -> usize
+pub fn run(digits: bool, source: &[u8]) -> usize
     ensures { λ r. ⌜ r ≡ runOf digits (now (source .entry)) ⌝ }
 {
     let mut i = 0;
@@ -64,7 +64,7 @@ fn is_marked(line: &[u8]) -> bool
     byte_at(line, 1) == b'x'
 }
 
-fn behind_mark(line: &[u8]) -> &[u8]
+pub fn behind_mark(line: &[u8]) -> &[u8]
     ensures { λ r. ⌜ now r ≡ behindMark (now (line .entry)) ⌝ }
 {
     let marked = is_marked(line);
@@ -128,7 +128,7 @@ fn is_offset(line: &[u8]) -> bool
 }
 
 // The value of hexadecimal digits, of which the last eight count.
-fn value_of(digits: &[u8]) -> usize
+pub fn value_of(digits: &[u8]) -> usize
     ensures { λ r. ⌜ r ≡ valueOf (now (digits .entry)) ⌝ }
 {
     let mut value = 0usize;

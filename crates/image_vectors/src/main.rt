@@ -1,10 +1,11 @@
-// The reading of each record on standard input, one line a record: chip (word), controller, level, image. Each entry of the
-// table is printed as kind@offset:block.
+// The reading of each record on standard input, one line a record: chip (word), controller, level, layout (1 with a Magic Packet
+// block, 0 without), image. Each entry of the table is printed as kind@offset:block.
 use libc::STDIN_FILENO;
 use libc::STDOUT_FILENO;
 use reader::Answer;
 use reader::Arguments;
 use rom::ByteOffset;
+use rom::Layout;
 
 fn print_space() {
     io::write_all(STDOUT_FILENO, b" ");
@@ -75,17 +76,20 @@ fn print_reading(image: &[u8], arguments: Arguments) {
 
 // One record to one line; false at the end of the input.
 fn next_line() -> bool {
-    let mut record = [0u8; 132];
+    let mut record = [0u8; 133];
     let got = io::read_full(STDIN_FILENO, &mut record);
-    if got < 4 {
+    if got < 5 {
         return false;
     }
     let arguments = Arguments {
         chip: rom::word_at(&record, ByteOffset(0)),
         controller: record[2],
         level: record[3],
+        layout: Layout {
+            magic: record[4] == 1,
+        },
     };
-    print_reading(&record[4..got], arguments);
+    print_reading(&record[5..got], arguments);
     true
 }
 

@@ -1,10 +1,11 @@
 -- The definitions of a leaf's blocks, opened together for what computes: `unfolding leaf-computes`.
+use Rattle.rom.specs.Geometry.{imageLength, magicAt, boardLength, leavesEnd}
 use Rattle.format.specs.Block.{isReset, isSkipped}
 use Rattle.format.proofs.Computes.{block-computes}
 use Rattle.leaf.specs.Leaf.{cut, countOf, firstFrom, clash, blockCauses, clashCause, leafCauses, placed, keep, table, tableOf}
 use Rattle.leaf.specs.Tally.{noTally, counts, tallyOf}
 
 unfoldable pub leaf-computes : Unit {0}
-unfolding block-computes isReset isSkipped
+unfolding block-computes imageLength magicAt boardLength leavesEnd isReset isSkipped
     cut countOf firstFrom clash blockCauses clashCause leafCauses placed keep table noTally counts tallyOf tableOf
 leaf-computes = tt

@@ -3,6 +3,7 @@ use Prim.Native.Nat.{ℕ, _-_}
 use mathlib.Core.List.{List, [], _∷_, _++_, map}
 use lib.Dec.{eqb}
 use lib.ListN.{take, drop, replicate}
+use Rattle.rom.specs.Geometry.{withoutMagic, leavesEnd}
 use Rattle.rom.specs.Bytes.{pick, byteAt}
 use Rattle.format.specs.Chips.{rowOf, row21140}
 use Rattle.leaf.specs.Leaf.{cut, tableOf, kindAt, startAt}
@@ -31,9 +32,9 @@ imageAround leaf = take 128 (replicate 30 0 ++ leaf ++ replicate 98 0)
 unfoldable pub firstBlockAt : ℕ → ℕ
 firstBlockAt row = pick (eqb row row21140) 34 33
 
--- the leaf's rest from its first block on, up to byte 123
+-- the leaf's rest from its first block on, of an image without a Magic Packet block
 unfoldable pub blocksOf : ℕ → List ℕ → List ℕ
-blocksOf row image = take (124 - firstBlockAt row) (drop (firstBlockAt row) image)
+blocksOf row image = take (leavesEnd withoutMagic - firstBlockAt row) (drop (firstBlockAt row) image)
 
 unfoldable pub runLeaf : LeafCase → LeafCase
 runLeaf c =
@@ -57,7 +58,7 @@ runLeaf c =
 
 -- ## The cases
 
-abbrev accepted : ℕ → ℕ → List ℕ → ℕ → ℕ → ℕ → List ℕ → List ℕ → LeafCase
+abbrev pub accepted : ℕ → ℕ → List ℕ → ℕ → ℕ → ℕ → List ℕ → List ℕ → LeafCase
 accepted chip level leaf listed resets skipped kinds starts =
     record {
       chip = chip;
@@ -71,7 +72,7 @@ accepted chip level leaf listed resets skipped kinds starts =
       starts = starts;
     }
 
-abbrev refused : ℕ → ℕ → List ℕ → ℕ → LeafCase
+abbrev pub refused : ℕ → ℕ → List ℕ → ℕ → LeafCase
 refused chip level leaf number =
     record { chip = chip; level = level; leaf = leaf; number = number; listed = 0; resets = 0; skipped = 0; kinds = []; starts = [] }
 

@@ -4,6 +4,7 @@ use libc::STDOUT_FILENO;
 use reader::Answer;
 use reader::Arguments;
 use report::words;
+use rom::Layout;
 use rom::refusal;
 use survey::Place;
 use text::decimal_words;
@@ -52,6 +53,14 @@ fn show_counts(arguments: Arguments, answer: Answer) {
             b"  default medium   block #",
             [answer.default_number as u64, 0, 0, 0],
         ).print();
+    }
+}
+
+// The Magic Packet block of a layout that has one.
+fn show_magic(image: &[u8], layout: Layout) {
+    if layout.magic {
+        say(b"");
+        report::show_magic(magic::read(image).magic);
     }
 }
 
@@ -219,7 +228,7 @@ fn number_at(image: &[u8], arguments: Arguments, blocks: u8, start: u16) -> u8 {
 
 fn show_entry(image: &[u8], arguments: Arguments, entry: usize, number: u8) {
     let place = survey::block_place(image, arguments, number);
-    let bytes = report::block_bytes(image, place);
+    let bytes = report::block_bytes(image, arguments.layout, place);
     let line = Line::new().right(entry as u64, 4).to(6);
     let line = report::place_words(line, number, place).text(b": ");
     let line = words::medium_words(line, bytes, place.kind);
@@ -265,17 +274,17 @@ fn show_unknown(place: Place, number: u8, bytes: &[u8]) {
 }
 
 // A block, where it is of the sort that is shown: a reset, or one that is stepped over.
-fn show_if(image: &[u8], place: Place, number: u8, b: Block, resets: bool) {
+fn show_if(place: Place, number: u8, b: Block, bytes: &[u8], resets: bool) {
     match b {
         Block::Listed(_) => {}
         Block::Reset { size: _ } => {
             if resets {
-                show_reset(place, number, report::block_bytes(image, place));
+                show_reset(place, number, bytes);
             }
         }
         Block::Unknown { size: _ } => {
             if !resets {
-                show_unknown(place, number, report::block_bytes(image, place));
+                show_unknown(place, number, bytes);
             }
         }
         Block::Refused(_) => {}
@@ -287,7 +296,8 @@ fn show_sort(image: &[u8], arguments: Arguments, blocks: u8, resets: bool) {
     while k < blocks {
         let place = survey::block_place(image, arguments, k);
         let b = report::block_at(image, arguments, place.start);
-        show_if(image, place, k, b, resets);
+        let bytes = report::block_bytes(image, arguments.layout, place);
+        show_if(place, k, b, bytes, resets);
         k += 1;
     }
 }
@@ -320,6 +330,7 @@ pub fn show(image: &[u8], arguments: Arguments) -> bool {
     report::arguments_words(Line::new().text(b"ACCEPTED  "), arguments).print();
     show_header(image, answer);
     show_counts(arguments, answer);
+    show_magic(image, arguments.layout);
     show_table(image, arguments, answer, &offsets);
     show_unlisted(image, arguments, answer);
     true

@@ -1,6 +1,5 @@
 pub mod Blocks
 pub mod Measuring
 pub mod Filling
-pub mod Zeros
 pub mod Sheets
 pub mod Making

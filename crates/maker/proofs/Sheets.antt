@@ -1,24 +1,26 @@
 -- What is laid in one behind the other, and that it is the sheet. Assumes nothing.
-use Prim.Native.Nat.{ℕ, _+_, _*_, _≤_}
+use Prim.Native.Nat.{ℕ, _+_, _*_, _-_, _≤_}
 use native.Mathlib.Omega.{arith}
 use mathlib.Core.Path.{_≡_, refl, sym, ap, ap₂, _∙_}
 use mathlib.Core.List.{List, [], _∷_, _++_, append-assoc}
 use lib.ListN.{length, take, drop, length-append, length-drop}
 use lib.Seq.{length-take-le, take-suc, drop-cons, getD-drop}
-use Rattle.rom.specs.Geometry.{imageLength, leavesEnd, addressAt}
+use Rattle.rom.specs.declared.Layout.{Layout}
+use Rattle.rom.specs.Geometry.{imageLength, checkedLength, leavesEnd, addressAt}
 use Rattle.rom.specs.Bytes.{byteAt}
 use Rattle.rom.specs.Store.{wordBytes, put, laid}
+use Rattle.rom.proofs.Layouts.{geometry}
 use Rattle.rom.proofs.Put.{put-length, joined, laid-put}
 use Rattle.header.specs.Image.{restFrom}
 use Rattle.header.proofs.Headers.{whole-image}
 use Rattle.reader.specs.declared.Answer.{Answer}
 use Rattle.reader.specs.declared.Reading.{Reading}
 use Rattle.reader.specs.Reading.{acceptedAnswer, acceptedReading}
-use Rattle.reader.proofs.Readings.{Accepted, restOf}
+use Rattle.reader.proofs.Readings.{Accepted}
 use Rattle.sheet.specs.Layout.{chipAt, headLength}
 use Rattle.sheet.specs.Record.{Entry}
 use Rattle.sheet.specs.Sheet.{headOf, kindBytes, sizeBytes, bodyBytes, partsOf, sheetOf}
-use Rattle.sheet.specs.Image.{newest, imageFrom}
+use Rattle.sheet.specs.Image.{leafStart, newest, imageFrom}
 use Rattle.sheet.specs.Make.{sheetFor}
 use Rattle.sheet.proofs.Blocks.{entries-length}
 use Rattle.sheet.proofs.Sheets.{kind-length, size-length}
@@ -59,26 +61,19 @@ standing sheet at a e h =
     let is = e ∙ laid-put sheet at a h in
     (is, ap length is ∙ put-length sheet at a h)
 
-module _ (image : List ℕ) (whole : length image ≡ imageLength) where
+module _ (image : List ℕ) (enough : leafStart ≤ length image) where
   id-long : length (take 16 image) ≡ 16
-  id-long = length-take-le 16 image (omega (arith, whole))
+  id-long = length-take-le 16 image (omega arith)
 
   last-long : length (take 2 (drop 17 image)) ≡ 2
-  last-long = length-take-le 2 (drop 17 image) (omega (arith, whole, length-drop 17 image))
+  last-long = length-take-le 2 (drop 17 image) (omega (arith, length-drop 17 image))
 
   address-long : length (take 7 (drop addressAt image)) ≡ 7
-  address-long = length-take-le 7 (drop addressAt image) (omega (arith, whole, length-drop addressAt image))
-
-  maker-long : length (take 2 (drop leavesEnd image)) ≡ 2
-  maker-long = length-take-le 2 (drop leavesEnd image) (omega (arith, whole, length-drop leavesEnd image))
+  address-long = length-take-le 7 (drop addressAt image) (omega (arith, length-drop addressAt image))
 
   pub front-long : (count total : ℕ) → length (frontBytes count total image) ≡ 27
   unfolding frontBytes
   front-long count total = simp length-append (omega (arith, id-long, last-long, address-long))
-
-  pub field-long : (chip : ℕ) (answer : Answer) → length (fieldBytes chip answer image) ≡ 7
-  unfolding fieldBytes wordBytes
-  field-long chip answer = simp length-append (omega (arith, maker-long))
 
   module _ (sheet : List ℕ) (room : headLength ≤ length sheet) where
     pub front-put : (count total : ℕ) {one two three four : List ℕ} → one ≡ laid sheet 0 (count ∷ total ∷ [])
@@ -97,44 +92,67 @@ module _ (image : List ℕ) (whole : length image ≡ imageLength) where
         (omega (arith, id-long)) (omega (arith, room, f₁ .1, id-long)))
         refl (omega (arith, room))
 
+  -- as the record has it
+  last-is : take 2 (drop 17 image) ≡ byteAt image 17 ∷ byteAt image 18 ∷ []
+  last-is = rw (drop-cons image 17 0 (omega arith), drop-cons image 18 0 (omega arith))
+
+  address-is : take 7 (drop addressAt image) ≡ take 6 (drop addressAt image) ++ (byteAt image 26 ∷ [])
+  address-is =
+      take-suc (drop addressAt image) 6 0 (omega (arith, length-drop addressAt image))
+      ∙ ap (λ (x : ℕ). take 6 (drop addressAt image) ++ (x ∷ [])) (getD-drop addressAt image 6 0)
+
+module _ (l : Layout) (image : List ℕ) (whole : length image ≡ imageLength l) where
+  maker-long : length (take 2 (drop (leavesEnd l) image)) ≡ 2
+  maker-long =
+      let g = geometry l in length-take-le 2 (drop (leavesEnd l) image) (omega (arith, length-drop (leavesEnd l) image))
+
+  -- the maker's bytes, as the code cuts them out
+  pub maker-part : (room : List ℕ) (at : ℕ) {from to : ℕ} → from ≡ leavesEnd l → to ≡ checkedLength l
+      → laid room at (take (to - from) (drop from image)) ≡ laid room at (take 2 (drop (leavesEnd l) image))
+  maker-part room at {from} {to} ef et =
+      let g = geometry l in
+      let two : to - from ≡ 2 = omega arith in
+      rw (two, ef)
+
+  pub field-long : (chip : ℕ) (answer : Answer) → length (fieldBytes l chip answer image) ≡ 7
+  unfolding fieldBytes wordBytes
+  field-long chip answer = simp length-append (omega (arith, maker-long))
+
+  pub enough : leafStart ≤ length image
+  enough = let g = geometry l in omega arith
+
+  module _ (sheet : List ℕ) (room : headLength ≤ length sheet) where
     pub field-put : (chip : ℕ) (answer : Answer) {one two three four : List ℕ} → one ≡ laid sheet 27 (wordBytes chip)
         → two ≡ laid one 29 (wordBytes (answer .connection))
-        → three ≡ laid two 31 (answer .control ∷ []) → four ≡ laid three 32 (take 2 (drop leavesEnd image))
-        → four ≡ put sheet chipAt (fieldBytes chip answer image)
+        → three ≡ laid two 31 (answer .control ∷ []) → four ≡ laid three 32 (take 2 (drop (leavesEnd l) image))
+        → four ≡ put sheet chipAt (fieldBytes l chip answer image)
     unfolding fieldBytes wordBytes
     field-put chip answer {one} {two} {three} {four} e₁ e₂ e₃ e₄ =
         let f₁ = standing sheet 27 (wordBytes chip) e₁ (omega (arith, room)) in
         let f₂ = standing one 29 (wordBytes (answer .connection)) e₂ (omega (arith, room, f₁ .1)) in
         let f₃ = standing two 31 (answer .control ∷ []) e₃ (omega (arith, room, f₁ .1, f₂ .1)) in
-        let f₄ = standing three 32 (take 2 (drop leavesEnd image)) e₄ (omega (arith, room, f₁ .1, f₂ .1, f₃ .1, maker-long)) in
+        let f₄ = standing three 32 (take 2 (drop (leavesEnd l) image)) e₄ (omega (arith, room, f₁ .1, f₂ .1, f₃ .1, maker-long)) in
         joined sheet 27 (wordBytes chip) _ (f₁ .0)
         (joined one 29 (wordBytes (answer .connection)) _ (f₂ .0)
         (joined two 31 (answer .control ∷ []) _ (f₃ .0) (f₄ .0) refl (omega (arith, room, f₁ .1, f₂ .1)))
         refl (omega (arith, room, f₁ .1)))
         refl (omega (arith, room))
 
-  -- as the record has it
-  last-is : take 2 (drop 17 image) ≡ byteAt image 17 ∷ byteAt image 18 ∷ []
-  last-is = rw (drop-cons image 17 0 (omega (arith, whole)), drop-cons image 18 0 (omega (arith, whole)))
-
-  address-is : take 7 (drop addressAt image) ≡ take 6 (drop addressAt image) ++ (byteAt image 26 ∷ [])
-  address-is =
-      take-suc (drop addressAt image) 6 0 (omega (arith, whole, length-drop addressAt image))
-      ∙ ap (λ (x : ℕ). take 6 (drop addressAt image) ++ (x ∷ [])) (getD-drop addressAt image 6 0)
-
   head-order : (count total : ℕ) (a : List ℕ) (x y : ℕ) (b : List ℕ) (z : ℕ) (c parts : List ℕ)
       → (count ∷ total ∷ (a ++ (x ∷ y ∷ (b ++ (z ∷ []))))) ++ (c ++ parts) ≡ count ∷ total ∷ ((a ++ (x ∷ y ∷ (b ++ (z ∷ c)))) ++ parts)
   head-order count total a x y b z c parts = simp append-assoc
 
-  pub head-is : (chip count total : ℕ) (answer : Answer) (parts : List ℕ) → answer .connection ≡ imageFrom chip image .connection
-      → answer .control ≡ imageFrom chip image .control
-      → frontBytes count total image ++ (fieldBytes chip answer image ++ parts) ≡ count ∷ total ∷ (headOf (imageFrom chip image) ++ parts)
+  pub head-is : (chip count total : ℕ) (answer : Answer) (parts : List ℕ) → answer .connection ≡ imageFrom l chip image .connection
+      → answer .control ≡ imageFrom l chip image .control
+      → frontBytes count total image ++ (fieldBytes l chip answer image ++ parts)
+      ≡ count ∷ total ∷ (headOf (imageFrom l chip image) ++ parts)
   unfolding frontBytes fieldBytes headOf imageFrom wordBytes
   head-is chip count total answer parts ec eo =
-      ap₂ (λ (l a : List ℕ). (count ∷ total ∷ (take 16 image ++ (l ++ a))) ++ (fieldBytes chip answer image ++ parts)) last-is address-is
+      ap₂ (λ (x a : List ℕ). (count ∷ total ∷ (take 16 image ++ (x ++ a))) ++ (fieldBytes l chip answer image ++ parts))
+      (last-is image enough) (address-is image enough)
       ∙ ap₂ (λ (x y : ℕ). (count ∷ total ∷ (take 16 image
       ++ (byteAt image 17 ∷ byteAt image 18 ∷ (take 6 (drop addressAt image) ++ (byteAt image 26 ∷ []))))) ++ ((wordBytes chip
-      ++ (wordBytes x ++ (y ∷ take 2 (drop leavesEnd image)))) ++ parts)) ec eo
+      ++ (wordBytes x ++ (y ∷ take 2 (drop (leavesEnd l) image)))) ++ parts)) ec eo
       ∙ head-order count total (take 16 image) _ _ (take 6 (drop addressAt image)) _ _ parts
 
 -- ## The parts
@@ -168,41 +186,43 @@ module _ (sheet : List ℕ) (es : List Entry) (room : headLength + length (parts
 
 -- ## The sheet of an image that is read
 
-module _ (chip : ℕ) {image : List ℕ} {r : Reading} (c : Accepted image (newest chip) r) where
-  pub read-whole : length image ≡ imageLength
-  read-whole = whole-image image (newest chip) (c .header)
+module _ (l : Layout) (chip : ℕ) {image : List ℕ} {r : Reading} (c : Accepted image (newest l chip) r) where
+  pub read-whole : length image ≡ imageLength l
+  unfolding newest
+  read-whole = whole-image image (newest l chip) (c .header)
 
-  pub read-entries : entriesOf (r .row) (r .answer .blocks) (restOf image r) ≡ imageFrom chip image .entries
-  unfolding entriesOf imageFrom acceptedReading acceptedAnswer restFrom newest
+  pub read-entries : entriesOf (r .row) (r .answer .blocks) (restFrom l image (r .start)) ≡ imageFrom l chip image .entries
+  unfolding entriesOf imageFrom acceptedReading acceptedAnswer newest
   read-entries = rw (c .known)
 
-  pub read-sheet : (total : ℕ) → total ≡ length (bodyBytes (imageFrom chip image .entries))
+  pub read-sheet : (total : ℕ) → total ≡ length (bodyBytes (imageFrom l chip image .entries))
       → frontBytes (r .answer .blocks) total image
-      ++ (fieldBytes chip (r .answer) image ++ partsOf (entriesOf (r .row) (r .answer .blocks) (restOf image r))) ≡ sheetFor image chip
+      ++ (fieldBytes l chip (r .answer) image
+      ++ partsOf (entriesOf (r .row) (r .answer .blocks) (restFrom l image (r .start)))) ≡ sheetFor l image chip
   unfolding sheetOf
   read-sheet total et =
-      head-is image read-whole chip (r .answer .blocks) total (r .answer) _ connection control
-      ∙ ap₂ (λ (n : ℕ) (es : List Entry). n ∷ total ∷ (headOf (imageFrom chip image) ++ partsOf es)) count read-entries
-      ∙ ap (λ (n : ℕ). length (imageFrom chip image .entries) ∷ n
-      ∷ (headOf (imageFrom chip image) ++ partsOf (imageFrom chip image .entries))) et
+      head-is l image read-whole chip (r .answer .blocks) total (r .answer) _ connection control
+      ∙ ap₂ (λ (n : ℕ) (es : List Entry). n ∷ total ∷ (headOf (imageFrom l chip image) ++ partsOf es)) count read-entries
+      ∙ ap (λ (n : ℕ). length (imageFrom l chip image .entries) ∷ n
+      ∷ (headOf (imageFrom l chip image) ++ partsOf (imageFrom l chip image .entries))) et
     where
-      connection : r .answer .connection ≡ imageFrom chip image .connection
+      connection : r .answer .connection ≡ imageFrom l chip image .connection
       connection = unfold imageFrom acceptedReading acceptedAnswer newest in rw (c .known)
 
-      control : r .answer .control ≡ imageFrom chip image .control
+      control : r .answer .control ≡ imageFrom l chip image .control
       control = unfold imageFrom acceptedReading acceptedAnswer newest in rw (c .known)
 
-      count : r .answer .blocks ≡ length (imageFrom chip image .entries)
-      count = sym (entries-long (r .row) (r .answer .blocks) (restOf image r)) ∙ ap length read-entries
+      count : r .answer .blocks ≡ length (imageFrom l chip image .entries)
+      count = sym (entries-long (r .row) (r .answer .blocks) (restFrom l image (r .start))) ∙ ap length read-entries
 
-  pub read-long : length (sheetFor image chip) ≡ headLength + 3 * r .answer .blocks + length (bodyBytes (imageFrom chip image .entries))
+  pub read-long : length (sheetFor l image chip) ≡ headLength + 3 * r .answer .blocks + length (bodyBytes (imageFrom l chip image .entries))
   read-long =
-      let es = entriesOf (r .row) (r .answer .blocks) (restOf image r) in
-      let t = length (bodyBytes (imageFrom chip image .entries)) in
-      let f = front-long image read-whole (r .answer .blocks) t in
-      let g = field-long image read-whole chip (r .answer) in
-      let p = parts-long (entriesOf (r .row) (r .answer .blocks) (restOf image r)) in
-      let b : length (bodyBytes (entriesOf (r .row) (r .answer .blocks) (restOf image r)))
-      ≡ length (bodyBytes (imageFrom chip image .entries)) = ap (λ (l : List Entry). length (bodyBytes l)) read-entries in
-      let n = entries-long (r .row) (r .answer .blocks) (restOf image r) in
+      let es = entriesOf (r .row) (r .answer .blocks) (restFrom l image (r .start)) in
+      let t = length (bodyBytes (imageFrom l chip image .entries)) in
+      let f = front-long image (enough l image read-whole) (r .answer .blocks) t in
+      let g = field-long l image read-whole chip (r .answer) in
+      let p = parts-long (entriesOf (r .row) (r .answer .blocks) (restFrom l image (r .start))) in
+      let b : length (bodyBytes (entriesOf (r .row) (r .answer .blocks) (restFrom l image (r .start))))
+      ≡ length (bodyBytes (imageFrom l chip image .entries)) = ap (λ (es : List Entry). length (bodyBytes es)) read-entries in
+      let n = entries-long (r .row) (r .answer .blocks) (restFrom l image (r .start)) in
       ap length (sym (read-sheet t refl)) ∙ simp length-append (omega (arith, f, g, p, b, n))

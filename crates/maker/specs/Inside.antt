@@ -5,7 +5,9 @@ use mathlib.Core.List.{List, [], _∷_, _++_, map}
 use mathlib.Core.Bool.{Bool, _&&_}
 use lib.ListN.{length, take, drop}
 use lib.Dec.{eqb}
+use Rattle.rom.specs.declared.Layout.{Layout}
 use Rattle.rom.specs.Geometry.{leavesEnd, addressAt}
+use Rattle.rom.specs.Bytes.{allZero}
 use Rattle.rom.specs.Store.{wordBytes}
 use Rattle.rom.specs.Refusal.{firstMet}
 use Rattle.format.specs.Chips.{newestLevel}
@@ -14,7 +16,6 @@ use Rattle.leaf.specs.Leaf.{cut, blockCauses}
 use Rattle.reader.specs.declared.Answer.{Answer}
 use Rattle.reader.specs.declared.Reading.{Reading}
 use Rattle.reader.specs.Reading.{judgedReading}
-use Rattle.sheet.specs.Lists.{allZero}
 use Rattle.sheet.specs.Record.{Entry}
 use Rattle.sheet.specs.Sheet.{bodyBytes}
 use Rattle.sheet.specs.Image.{leafStart, entryFrom, sizes, upToLeavesEnd, newest, imageFrom}
@@ -40,10 +41,10 @@ entriesOf row count s = map (entryFrom row) (cut row count s)
 unfoldable pub measuredOf : ℕ → ℕ → List ℕ → Measured
 measuredOf row count s = record { size = sizes row (cut row count s); bodies = length (bodyBytes (entriesOf row count s)) }
 
--- n = 1, leaf at 30, zeros from a place up to 123
-unfoldable pub isTidyFrom : ℕ → List ℕ → Bool
-isTidyFrom end image =
-    eqb (controllerCount image) 1 && (eqb (leafAt image 0) leafStart && allZero (upToLeavesEnd end image))
+-- n = 1, leaf at 30, zeros from a place up to where leaves end
+unfoldable pub isTidyFrom : Layout → ℕ → List ℕ → Bool
+isTidyFrom l end image =
+    eqb (controllerCount image) 1 && (eqb (leafAt image 0) leafStart && allZero (upToLeavesEnd l end image))
 
 -- ## Bytes laid into a sheet
 
@@ -53,13 +54,13 @@ frontBytes count total image =
     (count ∷ []) ++ ((total ∷ []) ++ (take 16 image ++ (take 2 (drop 17 image) ++ take 7 (drop addressAt image))))
 
 -- bytes 27 to 33: the chip, the connection type, the control byte and the maker's bytes
-unfoldable pub fieldBytes : ℕ → Answer → List ℕ → List ℕ
-fieldBytes chip answer image =
-    wordBytes chip ++ (wordBytes (answer .connection) ++ ((answer .control ∷ []) ++ take 2 (drop leavesEnd image)))
+unfoldable pub fieldBytes : Layout → ℕ → Answer → List ℕ → List ℕ
+fieldBytes l chip answer image =
+    wordBytes chip ++ (wordBytes (answer .connection) ++ ((answer .control ∷ []) ++ take 2 (drop (leavesEnd l) image)))
 
 -- an image that is read, the total of its body bytes, and a buffer that has room for its sheet
-pub record Sheetable (sheet image : List ℕ) (chip : ℕ) (reading : Reading) (total : ℕ) : Type 0 where
-  pub read : reading ≡ judgedReading image (newest chip)
+pub record Sheetable (l : Layout) (sheet image : List ℕ) (chip : ℕ) (reading : Reading) (total : ℕ) : Type 0 where
+  pub read : reading ≡ judgedReading image (newest l chip)
   pub accepted : reading .answer .number ≡ 0
-  pub bodies : total ≡ length (bodyBytes (imageFrom chip image .entries))
-  pub room : length (sheetFor image chip) ≤ length sheet
+  pub bodies : total ≡ length (bodyBytes (imageFrom l chip image .entries))
+  pub room : length (sheetFor l image chip) ≤ length sheet

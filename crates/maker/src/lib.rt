@@ -5,6 +5,7 @@ use reader::Answer;
 use reader::Arguments;
 use reader::Reading;
 use rom::ByteOffset;
+use rom::Layout;
 use rom::refusal;
 use rom::store::put_byte;
 use rom::store::put_bytes;
@@ -12,10 +13,10 @@ use rom::store::put_word;
 ghost use mathlib.Core.Path.{_≡_};
 ghost use Prim.Native.Nat.{_≤_};
 ghost use lib.ListN.{length};
-ghost use Rattle.rom.specs.Geometry.{imageLength, leavesEnd};
+ghost use Rattle.rom.specs.Geometry.{imageLength};
 ghost use Rattle.rom.specs.Store.{put};
-ghost use Rattle.sheet.specs.Lists.{allZero};
 ghost use Rattle.sheet.specs.Layout.{chipAt, headLength};
+ghost use Rattle.sheet.specs.Image.{leafStart};
 ghost use Rattle.sheet.specs.Make.{sheetFor, made};
 ghost use Rattle.maker.specs.Answer.{madeFor};
 ghost use Rattle.maker.specs.Inside.{refusedMade, frontBytes, fieldBytes, isTidyFrom, Sheetable};
@@ -39,23 +40,9 @@ fn refused(number: u8) -> Made
     Made { number, length: 0 }
 }
 
-fn all_zero(bytes: &[u8]) -> bool
-    ensures { λ r. ⌜ r ≡ allZero (now (bytes .entry)) ⌝ }
-{
-    let mut i = 0;
-    while i < bytes.len() {
-        if bytes[i] != 0 {
-            return false;
-        }
-        i += 1;
-    }
-    true
-}
-
-// Whether an image has one controller, its leaf at 30, and zeros from the leaf's end up to 123.
-fn is_tidy(image: &[u8], end: usize) -> bool
-    requires { ⌜ (length (now image) ≡ imageLength) × (end ≤ leavesEnd) ⌝ }
-    ensures { λ r. ⌜ r ≡ isTidyFrom end (now (image .entry)) ⌝ }
+// Whether an image has one controller, its leaf at 30, and zeros from the leaf's end up to where leaves end.
+fn is_tidy(image: &[u8], layout: Layout, end: usize) -> bool
+    ensures { λ r. ⌜ r ≡ isTidyFrom layout end (now (image .entry)) ⌝ }
 {
     let controllers = rom::byte_at(image, ByteOffset(rom::CONTROLLER_COUNT_AT));
     if controllers != 1 {
@@ -65,12 +52,12 @@ fn is_tidy(image: &[u8], end: usize) -> bool
     if (leaf as usize) != sheet::LEAF_START {
         return false;
     }
-    all_zero(&image[end..rom::LEAVES_END])
+    rom::all_zero(header::rest_from(image, layout, end))
 }
 
 // Bytes 0 to 26: the sizes, the ID bytes, the version, the address and the device number.
 fn put_front(sheet: &mut [u8], image: &[u8], count: u8, total: u8)
-    requires { ⌜ (length (now image) ≡ imageLength) × (headLength ≤ length (now sheet)) ⌝ }
+    requires { ⌜ (leafStart ≤ length (now image)) × (headLength ≤ length (now sheet)) ⌝ }
     ensures { λ _. ⌜ now (sheet .exit) ≡ put (now (sheet .entry)) 0 (frontBytes count total (now (image .entry))) ⌝ }
 {
     put_bytes(sheet, ByteOffset(sheet::COUNT_AT), &[count, total]);
@@ -88,42 +75,35 @@ fn put_front(sheet: &mut [u8], image: &[u8], count: u8, total: u8)
 }
 
 // Bytes 27 to 33: the chip, the connection type, the control byte and the maker's bytes.
-fn put_fields(sheet: &mut [u8], image: &[u8], chip: u16, answer: Answer)
-    requires { ⌜ (length (now image) ≡ imageLength) × (headLength ≤ length (now sheet)) ⌝ }
-    ensures { λ _. ⌜ now (sheet .exit) ≡ put (now (sheet .entry)) chipAt (fieldBytes chip answer (now (image .entry))) ⌝ }
+fn put_fields(sheet: &mut [u8], image: &[u8], chip: u16, layout: Layout, answer: Answer)
+    requires { ⌜ (length (now image) ≡ imageLength layout) × (headLength ≤ length (now sheet)) ⌝ }
+    ensures { λ _. ⌜ now (sheet .exit) ≡ put (now (sheet .entry)) chipAt (fieldBytes layout chip answer (now (image .entry))) ⌝ }
 {
     put_word(sheet, ByteOffset(sheet::CHIP_AT), chip);
     put_word(sheet, ByteOffset(sheet::CONNECTION_AT), answer.connection);
     put_byte(sheet, ByteOffset(sheet::CONTROL_AT), answer.control);
-    put_bytes(
-        sheet,
-        ByteOffset(sheet::MAKER_AT),
-        &image[rom::LEAVES_END..rom::CHECKED_LENGTH],
-    );
+    let maker = layout.leaves_end();
+    let end = layout.checked_length();
+    put_bytes(sheet, ByteOffset(sheet::MAKER_AT), &image[maker..end]);
 }
 
 // The sheet of an image that is read, into a buffer that has room for it.
-fn put_sheet(sheet: &mut [u8], image: &[u8], chip: u16, reading: Reading, total: u8)
-    requires { ⌜ Sheetable (now sheet) (now image) chip reading total ⌝ }
-    ensures { λ _. ⌜ now (sheet .exit) ≡ put (now (sheet .entry)) 0 (sheetFor (now (image .entry)) chip) ⌝ }
+fn put_sheet(sheet: &mut [u8], image: &[u8], chip: u16, layout: Layout, reading: Reading, total: u8)
+    requires { ⌜ Sheetable layout (now sheet) (now image) chip reading total ⌝ }
+    ensures { λ _. ⌜ now (sheet .exit) ≡ put (now (sheet .entry)) 0 (sheetFor layout (now (image .entry)) chip) ⌝ }
 {
     let answer = reading.answer;
     put_front(sheet, image, answer.blocks, total);
-    put_fields(sheet, image, chip, answer);
-    let start = reading.start;
-    parts::put_parts(
-        sheet,
-        &image[start..rom::LEAVES_END],
-        answer.blocks,
-        reading.row,
-    );
+    put_fields(sheet, image, chip, layout, answer);
+    let rest = header::rest_from(image, layout, reading.start);
+    parts::put_parts(sheet, rest, answer.blocks, reading.row);
 }
 
 // The sheet of a tidy image for a chip, for the newest level and controller 0. A refusal leaves the buffer as it was, and
 // so stay its bytes past the sheet.
-pub fn make(image: &[u8], chip: u16, buffer: &mut [u8]) -> Made
-    ensures { λ r. ⌜ r ≡ madeFor (now (image .entry)) chip (length (now (buffer .entry))) ⌝ }
-    ensures { λ r. ⌜ now (buffer .exit) ≡ made (now (image .entry)) chip (now (buffer .entry)) ⌝ }
+pub fn make(image: &[u8], chip: u16, layout: Layout, buffer: &mut [u8]) -> Made
+    ensures { λ r. ⌜ r ≡ madeFor layout (now (image .entry)) chip (length (now (buffer .entry))) ⌝ }
+    ensures { λ r. ⌜ now (buffer .exit) ≡ made layout (now (image .entry)) chip (now (buffer .entry)) ⌝ }
 {
     let reading = reader::assess(
         image,
@@ -131,6 +111,7 @@ pub fn make(image: &[u8], chip: u16, buffer: &mut [u8]) -> Made
             chip,
             controller: 0,
             level: block::NEWEST_LEVEL,
+            layout,
         },
     );
     let answer = reading.answer;
@@ -138,8 +119,9 @@ pub fn make(image: &[u8], chip: u16, buffer: &mut [u8]) -> Made
         return refused(answer.number);
     }
     let start = reading.start;
-    let measured = parts::measure(&image[start..rom::LEAVES_END], answer.blocks, reading.row);
-    let tidy = is_tidy(image, start + measured.size);
+    let rest = header::rest_from(image, layout, start);
+    let measured = parts::measure(rest, answer.blocks, reading.row);
+    let tidy = is_tidy(image, layout, start + measured.size);
     if !tidy {
         return refused(refusal::UNTIDY);
     }
@@ -147,7 +129,7 @@ pub fn make(image: &[u8], chip: u16, buffer: &mut [u8]) -> Made
     if buffer.len() < length {
         return refused(refusal::ARRAY_LENGTH);
     }
-    put_sheet(buffer, image, chip, reading, measured.bodies as u8);
+    put_sheet(buffer, image, chip, layout, reading, measured.bodies as u8);
     Made {
         number: refusal::ACCEPTED,
         length,

@@ -49,7 +49,11 @@ module _ (image : List ℕ) (a : Arguments) (older : ℕ) (h : older < newestLev
   nowhere =
       let b = parts image new e in
       let few : length (blocksFor image a) ≤ none =
-      omega (arith, few-blocks image new (b .0) (b .1), cut-length (rowFor a) (countFor image a) (restFrom image (startFor image a))) in
+      omega (
+        arith,
+        few-blocks image new (b .0) (b .1),
+        cut-length (rowFor a) (countFor image a) (restFrom (a .layout) image (startFor image a)),
+      ) in
       block-past _ (blocksFor image a) none few
 
   alike : StandAlike (removedBlock image a older) (loadedWalk image new) (loadedWalk image old)

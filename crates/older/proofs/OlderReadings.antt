@@ -41,11 +41,11 @@ header-down : (image : List ℕ) (a : Arguments) (older newest : ℕ) → older 
     → Fewer (headerCauses image (atLevel a newest)) (headerCauses image (atLevel a older))
 unfolding headerCauses argumentCauses
 header-down image a older newest h =
-    fewer-append (same (imageCauses image))
+    fewer-append (same (imageCauses (a .layout) image))
     (fewer-append
     (and (λ e. e)
     (and (λ e. e) (and (λ e. le-ltb newestLevel older (omega (arith, ltb-false newestLevel newest e))) (and (λ e. e) end))))
-    (same (leafHeaderCauses image (rowFor a) (leafFor image a))))
+    (same (leafHeaderCauses (a .layout) image (rowFor a) (leafFor image a))))
 
 -- an accepted reading has an accepted header and an accepted leaf
 pub parts : (image : List ℕ) (a : Arguments) → firstMet (judgeCauses image a) ≡ 0
@@ -93,7 +93,7 @@ module _ (image : List ℕ) (a : Arguments) (e : firstMet (judgeCauses image a) 
   unfolding tableIn readKinds readOffsets readInto pick acceptedAnswer
   table-is =
       let n : countOf (isListed (rowFor a) (a .level)) (blocksFor image a) ≡ length (tableFor image a) =
-      sym (listed-length (rowFor a) (a .level) (countFor image a) (startFor image a) (restFrom image (startFor image a))) in
+      sym (listed-length (rowFor a) (a .level) (countFor image a) (startFor image a) (restFrom (a .layout) image (startFor image a))) in
       rw (
         answer-is,
         no-cause,
@@ -154,7 +154,7 @@ module _ (image : List ℕ) (a : Arguments) (older : ℕ) (h : older < newestLev
   listed-table : (b : Arguments) → length (map (entry (rowFor b)) (tableFor image b)) ≡ acceptedAnswer image b .listed
   unfolding acceptedAnswer
   listed-table b = length-map (tableFor image b) _
-      ∙ listed-length (rowFor b) (b .level) (countFor image b) (startFor image b) (restFrom image (startFor image b))
+      ∙ listed-length (rowFor b) (b .level) (countFor image b) (startFor image b) (restFrom (b .layout) image (startFor image b))
 
   pub reads-agree : ReadsAgree image a older
   unfolding acceptedAnswer

@@ -43,7 +43,7 @@ flag-for-each image a e =
     let b = parts image a e in
     let few = few-blocks image a (b .0) (b .1) in
     let short : length (blocksFor image a) ≤ 128 =
-    omega (arith, few, cut-length (rowFor a) (countFor image a) (restFrom image (startFor image a))) in
+    omega (arith, few, cut-length (rowFor a) (countFor image a) (restFrom (a .layout) image (startFor image a))) in
     (few, flags-length _ (blocksFor image a) short, flags-length _ (blocksFor image a) short)
 
 -- ## Numbers
@@ -115,7 +115,7 @@ first-in-order image a settled report =
     let i = isInvalid (rowFor a) (a .level) in
     let q : ℕ → Bool = λ k. not (settled && blockIs i bs k) && isUp report k in
     let all : countFor image a ≡ 0 + length bs =
-    omega (arith, cut-length (rowFor a) (countFor image a) (restFrom image (startFor image a))) in
+    omega (arith, cut-length (rowFor a) (countFor image a) (restFrom (a .layout) image (startFor image a))) in
     last-same _ (taken p q bs)
     (λ k. rw (flag-block p bs k, flag-block i bs k) (and-assoc (blockIs p bs k) (not (settled && blockIs i bs k)) (isUp report k)))
     (countFor image a)

@@ -3,8 +3,10 @@ use block::Block;
 use block::NEWEST_LEVEL;
 use console::output;
 use console::status;
+use magic::place_of;
 use reader::Arguments;
 use report::words;
+use rom::Layout;
 use rom::refusal;
 use survey::Place;
 use text::decimal_words;
@@ -47,8 +49,25 @@ const MAKER: u8 = 14;
 
 const SROM_CRC: u8 = 15;
 
+// Of the Magic Packet block, whose reserved bytes are as the others.
+const PASSWORD: u8 = 16;
+
+const WAKE_ADDRESS: u8 = 17;
+
+const COMMAND: u8 = 18;
+
+const MAGIC_CRC: u8 = 19;
+
 // How many there are.
-const FIELDS: u8 = 16;
+const FIELDS: u8 = 20;
+
+// How many a layout has: those of the Magic Packet block are the last.
+fn fields_of(layout: Layout) -> u8 {
+    if layout.magic {
+        return FIELDS;
+    }
+    PASSWORD
+}
 
 fn field_words(line: Line, field: u8) -> Line {
     line.text(decimal_words(
@@ -68,6 +87,10 @@ fn field_words(line: Line, field: u8) -> Line {
 13 block: REFUSED
 14 the maker's bytes
 15 SROM CRC
+16 SecureON password
+17 Magic's address
+18 Magic command
+19 Magic CRC
 ",
         field as u64,
     ))
@@ -91,6 +114,10 @@ fn label(line: Line, field: u8, number: u8) -> Line {
 13 block #
 14 maker
 15 CRC
+16 password
+17 address
+18 command
+19 CRC
 ",
         field as u64,
     );
@@ -115,6 +142,10 @@ fn colour(line: Line, field: u8) -> Line {
 13 #d7301f
 14 #e6ded0
 15 #b8b8b8
+16 #a3dde0
+17 #c9eef0
+18 #7cc8cd
+19 #b8b8b8
 ",
         field as u64,
     ))
@@ -150,15 +181,28 @@ impl Cells {
         cells
     }
 
-    // The fields whose places are fixed.
-    fn framed(self) -> Cells {
+    // The fields whose places the layout says.
+    fn framed(self, layout: Layout) -> Cells {
         self.painted(ID, 0, 0, 18)
             .painted(ID_CRC, 0, rom::ID_CRC_AT, 1)
             .painted(VERSION, 0, rom::VERSION_AT, 1)
             .painted(COUNT, 0, rom::CONTROLLER_COUNT_AT, 1)
             .painted(ADDRESS, 0, rom::ADDRESS_AT, 6)
-            .painted(MAKER, 0, rom::LEAVES_END, 2)
-            .painted(SROM_CRC, 0, rom::CHECKED_LENGTH, 2)
+            .painted(MAKER, 0, layout.leaves_end(), 2)
+            .painted(SROM_CRC, 0, layout.checked_length(), 2)
+    }
+
+    // Those of the Magic Packet block, in a layout that has one.
+    fn with_magic(self, layout: Layout) -> Cells {
+        if !layout.magic {
+            return self;
+        }
+        self.painted(PASSWORD, 0, place_of(magic::PASSWORD), 6)
+            .painted(WAKE_ADDRESS, 0, place_of(magic::ADDRESS), 6)
+            .painted(COMMAND, 0, place_of(magic::COMMAND), 2)
+            .painted(RESERVED, 0, place_of(magic::ZEROS), 16)
+            .painted(MAGIC_CRC, 0, place_of(magic::CRC), 1)
+            .painted(RESERVED, 0, place_of(magic::LAST), 1)
     }
 }
 
@@ -187,7 +231,7 @@ fn with_blocks(cells: Cells, image: &[u8], arguments: Arguments, blocks: u8) -> 
     while k < blocks {
         let place = survey::block_place(image, arguments, k);
         let field = field_of(report::block_at(image, arguments, place.start));
-        let length = report::block_bytes(image, place).len();
+        let length = report::block_bytes(image, arguments.layout, place).len();
         cells = cells.painted(field, k, place.start as usize, length);
         if field == REFUSED {
             return cells;
@@ -214,22 +258,24 @@ fn with_controller(cells: Cells, image: &[u8], arguments: Arguments) -> Cells {
     with_blocks(cells, image, arguments, header.blocks)
 }
 
-// All controllers' leaves, for a chip and a level.
-fn cells_of(image: &[u8], chip: u16, level: u8) -> Cells {
+fn for_controller(arguments: Arguments, controller: u8) -> Arguments {
+    let mut other = arguments;
+    other.controller = controller;
+    other
+}
+
+// All controllers' leaves, as the arguments read them.
+fn cells_of(image: &[u8], arguments: Arguments) -> Cells {
+    let layout = arguments.layout;
     let count = byte_at(image, rom::CONTROLLER_COUNT_AT);
-    let mut cells = Cells::none().framed();
-    if rom::MOST_CONTROLLERS < count {
+    let mut cells = Cells::none().framed(layout).with_magic(layout);
+    if layout.most_controllers() < count {
         return cells;
     }
     let mut left = count;
     while 0 < left {
         left -= 1;
-        let arguments = Arguments {
-            chip,
-            controller: left,
-            level,
-        };
-        cells = with_controller(cells, image, arguments);
+        cells = with_controller(cells, image, for_controller(arguments, left));
     }
     cells.painted(RESERVED, 0, rom::CONTROLLERS_AT + 3 * (count as usize), 1)
 }
@@ -324,7 +370,7 @@ fn draw_offsets(file: i32) {
 
 fn draw_key(file: i32, field: u8) {
     let x = 60 + 256 * ((field % 4) as u64);
-    let y = 600 + 26 * ((field / 4 % 4) as u64);
+    let y = 600 + 26 * ((field / 4) as u64);
     let line = line::of(
         b"<rect class=\"field#\" x=\"#\" y=\"#\"",
         [field as u64, x, y, 0],
@@ -333,9 +379,10 @@ fn draw_key(file: i32, field: u8) {
     end_text(field_words(text_at(b"words", x + 36, y + 14), field), file);
 }
 
-fn draw_keys(file: i32) {
+fn draw_keys(file: i32, layout: Layout) {
+    let fields = fields_of(layout);
     let mut field = 0u8;
-    while field < FIELDS {
+    while field < fields {
         draw_key(file, field);
         field += 1;
     }
@@ -343,10 +390,16 @@ fn draw_keys(file: i32) {
 
 fn draw_title(file: i32, arguments: Arguments, number: u8) {
     let line = text_at(b"title", 60, 36);
-    end_text(
-        line.with(b"Serial ROM of a # card", [arguments.chip as u64, 0, 0, 0]),
-        file,
-    );
+    let line = line.with(b"Serial ROM of a # card", [arguments.chip as u64, 0, 0, 0]);
+    if arguments.layout.magic {
+        end_text(line.text(b" with a Magic Packet block"), file);
+    } else {
+        end_text(line, file);
+    }
+    draw_verdict(file, arguments, number);
+}
+
+fn draw_verdict(file: i32, arguments: Arguments, number: u8) {
     let line = text_at(b"words", 60, 64);
     if number == refusal::ACCEPTED {
         let line = line.with(
@@ -387,7 +440,7 @@ fn draw_unknowns(file: i32, image: &[u8], arguments: Arguments, blocks: u8) {
         let known = report::is_known(place.kind, arguments.level);
         if !known {
             if drawn < 3 {
-                draw_unknown(file, k, place, arguments.level, 730 + 22 * drawn);
+                draw_unknown(file, k, place, arguments.level, 756 + 22 * drawn);
                 drawn += 1;
             }
         }
@@ -399,21 +452,17 @@ fn draw_unknowns(file: i32, image: &[u8], arguments: Arguments, blocks: u8) {
 fn draw(file: i32, image: &[u8], arguments: Arguments, number: u8) -> bool {
     io::write_all(
         file,
-        b"<svg xmlns=\"http://www.w3.org/2000/svg\" viewBox=\"0 0 1120 792\">\n",
+        b"<svg xmlns=\"http://www.w3.org/2000/svg\" viewBox=\"0 0 1120 818\">\n",
     );
     styles(file);
     io::write_all(
         file,
-        b"<rect width=\"1120\" height=\"792\" fill=\"#ffffff\"/>\n",
+        b"<rect width=\"1120\" height=\"818\" fill=\"#ffffff\"/>\n",
     );
     draw_title(file, arguments, number);
     draw_offsets(file);
-    draw_cells(
-        file,
-        image,
-        cells_of(image, arguments.chip, arguments.level),
-    );
-    draw_keys(file);
+    draw_cells(file, image, cells_of(image, arguments));
+    draw_keys(file, arguments.layout);
     draw_unknowns(
         file,
         image,

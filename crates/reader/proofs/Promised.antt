@@ -48,7 +48,7 @@ exact-reading image a = (
 
 pub counts-add-up : CountsAddUp
 unfolding acceptedAnswer
-counts-add-up image a = sorts-add-up (rowFor a) (a .level) (countFor image a) (restFrom image (startFor image a))
+counts-add-up image a = sorts-add-up (rowFor a) (a .level) (countFor image a) (restFrom (a .layout) image (startFor image a))
 
 -- ## The view
 
@@ -64,16 +64,16 @@ unfolding viewFor partFor judgeCauses leafCausesFor restFrom pick
 view-is-block image a e z l =
     let b = both-accepted (headerCauses image a) (leafCausesFor image a) (header-numbered image a) z in
     let start = startFor image a in
-    let rest = restFrom image start in
+    let rest = restFrom (a .layout) image start in
     let fine = accepted-blocks (rowFor a) (a .level) (blocksFor image a) (b .1) in
     let p : Part = entryPart (rowFor a) (tableFor image a) e in
     let after : start ≤ p .start = entry-after (rowFor a) (a .level) (countFor image a) start rest e fine l in
     let within : p .start + p .length ≤ start + length rest = entry-inside (rowFor a) (a .level) (countFor image a) start rest e fine in
-    let room : (p .start - start) + p .length ≤ leavesEnd - start =
-    omega (arith, after, within, start-fits image a (b .0), length-take (leavesEnd - start) (drop start image)) in
+    let room : (p .start - start) + p .length ≤ leavesEnd (a .layout) - start =
+    omega (arith, after, within, start-fits image a (b .0), length-take (leavesEnd (a .layout) - start) (drop start image)) in
     let back : start + (p .start - start) ≡ p .start = omega (arith, after) in
     rw z
     (ap (λ (k : ℕ). take (p .length) (drop k image)) (sym back)
     ∙ ap (take (p .length)) (sym (drop-drop (p .start - start) start image))
-    ∙ sym (inner (p .length) (p .start - start) (leavesEnd - start) (drop start image) room)
+    ∙ sym (inner (p .length) (p .start - start) (leavesEnd (a .layout) - start) (drop start image) room)
     ∙ entry-bytes (rowFor a) (a .level) (countFor image a) start rest e (record { start = 0; rest = [] }) fine l)

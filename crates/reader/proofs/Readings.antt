@@ -8,6 +8,7 @@ use lib.Dec.{eqb, ltb, lit<, eqb·suc-zero}
 use lib.ListN.{length, take, drop, length-take}
 use borrow.Author.Tests.{ne-eqb, lt-ltb, le-ltb, ltb-false}
 use Rattle.rom.specs.Geometry.{leavesEnd}
+use Rattle.rom.proofs.Layouts.{geometry}
 use Rattle.rom.specs.Bytes.{pick}
 use Rattle.rom.specs.Refusal.{Cause, _⇒_, firstMet}
 use Rattle.rom.proofs.First.{none-here, after-accepted, after-refused, both-accepted}
@@ -89,11 +90,11 @@ module _ (image : List ℕ) (a : Arguments) (k o : ℕ) (h : Header) (eh : h ≡
         refused-reading image a k o 12 (λ e. omega arith)
         (no-room image a k o accepted (simp (le-ltb k (countFor image a) (rw count at g), lt-ltb o (countFor image a) (rw count at l))))
 
-    module _ (hk : h .blocks ≤ k) (ho : h .blocks ≤ o) (t : Tally)
-        (et : t ≡ tallyOf (h .row) (a .level) (cut (h .row) (h .blocks) (take (leavesEnd - h .start) (drop (h .start) image)))) where
+    module _ (hk : h .blocks ≤ k) (ho : h .blocks ≤ o) (rest : List ℕ) (er : rest ≡ restFrom (a .layout) image (h .start)) (t : Tally)
+        (et : t ≡ tallyOf (h .row) (a .level) (cut (h .row) (h .blocks) rest)) where
       tally : t ≡ tallyOf (rowFor a) (a .level) (blocksFor image a)
-      unfolding foundHeader restFrom
-      tally = rw found at et
+      unfolding foundHeader
+      tally = rw found at (rw er at et)
 
       leaf-number : t .number ≡ firstMet (leafCausesFor image a)
       unfolding leafCausesFor
@@ -149,36 +150,40 @@ pub record Accepted (image : List ℕ) (a : Arguments) (r : Reading) : Type 0 wh
   pub header : firstMet (headerCauses image a) ≡ 0
   pub leaf : firstMet (leafCausesFor image a) ≡ 0
 
--- the leaf's rest, as the code cuts it out
-abbrev pub restOf : List ℕ → Reading → List ℕ
-restOf image r = take (leavesEnd - r .start) (drop (r .start) image)
+-- the leaf's rest from where the reading says that its blocks start
+abbrev pub restOf : List ℕ → Arguments → Reading → List ℕ
+restOf image a r = restFrom (a .layout) image (r .start)
 
 module _ {image : List ℕ} {a : Arguments} {r : Reading} (c : Accepted image a r) where
-  pub reading-start : r .start ≤ leavesEnd
+  pub reading-start : r .start ≤ leavesEnd (a .layout)
   unfolding acceptedReading
   reading-start = rw (c .known) (start-fits image a (c .header))
 
-  pub reading-end : leavesEnd ≤ length image
-  reading-end = omega (arith, whole-image image a (c .header))
+  pub reading-end : leavesEnd (a .layout) ≤ length image
+  reading-end = let g = geometry (a .layout) in omega (arith, whole-image image a (c .header))
 
-  pub reading-blocks : firstMet (blockCauses (r .row) (a .level) (cut (r .row) (r .answer .blocks) (restOf image r))) ≡ 0
-  unfolding acceptedReading acceptedAnswer leafCausesFor restFrom
+  pub reading-blocks : firstMet (blockCauses (r .row) (a .level) (cut (r .row) (r .answer .blocks) (restOf image a r))) ≡ 0
+  unfolding acceptedReading acceptedAnswer leafCausesFor
   reading-blocks = rw (c .known) (accepted-blocks (rowFor a) (a .level) (blocksFor image a) (c .leaf))
 
-  pub reading-listed : r .answer .listed ≡ length (tableOf (r .row) (a .level) (r .answer .blocks) (r .start) (restOf image r))
-  unfolding acceptedReading acceptedAnswer restFrom
+  pub reading-listed : r .answer .listed ≡ length (tableOf (r .row) (a .level) (r .answer .blocks) (r .start) (restOf image a r))
+  unfolding acceptedReading acceptedAnswer
   reading-listed =
-      rw (c .known) (sym (listed-length (rowFor a) (a .level) (countFor image a) (startFor image a) (restFrom image (startFor image a))))
+      rw (c .known)
+      (sym (listed-length (rowFor a) (a .level) (countFor image a) (startFor image a) (restFrom (a .layout) image (startFor image a))))
 
   pub reading-few : r .answer .listed ≤ countFor image a
   unfolding acceptedReading acceptedAnswer
-  reading-few = rw (c .known) (omega (arith, sorts-add-up (rowFor a) (a .level) (countFor image a) (restFrom image (startFor image a))))
+  reading-few =
+      rw (c .known) (omega (arith, sorts-add-up (rowFor a) (a .level) (countFor image a) (restFrom (a .layout) image (startFor image a))))
 
-  pub reading-short : r .start + length (restOf image r) < 65536
-  reading-short = omega (arith, reading-start, length-take (leavesEnd - r .start) (drop (r .start) image))
+  pub reading-short : r .start + length (restOf image a r) < 65536
+  unfolding restFrom
+  reading-short =
+      let g = geometry (a .layout) in omega (arith, reading-start, length-take (leavesEnd (a .layout) - r .start) (drop (r .start) image))
 
-  pub reading-table : tableOf (r .row) (a .level) (r .answer .blocks) (r .start) (restOf image r) ≡ tableFor image a
-  unfolding acceptedReading acceptedAnswer restFrom
+  pub reading-table : tableOf (r .row) (a .level) (r .answer .blocks) (r .start) (restOf image a r) ≡ tableFor image a
+  unfolding acceptedReading acceptedAnswer
   reading-table = rw (c .known)
 
   pub reading-row : r .row ≡ rowFor a
@@ -206,12 +211,12 @@ module _ (image : List ℕ) (a : Arguments) where
   no-part r er e n =
       simp (ne-eqb (firstMet (judgeCauses image a)) 0 (λ z. n (reading-number (firstMet (judgeCauses image a)) image a r er ∙ z)))
 
-  pub a-part : (r : Reading) → r ≡ judgedReading image a → (e : ℕ) → r .answer .number ≡ 0
-      → entryPart (r .row) (tableOf (r .row) (a .level) (r .answer .blocks) (r .start) (restOf image r)) e ≡ partFor image a e
+  pub a-part : (r : Reading) → r ≡ judgedReading image a → (rest : List ℕ) → rest ≡ restOf image a r → (e : ℕ) → r .answer .number ≡ 0
+      → entryPart (r .row) (tableOf (r .row) (a .level) (r .answer .blocks) (r .start) rest) e ≡ partFor image a e
   unfolding judgedReading partFor pick
-  a-part r er e z =
+  a-part r er rest q e z =
       let c = accepted-judged r er z in
-      rw (sym (reading-number (firstMet (judgeCauses image a)) image a r er) ∙ z, reading-table c, reading-row c)
+      rw (q, sym (reading-number (firstMet (judgeCauses image a)) image a r er) ∙ z, reading-table c, reading-row c)
 
   -- a block count is a byte, so room for 255 is never too little
   pub no-array : countFor image a < 256 → readingFor image a 255 255 ≡ judgedReading image a
@@ -263,11 +268,11 @@ module _ (image : List ℕ) (a : Arguments) (k o : ℕ) (r : Reading) (er : r �
     pub room-offsets : r .answer .listed ≤ o
     room-offsets = omega (arith, reading-few accepted-read, behind-met .2)
 
-    pub filled-in : (f : ℕ → Place → ℕ) (array : List ℕ)
-        → tabled (f (r .row)) (tableOf (r .row) (a .level) (r .answer .blocks) (r .start) (restOf image r)) array
+    pub filled-in : (rest : List ℕ) → rest ≡ restOf image a r → (f : ℕ → Place → ℕ) (array : List ℕ)
+        → tabled (f (r .row)) (tableOf (r .row) (a .level) (r .answer .blocks) (r .start) rest) array
         ≡ readInto (f (rowFor a)) (firstMet (readCauses image a k o)) image a array
     unfolding readInto pick
-    filled-in f array = rw (sym number-read ∙ z, reading-table accepted-read, reading-row accepted-read)
+    filled-in rest e f array = rw (e, sym number-read ∙ z, reading-table accepted-read, reading-row accepted-read)
 
 -- ## A part lies in the image
 
@@ -284,8 +289,11 @@ module _ (image : List ℕ) (a : Arguments) (e : ℕ) where
             arith,
             start-fits image a (b .0),
             whole-image image a (b .0),
-            length-take (leavesEnd - startFor image a) (drop (startFor image a) image),
-            entry-inside (rowFor a) (a .level) (countFor image a) (startFor image a) (restFrom image (startFor image a)) e
+            geometry (a .layout) .maker,
+            geometry (a .layout) .stored,
+            geometry (a .layout) .board,
+            length-take (leavesEnd (a .layout) - startFor image a) (drop (startFor image a) image),
+            entry-inside (rowFor a) (a .level) (countFor image a) (startFor image a) (restFrom (a .layout) image (startFor image a)) e
                 (accepted-blocks (rowFor a) (a .level) (blocksFor image a) (b .1)),
           )
 

@@ -21,11 +21,11 @@ use Rattle.reader.specs.Table.{tabled, noPart, entryPart}
 
 -- its blocks
 abbrev pub blocksFor : List ℕ → Arguments → List (List ℕ)
-blocksFor image a = cut (rowFor a) (countFor image a) (restFrom image (startFor image a))
+blocksFor image a = cut (rowFor a) (countFor image a) (restFrom (a .layout) image (startFor image a))
 
 -- its media table
 abbrev pub tableFor : List ℕ → Arguments → List Place
-tableFor image a = tableOf (rowFor a) (a .level) (countFor image a) (startFor image a) (restFrom image (startFor image a))
+tableFor image a = tableOf (rowFor a) (a .level) (countFor image a) (startFor image a) (restFrom (a .layout) image (startFor image a))
 
 -- ## Why a reading is refused
 

@@ -86,7 +86,7 @@ fn answer_of(h: Header, t: Tally) -> Answer
     }
 }
 
-// A reading into arrays of these lengths, before anything is written: the first of refusals 1 to 18, or the answer.
+// A reading into arrays of these lengths, before anything is written: the first refusal, or the answer.
 fn assess_for(image: &[u8], arguments: Arguments, kinds: usize, offsets: usize) -> Reading
     ensures { λ r. ⌜ r ≡ readingFor (now (image .entry)) arguments kinds offsets ⌝ }
 {
@@ -104,7 +104,8 @@ fn assess_for(image: &[u8], arguments: Arguments, kinds: usize, offsets: usize) 
     }
     let row = h.row;
     let start = h.start;
-    let t = leaf::judge(&image[start..rom::LEAVES_END], blocks, row, arguments.level);
+    let rest = header::rest_from(image, arguments.layout, start);
+    let t = leaf::judge(rest, blocks, row, arguments.level);
     let number = t.number;
     if number != refusal::ACCEPTED {
         return refused(number);
@@ -145,7 +146,7 @@ pub fn read(image: &[u8], arguments: Arguments, kinds: &mut [u16], offsets: &mut
     let row = reading.row;
     let start = reading.start;
     table::fill(
-        &image[start..rom::LEAVES_END],
+        header::rest_from(image, arguments.layout, start),
         start,
         answer.blocks,
         row,
@@ -173,7 +174,7 @@ pub fn view_part(image: &[u8], arguments: Arguments, entry: usize) -> Part
     let row = reading.row;
     let start = reading.start;
     table::find(
-        &image[start..rom::LEAVES_END],
+        header::rest_from(image, arguments.layout, start),
         start,
         answer.blocks,
         row,

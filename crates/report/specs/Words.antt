@@ -1,13 +1,15 @@
 -- Words for what a card says.
-use Prim.Native.Nat.{ℕ, _/_, _%_}
+use Prim.Native.Nat.{ℕ, zero, suc, _+_, _/_, _%_}
 use Prim.Native.String.{String}
 use mathlib.Core.List.{List, [], _∷_, _++_}
 use lib.Dec.{eqb, leb}
 use lib.ListN.{getD}
+use Rattle.rom.specs.declared.Layout.{Layout}
 use Rattle.rom.specs.Bytes.{pick, byteAt}
 use Rattle.text.specs.Quoted.{quoted}
 use Rattle.text.specs.Numbers.{decimalOf}
-use Rattle.text.specs.Written.{withValues}
+use Rattle.text.specs.Tables.{blank}
+use Rattle.text.specs.Written.{withValues, withFields}
 use Rattle.format.specs.Chips.{kindCompact, kind21041}
 use Rattle.header.specs.declared.Arguments.{Arguments}
 use Rattle.survey.specs.declared.Place.{Place}
@@ -44,11 +46,36 @@ threeBytes n = n / 0x10000 % 256 ∷ n / 0x100 % 256 ∷ n % 256 ∷ 0 ∷ []
 unfoldable pub addressWords : ℕ → List ℕ
 addressWords address = says "%:%:%:" (threeBytes (address / 0x1000000)) ++ says "%:%:%" (threeBytes address)
 
+-- the same of six bytes
+unfoldable pub sixWords : List ℕ → List ℕ
+sixWords bytes = withFields bytes (quoted "%0:%1:%2:%3:%4:%5")
+
+abbrev pub layoutWords : Layout → List ℕ
+layoutWords l = pick (l .magic) (quoted ", Magic Packet layout") []
+
 unfoldable pub argumentsWords : Arguments → List ℕ
-argumentsWords a = says "chip #, controller #, level #" (a .chip ∷ a .controller ∷ a .level ∷ 0 ∷ [])
+argumentsWords a = says "chip #, controller #, level #" (a .chip ∷ a .controller ∷ a .level ∷ 0 ∷ []) ++ layoutWords (a .layout)
 
 abbrev pub startWords : ℕ → Place → List ℕ
 startWords number place = says "block # at byte #, " (number ∷ place .start ∷ 0 ∷ 0 ∷ [])
 
 unfoldable pub placeWords : ℕ → Place → List ℕ
 placeWords number place = startWords number place ++ (kindWords (place .kind) ++ says ", size #" (place .size ∷ 0 ∷ 0 ∷ 0 ∷ []))
+
+-- the bits of a Magic command from bit 0 on, as 000 names them; one that must be 0 has its number alone
+unfoldable pub bitNames : List String
+bitNames =
+    "MAGIC_DIS" ∷ "Sec_ON_En" ∷ "bit 2" ∷ "BNC" ∷ "AUI/HR" ∷ "TP10" ∷ "MII" ∷ "SYM" ∷ "LOCK" ∷ "bit 9" ∷ "bit 10" ∷ "bit 11" ∷ "bit 12"
+    ∷ "bit 13" ∷ "bit 14" ∷ "bit 15" ∷ []
+
+-- a bit's name behind a blank, where it is set
+unfoldable pub bitWords : ℕ → ℕ → List ℕ
+bitWords set bit = pick (eqb set 1) (blank ∷ quoted (getD bitNames bit "")) []
+
+-- the bits that are set, of so many from one on
+unfoldable pub bitsFrom : ℕ → ℕ → ℕ → List ℕ
+bitsFrom zero bit bits = []
+bitsFrom (suc left) bit bits = bitWords (bits % 2) bit ++ bitsFrom left (bit + 1) (bits / 2)
+
+unfoldable pub commandWords : ℕ → List ℕ
+commandWords command = bitsFrom 16 0 command

@@ -4,7 +4,9 @@ pub mod words;
 use block::Block;
 use block::chip;
 use libc::STDOUT_FILENO;
+use magic::Magic;
 use reader::Arguments;
+use rom::Layout;
 use rom::refusal;
 use survey::Place;
 use text::line;
@@ -20,7 +22,8 @@ ghost use Rattle.text.specs.Written.{textOf, fitted};
 ghost use Rattle.format.specs.Block.{isKnown};
 ghost use Rattle.header.specs.Image.{leafAt};
 ghost use Rattle.report.specs.Blocks.{blockFrom, bytesAt};
-ghost use Rattle.report.specs.Words.{threeBytes, addressWords, argumentsWords, placeWords};
+ghost use Rattle.report.specs.Layouts.{otherwise, isAcceptedOtherwise, hasSromCrc};
+ghost use Rattle.report.specs.Words.{threeBytes, addressWords, sixWords, argumentsWords, placeWords};
 
 // ## Parts of an image
 
@@ -53,10 +56,17 @@ pub fn address_words(line: Line, address: u64) -> Line
         .with(b"%:%:%", three_bytes(address))
 }
 
+// The same of six bytes.
+pub fn six_words(line: Line, bytes: &[u8]) -> Line
+    ensures { λ r. ⌜ textOf r ≡ fitted (textOf line ++ sixWords (now (bytes .entry))) ⌝ }
+{
+    line::fields(line, b"%0:%1:%2:%3:%4:%5", bytes)
+}
+
 pub fn arguments_words(line: Line, arguments: Arguments) -> Line
     ensures { λ r. ⌜ textOf r ≡ fitted (textOf line ++ argumentsWords arguments) ⌝ }
 {
-    line.with(
+    let line = line.with(
         b"chip #, controller #, level #",
         [
             arguments.chip as u64,
@@ -64,7 +74,11 @@ pub fn arguments_words(line: Line, arguments: Arguments) -> Line
             arguments.level as u64,
             0,
         ],
-    )
+    );
+    if arguments.layout.magic {
+        return line.text(b", Magic Packet layout");
+    }
+    line
 }
 
 pub fn place_words(line: Line, number: u8, place: Place) -> Line
@@ -111,16 +125,24 @@ pub fn block_at(image: &[u8], arguments: Arguments, start: u16) -> Block
     ensures { λ r. ⌜ r ≡ blockFrom (now (image .entry)) arguments start ⌝ }
 {
     let row = chip::row_of(arguments.chip);
-    let leaves = part(image, 0, rom::LEAVES_END);
-    block::judge_block(from(leaves, start as usize), row, arguments.level)
+    let rest = header::rest_from(image, arguments.layout, start as usize);
+    block::judge_block(rest, row, arguments.level)
 }
 
 // A block's bytes, as far as leaves go.
-pub fn block_bytes(image: &[u8], place: Place) -> &[u8]
-    ensures { λ r. ⌜ now r ≡ bytesAt (now (image .entry)) place ⌝ }
+pub fn block_bytes(image: &[u8], layout: Layout, place: Place) -> &[u8]
+    ensures { λ r. ⌜ now r ≡ bytesAt layout (now (image .entry)) place ⌝ }
 {
-    let leaves = part(image, 0, rom::LEAVES_END);
-    part(leaves, place.start as usize, place.size as usize)
+    let rest = header::rest_from(image, layout, place.start as usize);
+    part(rest, 0, place.size as usize)
+}
+
+// Where leaves end in a layout.
+pub fn show_leaves_end(layout: Layout) {
+    line::of(
+        b"  leaves end before byte #",
+        [layout.leaves_end() as u64, 0, 0, 0],
+    ).print();
 }
 
 fn show_refused_block(image: &[u8], arguments: Arguments) {
@@ -129,7 +151,7 @@ fn show_refused_block(image: &[u8], arguments: Arguments) {
     place_words(Line::new().to(2), number, place)
         .byte(b':')
         .print();
-    show_bytes(block_bytes(image, place));
+    show_bytes(block_bytes(image, arguments.layout, place));
 }
 
 // What part a block has in a clash; nothing is shown where it has none.
@@ -160,7 +182,7 @@ fn show_clashes(image: &[u8], arguments: Arguments, blocks: u8) {
 
 // ## Fields of the header
 
-fn show_length(image: &[u8]) {
+pub fn show_length(image: &[u8]) {
     line::of(b"  the image has # bytes", [image.len() as u64, 0, 0, 0]).print();
 }
 
@@ -171,13 +193,17 @@ fn show_version(image: &[u8]) {
     ).print();
 }
 
-fn show_srom_crc(image: &[u8]) {
-    let stored = word_at(image, rom::CHECKED_LENGTH) as u64;
-    let computed = crc::srom_crc(image).value as u64;
+pub fn show_srom_crc(image: &[u8], layout: Layout) {
+    let at = layout.checked_length();
+    let stored = word_at(image, at) as u64;
+    let computed = crc::srom_crc(image, layout).value as u64;
+    let at = at as u64;
     line::of(
-        b"  SROM CRC, bytes 126 and 127: @ stored, @ of bytes 0 to 125",
-        [stored, computed, 0, 0],
-    ).print();
+            b"  SROM CRC, bytes # and #: @ stored",
+            [at, at + 1, stored, 0],
+        )
+        .with(b", @ of bytes 0 to #", [computed, at - 1, 0, 0])
+        .print();
 }
 
 fn show_id_crc(image: &[u8]) {
@@ -189,38 +215,26 @@ fn show_id_crc(image: &[u8]) {
     ).print();
 }
 
-fn show_count(image: &[u8]) {
+fn show_count(image: &[u8], layout: Layout) {
     let count = byte_at(image, rom::CONTROLLER_COUNT_AT);
     let reserved = rom::CONTROLLERS_AT + 3 * (count as usize);
     line::of(
-        b"  controller count, byte 19: #; reserved byte, byte #: 0x%",
-        [count as u64, reserved as u64, byte_of(image, reserved), 0],
+        b"  controller count (1 to #), byte 19: #; reserved byte (0), byte #: 0x%",
+        [
+            layout.most_controllers() as u64,
+            count as u64,
+            reserved as u64,
+            byte_of(image, reserved),
+        ],
     ).print();
 }
 
 fn show_address(image: &[u8]) {
-    let line = line::of(
-        b"  base address, bytes 20 to 25: %:%:%",
-        [
-            byte_of(image, 20),
-            byte_of(image, 21),
-            byte_of(image, 22),
-            0,
-        ],
-    );
-    line.with(
-            b":%:%:%",
-            [
-                byte_of(image, 23),
-                byte_of(image, 24),
-                byte_of(image, 25),
-                0,
-            ],
-        )
-        .print();
+    let line = Line::new().text(b"  base address, bytes 20 to 25: ");
+    six_words(line, from(image, rom::ADDRESS_AT)).print();
 }
 
-fn show_leaf(image: &[u8], controller: u8) {
+fn show_leaf(image: &[u8], layout: Layout, controller: u8) {
     let at = 27 + 3 * (controller as u64);
     let least = 27 + 3 * (byte_at(image, rom::CONTROLLER_COUNT_AT) as u64);
     line::of(
@@ -228,8 +242,8 @@ fn show_leaf(image: &[u8], controller: u8) {
         [at, at + 1, leaf_of(image, controller) as u64, 0],
     ).print();
     line::of(
-        b"  a leaf of this card starts at byte # or later, and ends before byte 124",
-        [least, 0, 0, 0],
+        b"  a leaf of this card starts at byte # or later, and ends before byte #",
+        [least, layout.leaves_end() as u64, 0, 0],
     ).print();
 }
 
@@ -246,44 +260,148 @@ fn show_connection(image: &[u8], controller: u8) {
     ).print();
 }
 
+// ## The Magic Packet block
+
+// What a block says.
+pub fn show_magic(magic: Magic) {
+    say(b"Magic Packet block");
+    let password = magic.password;
+    six_words(Line::new().text(b"  password         "), &password).print();
+    let address = magic.address;
+    six_words(Line::new().text(b"  address          "), &address).print();
+    let line = line::of(b"  command          @", [magic.command as u64, 0, 0, 0]);
+    words::command_words(line, magic.command).print();
+}
+
+fn show_magic_crc(image: &[u8]) {
+    let at = magic::place_of(magic::CRC);
+    let computed = crc::magic_crc(image).value as u64;
+    line::of(
+        b"  Magic CRC, byte #: 0x% stored, 0x% of the block's other bytes",
+        [at as u64, byte_of(image, at), computed, 0],
+    ).print();
+}
+
+// A reserved byte, where it is not 0.
+fn show_reserved(image: &[u8], at: usize) {
+    let byte = byte_of(image, at);
+    if byte != 0 {
+        line::of(b"  reserved byte, byte #: 0x%", [at as u64, byte, 0, 0]).print();
+    }
+}
+
+fn show_magic_reserved(image: &[u8]) {
+    let mut field = magic::ZEROS;
+    while field <= magic::LAST {
+        if field != magic::CRC {
+            show_reserved(image, magic::place_of(field));
+        }
+        field += 1;
+    }
+}
+
+// What a refusal of the block is about.
+pub fn show_magic_field(image: &[u8], number: u8) {
+    if number == refusal::MAGIC_CRC {
+        show_magic_crc(image);
+    } else {
+        show_magic_reserved(image);
+    }
+}
+
+// ## The other layout
+
+// The same arguments for the other layout.
+fn otherwise(arguments: Arguments) -> Arguments
+    ensures { λ r. ⌜ r ≡ otherwise arguments ⌝ }
+{
+    let plain = !arguments.layout.magic;
+    let mut other = arguments;
+    other.layout.magic = plain;
+    other
+}
+
+// Whether an image that is refused with a number, and that is 3, is accepted in the other layout.
+fn is_accepted_otherwise(image: &[u8], arguments: Arguments, number: u8) -> bool
+    ensures { λ r. ⌜ r ≡ isAcceptedOtherwise (now (image .entry)) arguments number ⌝ }
+{
+    if number != refusal::SROM_CRC {
+        return false;
+    }
+    reader::judge(image, otherwise(arguments)).number == refusal::ACCEPTED
+}
+
+// Nobody at a bench knows the layout beforehand.
+fn show_otherwise(image: &[u8], arguments: Arguments, number: u8) {
+    let accepted = is_accepted_otherwise(image, arguments, number);
+    if accepted {
+        if arguments.layout.magic {
+            say(b"  accepted without --magic");
+        } else {
+            say(b"  accepted with --magic");
+        }
+    }
+}
+
+// Whether the SROM CRC that is stored is the board's.
+pub fn has_srom_crc(image: &[u8], layout: Layout) -> bool
+    ensures { λ r. ⌜ r ≡ hasSromCrc layout (now (image .entry)) ⌝ }
+{
+    let stored = word_at(image, layout.checked_length());
+    stored == crc::srom_crc(image, layout).value
+}
+
 // ## The verdict
 
 // The field that a refusal from 1 to 5 is about.
-fn show_image_field(image: &[u8], number: u8) {
+fn show_image_field(image: &[u8], layout: Layout, number: u8) {
     match number {
         refusal::IMAGE_LENGTH => show_length(image),
         refusal::VERSION => show_version(image),
-        refusal::SROM_CRC => show_srom_crc(image),
+        refusal::SROM_CRC => show_srom_crc(image, layout),
         refusal::ID_CRC => show_id_crc(image),
-        _ => show_count(image),
+        _ => show_count(image, layout),
     }
 }
 
 // The field that a refusal from 6 to 11 is about. Chip and level are no part of the image.
-fn show_leaf_field(image: &[u8], controller: u8, number: u8) {
+fn show_leaf_field(image: &[u8], arguments: Arguments, number: u8) {
+    let layout = arguments.layout;
+    let controller = arguments.controller;
     match number {
-        refusal::CONTROLLER => show_count(image),
+        refusal::CONTROLLER => show_count(image, layout),
         refusal::ADDRESS => show_address(image),
-        refusal::LEAF_HEADER => show_leaf(image, controller),
+        refusal::LEAF_HEADER => show_leaf(image, layout, controller),
         refusal::CONNECTION_TYPE => show_connection(image, controller),
         _ => {}
     }
 }
 
-// What a refusal of the reader is about: a field of the header, a block, or the blocks that clash.
+// The block that a refusal from 13 to 17 is about.
+fn show_block(image: &[u8], arguments: Arguments, number: u8) {
+    show_refused_block(image, arguments);
+    if number == refusal::BLOCK_END {
+        show_leaves_end(arguments.layout);
+    }
+}
+
+// What a refusal of the reader is about: a field of the header, a block, the blocks that clash, or a field of the Magic
+// Packet block.
 fn show_where(image: &[u8], arguments: Arguments, number: u8) {
     if number <= refusal::CONTROLLER_COUNT {
-        show_image_field(image, number);
+        show_image_field(image, arguments.layout, number);
     } else if number <= refusal::CONNECTION_TYPE {
-        show_leaf_field(image, arguments.controller, number);
+        show_leaf_field(image, arguments, number);
     } else if number < refusal::CLASH {
-        show_refused_block(image, arguments);
-    } else {
+        show_block(image, arguments, number);
+    } else if number == refusal::CLASH {
         show_clashes(
             image,
             arguments,
             header::read_header(image, arguments).blocks,
         );
+    } else {
+        show_magic_field(image, number);
     }
 }
 
@@ -299,4 +417,5 @@ pub fn show_refused(image: &[u8], arguments: Arguments, number: u8) {
     show_refusal(number);
     arguments_words(Line::new().to(2), arguments).print();
     show_where(image, arguments, number);
+    show_otherwise(image, arguments, number);
 }

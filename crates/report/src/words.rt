@@ -1,5 +1,5 @@
-// Words for numbers: the one table of each. Media and connection types are named as 000 names them. Those of refusals and
-// connection types end what they stand in, and go to a file.
+// Words for numbers: the one table of each. Media, connection types and the bits of a Magic command are named as 000 names
+// them. Those of refusals and connection types end what they stand in, and go to a file.
 use text::decimal_words;
 use text::hex_words;
 use text::line::Line;
@@ -7,9 +7,9 @@ use text::slice::byte_at;
 ghost use mathlib.Core.Path.{_≡_};
 ghost use mathlib.Core.List.{_++_};
 ghost use Rattle.text.specs.Written.{textOf, fitted};
-ghost use Rattle.report.specs.Words.{mediaWords, kindWords, mediumWords};
+ghost use Rattle.report.specs.Words.{mediaWords, kindWords, mediumWords, bitWords, commandWords};
 
-// Document 01, 'Why a call is refused'.
+// Document 01, 'Why a call is refused', and document 02; in words that fit every layout.
 pub fn show_refusal(number: u8, file: i32) {
     let words = decimal_words(
         b"0 accepted
@@ -17,7 +17,7 @@ pub fn show_refusal(number: u8, file: i32) {
 2 the format version is neither 3 nor 4
 3 the SROM CRC is wrong
 4 the ID CRC is wrong
-5 the controller count is not 1 to 32, or the reserved byte is not 0
+5 the controller count is 0 or too high, or the reserved byte is not 0
 6 the card has no such controller
 7 no such chip
 8 the level is over 6
@@ -25,7 +25,7 @@ pub fn show_refusal(number: u8, file: i32) {
 10 the leaf's header is outside its bounds
 11 the connection type is none of the chip's
 12 the room that is lent is too short
-13 the block runs past byte 123
+13 the block runs into the maker's bytes
 14 the block's length is 0, or its type is not permitted for the chip
 15 the block's length is wrong for its type
 16 the block's media code or one of its reserved bits is wrong
@@ -38,8 +38,10 @@ pub fn show_refusal(number: u8, file: i32) {
 23 65,535 looks have been taken
 24 the sheet's length is wrong, or the sum of its sizes is
 25 a kind, a body or the control byte is wrong in the sheet
-26 the leaf would run past byte 123
+26 the leaf would run into the maker's bytes
 27 the image is not tidy, so a sheet would lose some of it
+29 the CRC of the Magic Packet block is wrong
+30 a reserved byte of the Magic Packet block is not 0
 ",
         number as u64,
     );
@@ -118,4 +120,48 @@ pub fn medium_words(line: Line, bytes: &[u8], kind: u16) -> Line
         return line.with(b"MII PHY #", [byte_at(bytes, 2) as u64, 0, 0, 0]);
     }
     media_words(line, byte_at(bytes, 2) % 64)
+}
+
+// A bit of a Magic command, by its number, where it is set. One that must be 0 has no other name.
+fn bit_words(line: Line, set: u16, bit: u8) -> Line
+    ensures { λ r. ⌜ textOf r ≡ fitted (textOf line ++ bitWords set bit) ⌝ }
+{
+    if set != 1 {
+        return line;
+    }
+    line.byte(b' ').text(decimal_words(
+        b"0 MAGIC_DIS
+1 Sec_ON_En
+2 bit 2
+3 BNC
+4 AUI/HR
+5 TP10
+6 MII
+7 SYM
+8 LOCK
+9 bit 9
+10 bit 10
+11 bit 11
+12 bit 12
+13 bit 13
+14 bit 14
+15 bit 15
+",
+        bit as u64,
+    ))
+}
+
+// The bits of a Magic command that are set, each behind a blank.
+pub fn command_words(line: Line, command: u16) -> Line
+    ensures { λ r. ⌜ textOf r ≡ fitted (textOf line ++ commandWords command) ⌝ }
+{
+    let mut line = line;
+    let mut bits = command;
+    let mut bit = 0u8;
+    while bit < 16 {
+        line = bit_words(line, bits % 2, bit);
+        bits = bits / 2;
+        bit += 1;
+    }
+    line
 }

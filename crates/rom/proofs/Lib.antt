@@ -2,5 +2,8 @@ pub mod Truth
 pub mod First
 pub mod Fewer
 pub mod Past
+pub mod Layouts
 pub mod Reached
 pub mod Put
+pub mod Zeros
+pub mod Lists

@@ -6,7 +6,7 @@ use native.Mathlib.Omega.{arith}
 use native.Mathlib.Nat.{add-zero}
 use native.Mathlib.Numerals.{add-one}
 use lib.ListN.{length, take, drop, set, length-append, length-take, length-drop, take-append-drop, drop-of-length-le}
-use lib.Seq.{take-at, drop-at, take-all, drop-drop, sets-eq}
+use lib.Seq.{take-at, drop-at, take-all, take-append-add, drop-append-add, drop-drop, sets-eq}
 use borrow.Author.Tests.{le-leb, lt-leb}
 use borrow.Rule.Slice.PartMut.{putMid, midOf}
 use Rattle.rom.specs.Store.{wordBytes, put, laid}
@@ -97,3 +97,24 @@ laid-word xs at word h = laid-put xs at (wordBytes word) h
 
 pub laid-whole : (xs ys : List ℕ) → length ys ≡ length xs → laid xs 0 ys ≡ ys
 laid-whole xs ys e = laid-put xs 0 ys (omega arith) ∙ put-whole xs ys e
+
+-- bytes laid in at the end
+pub laid-end : (xs ys : List ℕ) (at : ℕ) → at + length ys ≡ length xs → laid xs at ys ≡ take at xs ++ ys
+unfolding put
+laid-end xs ys at h =
+    laid-put xs at ys (omega arith)
+    ∙ ap (λ (l : List ℕ). take at xs ++ (ys ++ l)) (drop-of-length-le xs {i = at + length ys} (omega arith))
+    ∙ ap (λ (l : List ℕ). take at xs ++ l) (append-nil ys)
+
+-- and into the second of two lists
+pub laid-behind : (xs ys zs : List ℕ) (at k : ℕ) → length xs ≡ at → k + length zs ≤ length ys
+    → laid (xs ++ ys) (at + k) zs ≡ xs ++ put ys k zs
+unfolding put
+laid-behind xs ys zs at k l h =
+    let n : (at + k) + length zs ≤ length (xs ++ ys) = rw length-append (omega arith) in
+    let from : at + k ≡ length xs + k = omega arith in
+    let to : (at + k) + length zs ≡ length xs + (k + length zs) = omega arith in
+    laid-put (xs ++ ys) (at + k) zs n
+    ∙ ap₂ (λ (i j : ℕ). take i (xs ++ ys) ++ (zs ++ drop j (xs ++ ys))) from to
+    ∙ ap₂ (λ (a b : List ℕ). a ++ (zs ++ b)) (take-append-add xs ys k) (drop-append-add xs ys (k + length zs))
+    ∙ append-assoc xs (take k ys) (zs ++ drop (k + length zs) ys)

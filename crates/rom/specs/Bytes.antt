@@ -1,7 +1,7 @@
 -- Bytes, words and bits of a list of bytes. A word is 16 bits, low byte first.
 use Prim.Native.Nat.{ℕ, zero, suc, _+_, _*_, _/_, _%_, _^_, _<_}
 use mathlib.Core.List.{List, [], _∷_}
-use mathlib.Core.Bool.{Bool, true, false, _||_}
+use mathlib.Core.Bool.{Bool, true, false, _&&_, _||_}
 use lib.ListN.{getD}
 use lib.Dec.{eqb}
 
@@ -35,6 +35,10 @@ bit k x = eqb (x / 2 ^ k % 2) 1
 unfoldable pub isIn : ℕ → List ℕ → Bool
 isIn x [] = false
 isIn x (y ∷ ys) = eqb y x || isIn x ys
+
+unfoldable pub allZero : List ℕ → Bool
+allZero [] = true
+allZero (x ∷ s) = eqb x 0 && allZero s
 
 -- f at n numbers from i on
 abbrev pub valuesFrom : (ℕ → ℕ) → ℕ → ℕ → List ℕ

@@ -1,4 +1,5 @@
-// Why a call is refused (document 01): numbers in the order in which their causes are tried. 0 is acceptance.
+// Why a call is refused: 0 is acceptance, and the other numbers are those of documents 01 and 02; each call has its own order
+// of them.
 pub const ACCEPTED: u8 = 0;
 
 pub const IMAGE_LENGTH: u8 = 1;
@@ -54,3 +55,7 @@ pub const SHEET_ENTRY: u8 = 25;
 pub const LEAF_END: u8 = 26;
 
 pub const UNTIDY: u8 = 27;
+
+pub const MAGIC_CRC: u8 = 29;
+
+pub const MAGIC_RESERVED: u8 = 30;

@@ -21,7 +21,7 @@ use Rattle.sheet.specs.Record.{Entry}
 use Rattle.sheet.specs.Sheet.{bodyBytes}
 use Rattle.sheet.specs.Image.{isWhole, openingOf, encode, encodes, openingLength, bodyOf, entryFrom, sizes}
 use Rattle.sheet.specs.Write.{isOtherFamily, isBadBody, isBad, anyBad}
-use Rattle.sheet.proofs.Basics.{bytes-drop}
+use Rattle.rom.proofs.Lists.{bytes-drop}
 
 -- ## An entry that an image of a chip can hold
 

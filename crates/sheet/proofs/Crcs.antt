@@ -5,25 +5,26 @@ use mathlib.Core.List.{List, _++_}
 use native.Mathlib.Omega.{arith}
 use lib.ListN.{length, take}
 use lib.Seq.{take-take, take-append-le}
+use Rattle.rom.specs.declared.Layout.{Layout}
 use Rattle.rom.specs.Geometry.{checkedLength}
 use Rattle.rom.specs.Bytes.{wordAt}
 use Rattle.rom.specs.Store.{wordBytes}
-use Rattle.crc.specs.Crc.{sromCrc, idCrc, idWords, word}
+use Rattle.crc.specs.Crc.{sromCrc, crc8Words, word, crc8, idCrc}
 use Rattle.sheet.specs.Record.{Plain}
 use Rattle.sheet.specs.Image.{frontWith}
-use Rattle.sheet.proofs.Basics.{spell}
+use Rattle.rom.proofs.Lists.{spell}
 use Rattle.sheet.proofs.Sheets.{Sized, spelledOut, spelled-out}
 
-pub srom-covered : (s : List ℕ) → sromCrc (take checkedLength s) ≡ sromCrc s
+pub srom-covered : (l : Layout) (s : List ℕ) → sromCrc l (take (checkedLength l) s) ≡ sromCrc l s
 unfolding sromCrc
-srom-covered s = rw (take-take checkedLength checkedLength s (omega arith)) refl
+srom-covered l s = rw (take-take (checkedLength l) (checkedLength l) s (omega arith)) refl
 
-pub srom-front : (s r : List ℕ) → checkedLength ≤ length s → sromCrc (s ++ r) ≡ sromCrc s
+pub srom-front : (l : Layout) (s r : List ℕ) → checkedLength l ≤ length s → sromCrc l (s ++ r) ≡ sromCrc l s
 unfolding sromCrc
-srom-front s r h = rw (take-append-le checkedLength s r h) refl
+srom-front l s r h = rw (take-append-le (checkedLength l) s r h) refl
 
 spelled-front : (p : Plain) (c : ℕ) (r : List ℕ) → idCrc (frontWith c (spelledOut p) ++ r) ≡ idCrc (frontWith 0 (spelledOut p))
-unfolding idCrc idWords word wordAt frontWith spelledOut spell wordBytes
+unfolding idCrc crc8 crc8Words word wordAt frontWith spelledOut spell wordBytes
 spelled-front p c r = refl
 
 -- whatever stands at byte 16 and behind the front

@@ -1,36 +1,40 @@
 -- The image of a record means that record and is tidy, and a tidy accepted image is the image of what it means: fronts are
 -- spelled out, the rest is read from byte 30 on. Assumes nothing.
-use Prim.Native.Nat.{ℕ, zero, suc, _+_, _*_, _-_, _/_, _%_, _≤_, _<_}
+use Prim.Native.Nat.{ℕ, zero, _+_, _*_, _-_, _/_, _%_, _≤_, _<_}
 use mathlib.Core.Path.{_≡_, refl, sym, ap, ap₂, _∙_}
 use mathlib.Core.Bool.{Bool, true, false, _&&_, _||_, not}
 use mathlib.Core.List.{List, [], _∷_, _++_, map, append-assoc}
+use native.Mathlib.Numerals.{add-one}
 use native.Mathlib.Omega.{arith}
-use lib.ListN.{length, take, drop, replicate, length-append, length-drop, length-replicate, take-append-drop, drop-of-length-le}
-use lib.Seq.{take-at, drop-at, take-take, take-add, drop-drop, getD-drop, drop-cons, length-take-le}
+use lib.ListN.{length, take, drop, replicate, length-append, length-drop, length-replicate, take-append-drop}
+use lib.Seq.{take-at, drop-at, take-take, take-add, drop-drop, getD-drop, length-take-le}
 use lib.Dec.{eqb, ltb, lit<}
 use borrow.Author.Tests.{eqb-true, eq-eqb, not-false}
-use Rattle.rom.specs.Geometry.{leavesEnd, checkedLength, imageLength, mostControllers}
-use Rattle.rom.specs.Bytes.{pick, byteAt, wordAt, isIn, Bytes}
+use Rattle.rom.specs.declared.Layout.{Layout}
+use Rattle.rom.specs.Geometry.{imageLength, boardLength, checkedLength, leavesEnd, mostControllers}
+use Rattle.rom.specs.Bytes.{pick, byteAt, wordAt, isIn, Bytes, allZero}
 use Rattle.rom.specs.Store.{wordBytes}
 use Rattle.rom.specs.Refusal.{firstMet}
 use Rattle.rom.proofs.First.{none-here, both-accepted}
 use Rattle.rom.proofs.Truth.{true-false, and-true, or-false}
-use Rattle.crc.specs.Crc.{sromCrc, idCrc, idWords, word}
+use Rattle.crc.specs.Crc.{sromCrc, crc8Words, word, crc8, idCrc}
 use Rattle.format.specs.Chips.{chips, rowOf, row21140, newestLevel}
 use Rattle.header.specs.Image.{controllerCount, reservedAt, leafAt, headerLength, controlByte, blocksAt, blockCount, restFrom, badCount}
-use Rattle.header.specs.Image.{imageCauses, argumentCauses}
+use Rattle.header.specs.Image.{magicCauses, imageCauses, argumentCauses}
 use Rattle.header.specs.Header.{leafFor, startFor, countFor, headerCauses}
-use Rattle.header.proofs.Headers.{image-numbered, argument-numbered, header-numbered}
+use Rattle.header.proofs.Headers.{magic-numbered, image-numbered, argument-numbered, header-numbered}
 use Rattle.leaf.specs.Leaf.{cut, blockCauses}
 use Rattle.leaf.proofs.Cuts.{accepted-blocks}
 use Rattle.reader.specs.Reading.{blocksFor, leafCausesFor, judgeCauses}
-use Rattle.sheet.specs.Lists.{allZero, padded}
+use Rattle.sheet.specs.Lists.{padded}
 use Rattle.sheet.specs.Record.{Plain}
 use Rattle.sheet.specs.Sheet.{sheetOf}
-use Rattle.sheet.specs.Image.{leafStart, frontWith, frontOf, encodes, controlBytes, leafHeadOf, leafOf, coveredOf, imageOf, newest}
+use Rattle.sheet.specs.Image.{leafStart, frontWith, frontOf, encodes, controlBytes, leafHeadOf, leafOf, coveredOf, boardOf}
+use Rattle.sheet.specs.Image.{imageOf, newest}
 use Rattle.sheet.specs.Image.{entryFrom, imageFrom, sizes, leafEnd, upToLeavesEnd, isTidy}
 use Rattle.sheet.specs.Write.{anyBad, strayControl, cannotHold}
-use Rattle.sheet.proofs.Basics.{word-of, word-back, zeros, zeros-all, bytes-drop, bytes-take, spell, spelled}
+use Rattle.rom.proofs.Layouts.{Geometry, geometry}
+use Rattle.rom.proofs.Lists.{word-of, word-back, zeros, zeros-all, bytes-drop, bytes-take, spell, spelled}
 use Rattle.sheet.proofs.Blocks.{cut-encodes, entries-length, blocks-few, bodies-short, Encoded, encodes-cut}
 use Rattle.sheet.proofs.Sheets.{Sized, spelledOut, spelled-out, sheet-length}
 use Rattle.sheet.proofs.Crcs.{srom-covered}
@@ -56,6 +60,10 @@ spelled-front p c r =
 front-says : (p : Plain) (c : ℕ) (r : List ℕ) → Sized p → Front p (frontWith c p ++ r) r
 front-says p c r z = rw (spelled-out p z) (spelled-front p c r)
 
+pub front-length : (p : Plain) (c : ℕ) → Sized p → length (frontWith c p) ≡ leafStart
+unfolding frontWith spelledOut spell wordBytes
+front-length p c z = ap (λ (x : Plain). length (frontWith c x)) (spelled-out p z)
+
 -- ## An image with its leaf at 30, read from there on
 
 byte-behind : (s : List ℕ) (i : ℕ) → byteAt s (leafStart + i) ≡ byteAt (drop leafStart s) i
@@ -76,51 +84,55 @@ header-some row = go (eqb row row21140)
     go true = (omega arith, omega arith)
     go false = (omega arith, omega arith)
 
-module _ (chip : ℕ) (s : List ℕ) (leaf : wordAt s 27 ≡ leafStart) where
+-- how many bytes a leaf can have there
+abbrev pub room : Layout → ℕ
+room l = leavesEnd l - leafStart
+
+module _ (l : Layout) (chip : ℕ) (s : List ℕ) (leaf : wordAt s 27 ≡ leafStart) where
   leaf-at : leafAt s 0 ≡ leafStart
   unfolding leafAt
   leaf-at = leaf
 
-  leaf-is : leafFor s (newest chip) ≡ leafStart
+  leaf-is : leafFor s (newest l chip) ≡ leafStart
   unfolding newest leafAt
   leaf-is = leaf
 
-  start-is : startFor s (newest chip) ≡ leafStart + headerLength (rowOf chip)
+  start-is : startFor s (newest l chip) ≡ leafStart + headerLength (rowOf chip)
   unfolding newest blocksAt
   start-is = ap (λ (n : ℕ). n + headerLength (rowOf chip)) leaf-is
 
-  connection-is : wordAt s (leafFor s (newest chip)) ≡ wordAt (drop leafStart s) 0
+  connection-is : wordAt s (leafFor s (newest l chip)) ≡ wordAt (drop leafStart s) 0
   connection-is = ap (wordAt s) leaf-is ∙ word-behind s
 
-  control-is : controlByte s (rowOf chip) (leafFor s (newest chip)) ≡ pick (eqb (rowOf chip) row21140) (byteAt (drop leafStart s) 2) 0
+  control-is : controlByte s (rowOf chip) (leafFor s (newest l chip)) ≡ pick (eqb (rowOf chip) row21140) (byteAt (drop leafStart s) 2) 0
   unfolding controlByte
   control-is =
       ap (λ (n : ℕ). pick (eqb (rowOf chip) row21140) (byteAt s (n + 2)) 0) leaf-is
       ∙ ap (λ (b : ℕ). pick (eqb (rowOf chip) row21140) b 0) (byte-behind s 2)
 
-  count-is : countFor s (newest chip) ≡ byteAt (drop leafStart s) (headerLength (rowOf chip) - 1)
+  count-is : countFor s (newest l chip) ≡ byteAt (drop leafStart s) (headerLength (rowOf chip) - 1)
   unfolding blockCount newest
   count-is =
       let h = header-some (rowOf chip) in
       let n : leafStart + headerLength (rowOf chip) - 1 ≡ leafStart + (headerLength (rowOf chip) - 1) = omega (arith, h .0) in
       ap (λ (k : ℕ). byteAt s (k - 1)) start-is ∙ ap (byteAt s) n ∙ byte-behind s _
 
-  up-to : (k : ℕ) → upToLeavesEnd (leafStart + k) s ≡ take (94 - k) (drop k (drop leafStart s))
+  up-to : (k : ℕ) → upToLeavesEnd l (leafStart + k) s ≡ take (room l - k) (drop k (drop leafStart s))
   unfolding upToLeavesEnd
-  up-to k = let n : leavesEnd - (leafStart + k) ≡ 94 - k = omega arith in ap₂ take n (drop-behind s k)
+  up-to k = let n : leavesEnd l - (leafStart + k) ≡ room l - k = omega arith in ap₂ take n (drop-behind s k)
 
-  rest-is : restFrom s (startFor s (newest chip))
-      ≡ take (94 - headerLength (rowOf chip)) (drop (headerLength (rowOf chip)) (drop leafStart s))
+  rest-is : restFrom l s (startFor s (newest l chip))
+      ≡ take (room l - headerLength (rowOf chip)) (drop (headerLength (rowOf chip)) (drop leafStart s))
   unfolding restFrom upToLeavesEnd
-  rest-is = ap (λ (n : ℕ). take (leavesEnd - n) (drop n s)) start-is ∙ up-to (headerLength (rowOf chip))
+  rest-is = ap (λ (n : ℕ). take (leavesEnd l - n) (drop n s)) start-is ∙ up-to (headerLength (rowOf chip))
 
-  blocks-are : blocksFor s (newest chip)
+  blocks-are : blocksFor s (newest l chip)
       ≡ cut (rowOf chip) (byteAt (drop leafStart s) (headerLength (rowOf chip) - 1))
-      (take (94 - headerLength (rowOf chip)) (drop (headerLength (rowOf chip)) (drop leafStart s)))
+      (take (room l - headerLength (rowOf chip)) (drop (headerLength (rowOf chip)) (drop leafStart s)))
   unfolding newest
   blocks-are = ap₂ (cut (rowOf chip)) count-is rest-is
 
-  end-is : leafEnd chip s ≡ leafStart + (headerLength (rowOf chip) + sizes (rowOf chip) (blocksFor s (newest chip)))
+  end-is : leafEnd l chip s ≡ leafStart + (headerLength (rowOf chip) + sizes (rowOf chip) (blocksFor s (newest l chip)))
   unfolding leafEnd
   end-is = omega (arith, start-is)
 
@@ -165,51 +177,68 @@ module _ (p : Plain) where
 
 -- ## The image of a record
 
+pub padded-length : (n : ℕ) (xs : List ℕ) → length xs ≤ n → length (padded n xs) ≡ n
+unfolding padded
+padded-length n xs h = simp (length-append, length-replicate) (omega arith)
+
 -- the zeros behind the leaf, and the bytes behind those
-abbrev gap : Plain → List ℕ
-gap p = replicate (94 - length (leafOf p)) 0
+abbrev gap : Layout → Plain → List ℕ
+gap l p = replicate (room l - length (leafOf p)) 0
 
-abbrev after : Plain → List ℕ
-after p = p .maker ++ wordBytes (sromCrc (coveredOf p))
+abbrev after : Layout → Plain → List ℕ → List ℕ
+after l p out = p .maker ++ (wordBytes (sromCrc l (coveredOf l p)) ++ drop (boardLength l) out)
 
-joined : (f h e g m w : List ℕ) → (f ++ (((h ++ e) ++ g) ++ m)) ++ w ≡ f ++ (h ++ ((e ++ g) ++ (m ++ w)))
-joined f h e g m w = simp append-assoc
+joined : (f h e g m w o : List ℕ) → ((f ++ (((h ++ e) ++ g) ++ m)) ++ w) ++ o ≡ f ++ (h ++ ((e ++ g) ++ (m ++ (w ++ o))))
+joined f h e g m w o = simp append-assoc
 
 regroup : (h e g a : List ℕ) → h ++ ((e ++ g) ++ a) ≡ (h ++ e) ++ (g ++ a)
 regroup h e g a = simp append-assoc
 
-module _ (p : Plain) (z : Sized p) (fits : length (leafOf p) ≤ 94) where
-  image-is : imageOf p ≡ frontOf p ++ (leafHeadOf p ++ ((encodes (p .entries) ++ gap p) ++ after p))
-  unfolding imageOf coveredOf padded leafOf
-  image-is = joined (frontOf p) (leafHeadOf p) (encodes (p .entries)) (gap p) (p .maker) _
+module _ (l : Layout) (p : Plain) (out : List ℕ) (z : Sized p) (fits : length (leafOf p) ≤ room l) where
+  image-is : imageOf l p out ≡ frontOf p ++ (leafHeadOf p ++ ((encodes (p .entries) ++ gap l p) ++ after l p out))
+  unfolding imageOf boardOf coveredOf padded leafOf
+  image-is = joined (frontOf p) (leafHeadOf p) (encodes (p .entries)) (gap l p) (p .maker) _ _
 
-  front-of : Front p (imageOf p) (leafHeadOf p ++ ((encodes (p .entries) ++ gap p) ++ after p))
+  pub covered-length : length (coveredOf l p) ≡ checkedLength l
+  unfolding coveredOf frontOf
+  covered-length =
+      let g = geometry l in
+      simp length-append (omega (arith, front-length p (idCrc (frontWith 0 p)) z, padded-length (room l) (leafOf p) fits, z .maker))
+
+  pub board-length : length (boardOf l p) ≡ boardLength l
+  unfolding boardOf wordBytes
+  board-length = let g = geometry l in length-append (coveredOf l p) _ ∙ omega (arith, covered-length)
+
+  front-of : Front p (imageOf l p out) (leafHeadOf p ++ ((encodes (p .entries) ++ gap l p) ++ after l p out))
   unfolding frontOf
   front-of = rw image-is (front-says p _ _ z)
 
-  blocks-length : length (encodes (p .entries) ++ gap p) ≡ 94 - headerLength (rowOf (p .chip))
+  blocks-length : length (encodes (p .entries) ++ gap l p) ≡ room l - headerLength (rowOf (p .chip))
   blocks-length = simp (length-append, length-replicate) (omega (arith, leaf-length p, fits))
 
-  image-blocks : blocksFor (imageOf p) (newest (p .chip)) ≡ cut (rowOf (p .chip)) (length (p .entries)) (encodes (p .entries) ++ gap p)
+  image-blocks : blocksFor (imageOf l p out) (newest l (p .chip))
+      ≡ cut (rowOf (p .chip)) (length (p .entries)) (encodes (p .entries) ++ gap l p)
   image-blocks =
       let f = front-of in
-      let r : take (94 - headerLength (rowOf (p .chip))) (drop (headerLength (rowOf (p .chip))) (drop leafStart (imageOf p)))
-      ≡ encodes (p .entries) ++ gap p
-      = ap (λ (l : List ℕ). take (94 - headerLength (rowOf (p .chip))) (drop (headerLength (rowOf (p .chip))) l)) (f .behind)
-      ∙ ap (take (94 - headerLength (rowOf (p .chip)))) (drop-at (leafHeadOf p) _ _ (leaf-head-length p))
-      ∙ take-at (encodes (p .entries) ++ gap p) (after p) _ blocks-length in
-      let n : byteAt (drop leafStart (imageOf p)) (headerLength (rowOf (p .chip)) - 1) ≡ length (p .entries)
-      = ap (λ (l : List ℕ). byteAt l (headerLength (rowOf (p .chip)) - 1)) (f .behind) ∙ head-count p _ in
-      blocks-are (p .chip) (imageOf p) (f .leaf) ∙ ap₂ (cut (rowOf (p .chip))) n r
+      let r : take (room l - headerLength (rowOf (p .chip))) (drop (headerLength (rowOf (p .chip))) (drop leafStart (imageOf l p out)))
+      ≡ encodes (p .entries) ++ gap l p
+      = ap (λ (x : List ℕ). take (room l - headerLength (rowOf (p .chip))) (drop (headerLength (rowOf (p .chip))) x)) (f .behind)
+      ∙ ap (take (room l - headerLength (rowOf (p .chip)))) (drop-at (leafHeadOf p) _ _ (leaf-head-length p))
+      ∙ take-at (encodes (p .entries) ++ gap l p) (after l p out) _ blocks-length in
+      let n : byteAt (drop leafStart (imageOf l p out)) (headerLength (rowOf (p .chip)) - 1) ≡ length (p .entries)
+      = ap (λ (x : List ℕ). byteAt x (headerLength (rowOf (p .chip)) - 1)) (f .behind) ∙ head-count p _ in
+      blocks-are l (p .chip) (imageOf l p out) (f .leaf) ∙ ap₂ (cut (rowOf (p .chip))) n r
 
-  image-maker : take 2 (drop leavesEnd (imageOf p)) ≡ p .maker
+  image-maker : take 2 (drop (leavesEnd l) (imageOf l p out)) ≡ p .maker
   image-maker =
-      let l : length (leafHeadOf p ++ (encodes (p .entries) ++ gap p)) ≡ 94
+      let g = geometry l in
+      let at : leavesEnd l ≡ leafStart + room l = omega arith in
+      let all : length (leafHeadOf p ++ (encodes (p .entries) ++ gap l p)) ≡ room l
       = length-append (leafHeadOf p) _ ∙ omega (arith, leaf-head-length p, blocks-length, leaf-length p, fits) in
       ap (take 2)
-      (drop-behind (imageOf p) 94 ∙ ap (drop 94)
-      (front-of .behind ∙ sym (append-assoc (leafHeadOf p) (encodes (p .entries) ++ gap p) (after p)))
-      ∙ drop-at (leafHeadOf p ++ (encodes (p .entries) ++ gap p)) (after p) 94 l)
+      (ap (λ (n : ℕ). drop n (imageOf l p out)) at ∙ drop-behind (imageOf l p out) (room l) ∙ ap (drop (room l))
+      (front-of .behind ∙ sym (append-assoc (leafHeadOf p) (encodes (p .entries) ++ gap l p) (after l p out)))
+      ∙ drop-at (leafHeadOf p ++ (encodes (p .entries) ++ gap l p)) (after l p out) (room l) all)
       ∙ take-at (p .maker) _ 2 (z .maker)
 
   module _ (holds : cannotHold p ≡ false) where
@@ -222,15 +251,16 @@ module _ (p : Plain) (z : Sized p) (fits : length (leafOf p) ≤ 94) where
     holds-control = or-false (anyBad (rowOf (p .chip)) (p .entries)) _ holds .1
 
     -- the image of a record means that record
-    pub image-means : imageFrom (p .chip) (imageOf p) ≡ p
+    pub image-means : imageFrom l (p .chip) (imageOf l p out) ≡ p
     unfolding imageFrom
     image-means =
         let f = front-of in
-        let c = connection-is (p .chip) (imageOf p) (f .leaf) ∙ ap (λ (l : List ℕ). wordAt l 0) (f .behind) ∙ head-connection p _ in
-        let t = control-is (p .chip) (imageOf p) (f .leaf)
-        ∙ ap (λ (l : List ℕ). pick (eqb (rowOf (p .chip)) row21140) (byteAt l 2) 0) (f .behind) ∙ head-control p _ holds-control in
+        let c = connection-is l (p .chip) (imageOf l p out) (f .leaf) ∙ ap (λ (x : List ℕ). wordAt x 0) (f .behind) ∙ head-connection p _ in
+        let t = control-is l (p .chip) (imageOf l p out) (f .leaf)
+        ∙ ap (λ (x : List ℕ). pick (eqb (rowOf (p .chip)) row21140) (byteAt x 2) 0) (f .behind) ∙ head-control p _ holds-control in
         let m = image-maker in
-        let e = ap (map (entryFrom (rowOf (p .chip)))) image-blocks ∙ cut-encodes (rowOf (p .chip)) (p .entries) (gap p) holds-entries .0 in
+        let e = ap (map (entryFrom (rowOf (p .chip)))) image-blocks
+        ∙ cut-encodes (rowOf (p .chip)) (p .entries) (gap l p) holds-entries .0 in
         λ i. record {
           id = f .id i;
           lastId = f .lastId i;
@@ -245,83 +275,79 @@ module _ (p : Plain) (z : Sized p) (fits : length (leafOf p) ≤ 94) where
         }
 
     -- and is tidy
-    pub image-tidy : isTidy (p .chip) (imageOf p) ≡ true
+    pub image-tidy : isTidy l (p .chip) (imageOf l p out) ≡ true
     unfolding isTidy controllerCount
     image-tidy =
         let f = front-of in
-        let n : sizes (rowOf (p .chip)) (blocksFor (imageOf p) (newest (p .chip))) ≡ length (encodes (p .entries))
-        = ap (sizes (rowOf (p .chip))) image-blocks ∙ cut-encodes (rowOf (p .chip)) (p .entries) (gap p) holds-entries .1 in
-        let end : leafEnd (p .chip) (imageOf p) ≡ leafStart + length (leafOf p)
-        = omega (arith, end-is (p .chip) (imageOf p) (f .leaf), n, leaf-length p) in
-        let behind : drop leafStart (imageOf p) ≡ leafOf p ++ (gap p ++ after p)
-        = f .behind ∙ (unfold leafOf in regroup (leafHeadOf p) (encodes (p .entries)) (gap p) (after p)) in
-        let none : upToLeavesEnd (leafEnd (p .chip) (imageOf p)) (imageOf p) ≡ gap p
-        = ap (λ (k : ℕ). upToLeavesEnd k (imageOf p)) end ∙ up-to (p .chip) (imageOf p) (f .leaf) (length (leafOf p))
-        ∙ ap (λ (l : List ℕ). take (94 - length (leafOf p)) (drop (length (leafOf p)) l)) behind
-        ∙ ap (take (94 - length (leafOf p))) (drop-at (leafOf p) _ _ refl)
-        ∙ take-at (gap p) (after p) (94 - length (leafOf p)) (length-replicate (94 - length (leafOf p)) 0) in
-        let one = eq-eqb (byteAt (imageOf p) 19) 1 (f .count) in
-        let at = eq-eqb (leafAt (imageOf p) 0) leafStart (leaf-at (p .chip) (imageOf p) (f .leaf)) in
-        rw (none, zeros-all (94 - length (leafOf p))) (simp (one, at))
+        let n : sizes (rowOf (p .chip)) (blocksFor (imageOf l p out) (newest l (p .chip))) ≡ length (encodes (p .entries))
+        = ap (sizes (rowOf (p .chip))) image-blocks ∙ cut-encodes (rowOf (p .chip)) (p .entries) (gap l p) holds-entries .1 in
+        let end : leafEnd l (p .chip) (imageOf l p out) ≡ leafStart + length (leafOf p)
+        = omega (arith, end-is l (p .chip) (imageOf l p out) (f .leaf), n, leaf-length p) in
+        let behind : drop leafStart (imageOf l p out) ≡ leafOf p ++ (gap l p ++ after l p out)
+        = f .behind ∙ (unfold leafOf in regroup (leafHeadOf p) (encodes (p .entries)) (gap l p) (after l p out)) in
+        let none : upToLeavesEnd l (leafEnd l (p .chip) (imageOf l p out)) (imageOf l p out) ≡ gap l p
+        = ap (λ (k : ℕ). upToLeavesEnd l k (imageOf l p out)) end ∙ up-to l (p .chip) (imageOf l p out) (f .leaf) (length (leafOf p))
+        ∙ ap (λ (x : List ℕ). take (room l - length (leafOf p)) (drop (length (leafOf p)) x)) behind
+        ∙ ap (take (room l - length (leafOf p))) (drop-at (leafOf p) _ _ refl)
+        ∙ take-at (gap l p) (after l p out) (room l - length (leafOf p)) (length-replicate (room l - length (leafOf p)) 0) in
+        let one = eq-eqb (byteAt (imageOf l p out) 19) 1 (f .count) in
+        let at = eq-eqb (leafAt (imageOf l p out) 0) leafStart (leaf-at l (p .chip) (imageOf l p out) (f .leaf)) in
+        rw (none, zeros-all (room l - length (leafOf p))) (simp (one, at))
 
 -- ## What acceptance by the newest reader says of an image
 
-pub record Accepted (chip : ℕ) (s : List ℕ) : Type 0 where
-  pub long : length s ≡ imageLength
-  pub crc : wordAt s checkedLength ≡ sromCrc s
+pub record Accepted (l : Layout) (chip : ℕ) (s : List ℕ) : Type 0 where
+  pub known : Geometry l
+  pub long : length s ≡ imageLength l
+  pub crc : wordAt s (checkedLength l) ≡ sromCrc l s
   pub id : byteAt s 16 ≡ idCrc s
   pub reserved : byteAt s (reservedAt s) ≡ 0
   pub known-chip : isIn chip chips ≡ true
-  pub blocks : firstMet (blockCauses (rowOf chip) newestLevel (blocksFor s (newest chip))) ≡ 0
+  pub blocks : firstMet (blockCauses (rowOf chip) newestLevel (blocksFor s (newest l chip))) ≡ 0
 
 third : (p q r : Bool) → (p || q || r) ≡ false → r ≡ false
 third true q r e = true-false e
 third false true r e = true-false e
 third false false r e = e
 
-pub accepted : (chip : ℕ) (s : List ℕ) → firstMet (judgeCauses s (newest chip)) ≡ 0 → Accepted chip s
+pub accepted : (l : Layout) (chip : ℕ) (s : List ℕ) → firstMet (judgeCauses s (newest l chip)) ≡ 0 → Accepted l chip s
 unfolding judgeCauses headerCauses imageCauses argumentCauses badCount leafCausesFor newest
-accepted chip s h =
-    let j = both-accepted (headerCauses s (newest chip)) _ (header-numbered s (newest chip)) h in
-    let i = both-accepted (imageCauses s) _ (image-numbered s) (j .0) in
-    let g = both-accepted (argumentCauses s (newest chip)) _ (argument-numbered s (newest chip)) (i .1) in
+accepted l chip s h =
+    let j = both-accepted (headerCauses s (newest l chip)) _ (header-numbered s (newest l chip)) h in
+    let i = both-accepted (imageCauses l s) _ (image-numbered l s) (j .0) in
+    let g = both-accepted (argumentCauses s (newest l chip)) _ (argument-numbered s (newest l chip)) (i .1) in
     let a = none-here _ _ (lit< tt) (i .0) in
     let b = none-here _ _ (lit< tt) (a .1) in
     let c = none-here _ _ (lit< tt) (b .1) in
     let d = none-here _ _ (lit< tt) (c .1) in
-    let e = none-here _ _ (lit< tt) (d .1) in
+    let e = none-here _ _ (lit< tt) (both-accepted (magicCauses l s) _ (magic-numbered l s) (d .1) .1) in
     let m = none-here _ _ (lit< tt) (g .0) in
     let n = none-here _ _ (lit< tt) (m .1) in
     record {
+      known = geometry l;
       long = eqb-true _ _ (not-false _ (a .0));
       crc = eqb-true _ _ (not-false _ (c .0));
       id = eqb-true _ _ (not-false _ (d .0));
-      reserved = eqb-true _ _ (not-false _ (third (eqb (controllerCount s) 0) (ltb mostControllers (controllerCount s)) _ (e .0)));
+      reserved = eqb-true _ _ (not-false _ (third (eqb (controllerCount s) 0) (ltb (mostControllers l) (controllerCount s)) _ (e .0)));
       known-chip = not-false _ (n .0);
-      blocks = accepted-blocks (rowOf chip) newestLevel (blocksFor s (newest chip)) (j .1);
+      blocks = accepted-blocks (rowOf chip) newestLevel (blocksFor s (newest l chip)) (j .1);
     }
 
 -- ## What tidiness adds
 
-pub record Tidy (chip : ℕ) (s : List ℕ) : Type 0 where
+pub record Tidy (l : Layout) (chip : ℕ) (s : List ℕ) : Type 0 where
   pub one : byteAt s 19 ≡ 1
   pub leaf : wordAt s 27 ≡ leafStart
-  pub zero : allZero (upToLeavesEnd (leafEnd chip s) s) ≡ true
+  pub zero : allZero (upToLeavesEnd l (leafEnd l chip s) s) ≡ true
 
-pub tidy : (chip : ℕ) (s : List ℕ) → isTidy chip s ≡ true → Tidy chip s
+pub tidy : (l : Layout) (chip : ℕ) (s : List ℕ) → isTidy l chip s ≡ true → Tidy l chip s
 unfolding isTidy controllerCount leafAt
-tidy chip s h =
+tidy l chip s h =
     let a = and-true _ _ h in
     let b = and-true _ _ (a .1) in
     record { one = eqb-true _ _ (a .0); leaf = eqb-true _ _ (b .0); zero = b .1 }
 
 -- ## The image of what an image means
-
-two-left : (s : List ℕ) (n : ℕ) → length s ≡ suc (suc n) → drop n s ≡ byteAt s n ∷ byteAt s (suc n) ∷ []
-two-left s n l =
-    drop-cons s n 0 (omega arith)
-    ∙ ap (λ (r : List ℕ). byteAt s n ∷ r)
-    (drop-cons s (suc n) 0 (omega arith) ∙ ap (λ (r : List ℕ). byteAt s (suc n) ∷ r) (drop-of-length-le s {i = suc (suc n)} (omega arith)))
 
 -- a leaf's head, spelled out
 spell-head : (row : ℕ) (r : List ℕ) → byteAt r 0 < 256 → 4 ≤ length r
@@ -336,26 +362,26 @@ spell-head row r low h = rw (word-back (byteAt r 0) (byteAt r 1) low) (go (eqb r
     go true = sym (spelled 0 4 r (omega arith))
     go false = sym (spelled 0 3 r (omega arith))
 
-module _ (chip : ℕ) (s : List ℕ) (by : Bytes s) (a : Accepted chip s) (t : Tidy chip s) where
-  behind-length : length (drop leafStart s) ≡ 98
+module _ (l : Layout) (chip : ℕ) (s : List ℕ) (by : Bytes s) (a : Accepted l chip s) (t : Tidy l chip s) where
+  behind-length : length (drop leafStart s) ≡ imageLength l - leafStart
   behind-length = length-drop leafStart s ∙ omega (arith, a .long)
 
-  pub means-sized : Sized (imageFrom chip s)
+  pub means-sized : Sized (imageFrom l chip s)
   unfolding imageFrom
   means-sized = record {
     id = length-take-le 16 s (omega (arith, a .long));
     address = length-take-le 6 (drop 20 s) (omega (arith, length-drop 20 s, a .long));
-    maker = length-take-le 2 (drop 124 s) (omega (arith, length-drop 124 s, a .long));
+    maker = length-take-le 2 (drop (leavesEnd l) s) (omega (arith, length-drop (leavesEnd l) s, a .long));
   }
 
   -- the leaf's rest, and how many bytes of it the blocks take
   abbrev rest : List ℕ
-  rest = take (94 - headerLength (rowOf chip)) (drop (headerLength (rowOf chip)) (drop leafStart s))
+  rest = take (room l - headerLength (rowOf chip)) (drop (headerLength (rowOf chip)) (drop leafStart s))
 
   abbrev used : ℕ
-  used = sizes (rowOf chip) (blocksFor s (newest chip))
+  used = sizes (rowOf chip) (blocksFor s (newest l chip))
 
-  rest-length : length rest ≡ 94 - headerLength (rowOf chip)
+  rest-length : length rest ≡ room l - headerLength (rowOf chip)
   rest-length =
       let h = header-some (rowOf chip) in
       length-take-le _ _ (omega (arith, h .0, h .1, length-drop (headerLength (rowOf chip)) (drop leafStart s), behind-length))
@@ -363,98 +389,99 @@ module _ (chip : ℕ) (s : List ℕ) (by : Bytes s) (a : Accepted chip s) (t : T
   rest-encoded : Encoded (rowOf chip) (byteAt (drop leafStart s) (headerLength (rowOf chip) - 1)) rest
   rest-encoded =
       encodes-cut (rowOf chip) newestLevel _ rest
-      (bytes-take (94 - headerLength (rowOf chip)) (drop (headerLength (rowOf chip)) (drop leafStart s))
+      (bytes-take (room l - headerLength (rowOf chip)) (drop (headerLength (rowOf chip)) (drop leafStart s))
       (bytes-drop (headerLength (rowOf chip)) (drop leafStart s) (bytes-drop leafStart s by)))
-      (rw (← blocks-are chip s (t .leaf)) (a .blocks))
+      (rw (← blocks-are l chip s (t .leaf)) (a .blocks))
 
-  used-fits : headerLength (rowOf chip) + used ≤ 94
+  used-fits : headerLength (rowOf chip) + used ≤ room l
   used-fits =
-      let f : used ≤ length rest = rw (blocks-are chip s (t .leaf)) (rest-encoded .fits) in
+      let f : used ≤ length rest = rw (blocks-are l chip s (t .leaf)) (rest-encoded .fits) in
       let h = header-some (rowOf chip) in
       omega (arith, f, rest-length, h .1)
 
-  pub means-holds : cannotHold (imageFrom chip s) ≡ false
+  pub means-holds : cannotHold (imageFrom l chip s) ≡ false
   unfolding cannotHold strayControl imageFrom controlByte pick
   means-holds =
-      let g : anyBad (rowOf chip) (map (entryFrom (rowOf chip)) (blocksFor s (newest chip))) ≡ false
-      = rw (blocks-are chip s (t .leaf)) (rest-encoded .good) in
+      let g : anyBad (rowOf chip) (map (entryFrom (rowOf chip)) (blocksFor s (newest l chip))) ≡ false
+      = rw (blocks-are l chip s (t .leaf)) (rest-encoded .good) in
       rw g (go (eqb (rowOf chip) row21140))
     where
-      go : (t : Bool) → (not t && not (eqb (pick t (byteAt s (leafFor s (newest chip) + 2)) 0) 0)) ≡ false
+      go : (t : Bool) → (not t && not (eqb (pick t (byteAt s (leafFor s (newest l chip) + 2)) 0) 0)) ≡ false
       go true = refl
       go false = refl
 
-  means-encodes : encodes (imageFrom chip s .entries) ≡ take used (drop (headerLength (rowOf chip)) (drop leafStart s))
+  means-encodes : encodes (imageFrom l chip s .entries) ≡ take used (drop (headerLength (rowOf chip)) (drop leafStart s))
   unfolding imageFrom
   means-encodes =
-      let e : encodes (map (entryFrom (rowOf chip)) (blocksFor s (newest chip))) ≡ take used rest
-      = rw (blocks-are chip s (t .leaf)) (rest-encoded .back) in
-      e ∙ take-take used (94 - headerLength (rowOf chip)) _ (omega (arith, used-fits))
+      let e : encodes (map (entryFrom (rowOf chip)) (blocksFor s (newest l chip))) ≡ take used rest
+      = rw (blocks-are l chip s (t .leaf)) (rest-encoded .back) in
+      e ∙ take-take used (room l - headerLength (rowOf chip)) _ (omega (arith, used-fits))
 
-  means-count : length (imageFrom chip s .entries) ≡ byteAt (drop leafStart s) (headerLength (rowOf chip) - 1)
+  means-count : length (imageFrom l chip s .entries) ≡ byteAt (drop leafStart s) (headerLength (rowOf chip) - 1)
   unfolding imageFrom newest
-  means-count = entries-length (rowOf chip) (countFor s (newest chip)) (restFrom s (startFor s (newest chip))) ∙ count-is chip s (t .leaf)
+  means-count =
+      entries-length (rowOf chip) (countFor s (newest l chip)) (restFrom l s (startFor s (newest l chip))) ∙ count-is l chip s (t .leaf)
 
-  means-connection : imageFrom chip s .connection ≡ wordAt (drop leafStart s) 0
+  means-connection : imageFrom l chip s .connection ≡ wordAt (drop leafStart s) 0
   unfolding imageFrom
-  means-connection = connection-is chip s (t .leaf)
+  means-connection = connection-is l chip s (t .leaf)
 
-  means-control : imageFrom chip s .control ≡ pick (eqb (rowOf chip) row21140) (byteAt (drop leafStart s) 2) 0
+  means-control : imageFrom l chip s .control ≡ pick (eqb (rowOf chip) row21140) (byteAt (drop leafStart s) 2) 0
   unfolding imageFrom
-  means-control = control-is chip s (t .leaf)
+  means-control = control-is l chip s (t .leaf)
 
-  means-chip : imageFrom chip s .chip ≡ chip
+  means-chip : imageFrom l chip s .chip ≡ chip
   unfolding imageFrom
   means-chip = refl
 
-  means-head : leafHeadOf (imageFrom chip s) ≡ take (headerLength (rowOf chip)) (drop leafStart s)
+  means-head : leafHeadOf (imageFrom l chip s) ≡ take (headerLength (rowOf chip)) (drop leafStart s)
   unfolding leafHeadOf controlBytes
   means-head =
       (λ i. wordBytes (means-connection i) ++ (pick (eqb (rowOf (means-chip i)) row21140) (means-control i ∷ []) [] ++ means-count i ∷ []))
       ∙ spell-head (rowOf chip) (drop leafStart s) (bytes-drop leafStart s by 0) (omega (arith, behind-length))
 
-  means-leaf : leafOf (imageFrom chip s) ≡ take (headerLength (rowOf chip) + used) (drop leafStart s)
+  means-leaf : leafOf (imageFrom l chip s) ≡ take (headerLength (rowOf chip) + used) (drop leafStart s)
   unfolding leafOf
   means-leaf = ap₂ (λ (x y : List ℕ). x ++ y) means-head means-encodes ∙ sym (take-add (headerLength (rowOf chip)) used (drop leafStart s))
 
-  means-length : length (leafOf (imageFrom chip s)) ≡ headerLength (rowOf chip) + used
+  means-length : length (leafOf (imageFrom l chip s)) ≡ headerLength (rowOf chip) + used
   means-length = ap length means-leaf ∙ length-take-le _ _ (omega (arith, used-fits, behind-length))
 
-  pub means-fits : length (leafOf (imageFrom chip s)) ≤ 94
+  pub means-fits : length (leafOf (imageFrom l chip s)) ≤ room l
   means-fits = omega (arith, means-length, used-fits)
 
-  means-gap : take (94 - (headerLength (rowOf chip) + used)) (drop (headerLength (rowOf chip) + used) (drop leafStart s))
-      ≡ replicate (94 - (headerLength (rowOf chip) + used)) 0
+  means-gap : take (room l - (headerLength (rowOf chip) + used)) (drop (headerLength (rowOf chip) + used) (drop leafStart s))
+      ≡ replicate (room l - (headerLength (rowOf chip) + used)) 0
   means-gap =
-      let e : upToLeavesEnd (leafEnd chip s) s
-      ≡ take (94 - (headerLength (rowOf chip) + used)) (drop (headerLength (rowOf chip) + used) (drop leafStart s))
-      = ap (λ (n : ℕ). upToLeavesEnd n s) (end-is chip s (t .leaf)) ∙ up-to chip s (t .leaf) (headerLength (rowOf chip) + used) in
-      zeros _ _ (rw (← e) (t .zero)) (length-take-le (94 - (headerLength (rowOf chip) + used))
+      let e : upToLeavesEnd l (leafEnd l chip s) s
+      ≡ take (room l - (headerLength (rowOf chip) + used)) (drop (headerLength (rowOf chip) + used) (drop leafStart s))
+      = ap (λ (n : ℕ). upToLeavesEnd l n s) (end-is l chip s (t .leaf)) ∙ up-to l chip s (t .leaf) (headerLength (rowOf chip) + used) in
+      zeros _ _ (rw (← e) (t .zero)) (length-take-le (room l - (headerLength (rowOf chip) + used))
       (drop (headerLength (rowOf chip) + used) (drop leafStart s))
       (omega (arith, length-drop (headerLength (rowOf chip) + used) (drop leafStart s), behind-length, used-fits)))
 
-  means-padded : padded (leavesEnd - leafStart) (leafOf (imageFrom chip s)) ≡ take 94 (drop leafStart s)
+  means-padded : padded (room l) (leafOf (imageFrom l chip s)) ≡ take (room l) (drop leafStart s)
   unfolding padded
   means-padded =
-      let n : headerLength (rowOf chip) + used + (94 - (headerLength (rowOf chip) + used)) ≡ 94 = omega (arith, used-fits) in
-      ap₂ (λ (x : List ℕ) (k : ℕ). x ++ replicate (94 - k) 0) means-leaf means-length
-      ∙ ap (λ (l : List ℕ). take (headerLength (rowOf chip) + used) (drop leafStart s) ++ l) (sym means-gap)
-      ∙ sym (take-add (headerLength (rowOf chip) + used) (94 - (headerLength (rowOf chip) + used)) (drop leafStart s))
+      let n : headerLength (rowOf chip) + used + (room l - (headerLength (rowOf chip) + used)) ≡ room l = omega (arith, used-fits) in
+      ap₂ (λ (x : List ℕ) (k : ℕ). x ++ replicate (room l - k) 0) means-leaf means-length
+      ∙ ap (λ (x : List ℕ). take (headerLength (rowOf chip) + used) (drop leafStart s) ++ x) (sym means-gap)
+      ∙ sym (take-add (headerLength (rowOf chip) + used) (room l - (headerLength (rowOf chip) + used)) (drop leafStart s))
       ∙ ap (λ (k : ℕ). take k (drop leafStart s)) n
 
   -- the longest sheet
-  pub means-short : length (sheetOf (imageFrom chip s)) ≤ 398
+  pub means-short : length (sheetOf (imageFrom l chip s)) ≤ 398
   unfolding imageFrom newest
   means-short =
       let h = header-some (rowOf chip) in
-      let n = blocks-few (rowOf chip) (countFor s (newest chip)) (restFrom s (startFor s (newest chip))) in
-      let b = bodies-short (rowOf chip) (countFor s (newest chip)) (restFrom s (startFor s (newest chip))) in
-      let e = entries-length (rowOf chip) (countFor s (newest chip)) (restFrom s (startFor s (newest chip))) in
-      omega (arith, sheet-length (imageFrom chip s) means-sized, used-fits, h .0, n, b, e)
+      let n = blocks-few (rowOf chip) (countFor s (newest l chip)) (restFrom l s (startFor s (newest l chip))) in
+      let b = bodies-short (rowOf chip) (countFor s (newest l chip)) (restFrom l s (startFor s (newest l chip))) in
+      let e = entries-length (rowOf chip) (countFor s (newest l chip)) (restFrom l s (startFor s (newest l chip))) in
+      omega (arith, sheet-length (imageFrom l chip s) means-sized, used-fits, h .0, n, b, e)
 
   -- the ID CRC is that of the image
-  means-id : idCrc (frontWith 0 (imageFrom chip s)) ≡ byteAt s 16
-  unfolding idCrc idWords word wordAt frontWith imageFrom spell
+  means-id : idCrc (frontWith 0 (imageFrom l chip s)) ≡ byteAt s 16
+  unfolding idCrc crc8 crc8Words word wordAt frontWith imageFrom spell
   means-id = rw (a .id, spelled 0 16 s (omega (arith, a .long))) refl
 
   leaf-bytes : (byteAt s 27 ≡ 30) × (byteAt s 28 ≡ 0)
@@ -465,7 +492,7 @@ module _ (chip : ℕ) (s : List ℕ) (by : Bytes s) (a : Accepted chip s) (t : T
   unfolding reservedAt controllerCount
   reserved-byte = ap (λ (n : ℕ). byteAt s (26 + 3 * n)) (sym (t .one)) ∙ a .reserved
 
-  means-front : frontOf (imageFrom chip s) ≡ take leafStart s
+  means-front : frontOf (imageFrom l chip s) ≡ take leafStart s
   unfolding frontOf frontWith imageFrom spell wordBytes
   means-front =
       rw (
@@ -479,22 +506,37 @@ module _ (chip : ℕ) (s : List ℕ) (by : Bytes s) (a : Accepted chip s) (t : T
         reserved-byte,
       ) refl
 
-  means-covered : coveredOf (imageFrom chip s) ≡ take checkedLength s
+  means-covered : coveredOf l (imageFrom l chip s) ≡ take (checkedLength l) s
   unfolding coveredOf
   means-covered =
       ap₂ (λ (x y : List ℕ). x ++ y) means-front
-      (ap₂ (λ (x y : List ℕ). x ++ y) means-padded (means-maker ∙ ap (take 2) (drop-behind s 94)) ∙ sym (take-add 94 2 (drop leafStart s)))
-      ∙ sym (take-add leafStart 96 s)
+      (ap₂ (λ (x y : List ℕ). x ++ y) means-padded (means-maker ∙ ap (take 2) (ap (λ (n : ℕ). drop n s) at ∙ drop-behind s (room l)))
+      ∙ sym (take-add (room l) 2 (drop leafStart s)))
+      ∙ sym (take-add leafStart (room l + 2) s)
+      ∙ ap (λ (n : ℕ). take n s) end
     where
-      means-maker : imageFrom chip s .maker ≡ take 2 (drop 124 s)
+      means-maker : imageFrom l chip s .maker ≡ take 2 (drop (leavesEnd l) s)
       means-maker = unfold imageFrom in refl
 
-  -- the image of what it means is the image
-  pub image-back : imageOf (imageFrom chip s) ≡ s
+      at : leavesEnd l ≡ leafStart + room l
+      at = omega arith
+
+      end : leafStart + (room l + 2) ≡ checkedLength l
+      end = omega arith
+
+  means-board : boardOf l (imageFrom l chip s) ≡ take (boardLength l) s
+  unfolding boardOf spell
+  means-board =
+      let c : sromCrc l (coveredOf l (imageFrom l chip s)) ≡ byteAt s (checkedLength l) + 256 * byteAt s (checkedLength l + 1)
+      = ap (sromCrc l) means-covered ∙ srom-covered l s ∙ sym (a .crc) ∙ (unfold wordAt in refl) in
+      let two : take 2 (drop (checkedLength l) s) ≡ byteAt s (checkedLength l) ∷ byteAt s (checkedLength l + 1) ∷ []
+      = spelled (checkedLength l) 2 s (omega arith)
+      ∙ ap (λ (n : ℕ). byteAt s (checkedLength l) ∷ byteAt s n ∷ []) (sym (add-one (checkedLength l))) in
+      ap₂ (λ (x y : List ℕ). x ++ y) means-covered (ap wordBytes c ∙ word-back _ _ (by (checkedLength l)) ∙ sym two)
+      ∙ sym (take-add (checkedLength l) 2 s)
+      ∙ ap (λ (n : ℕ). take n s) (a .known .stored)
+
+  -- the image of what it means is the image, over an output that has the same bytes behind the board
+  pub image-back : (out : List ℕ) → drop (boardLength l) out ≡ drop (boardLength l) s → imageOf l (imageFrom l chip s) out ≡ s
   unfolding imageOf
-  image-back =
-      let c : sromCrc (coveredOf (imageFrom chip s)) ≡ byteAt s 126 + 256 * byteAt s 127
-      = ap sromCrc means-covered ∙ srom-covered s ∙ sym (a .crc) ∙ (unfold wordAt in refl) in
-      ap₂ (λ (x y : List ℕ). x ++ y) means-covered
-      (ap wordBytes c ∙ word-back _ _ (by 126) ∙ sym (two-left s 126 (a .long)))
-      ∙ take-append-drop checkedLength s
+  image-back out same = ap₂ (λ (x y : List ℕ). x ++ y) means-board same ∙ take-append-drop (boardLength l) s

@@ -1,4 +1,3 @@
-pub mod Basics
 pub mod Blocks
 pub mod Sheets
 pub mod Crcs

@@ -17,7 +17,7 @@ use Rattle.sheet.specs.Layout.{headLength}
 use Rattle.sheet.specs.Record.{Entry, Plain}
 use Rattle.sheet.specs.Sheet.{headOf, kindBytes, sizeBytes, bodyBytes, partsOf, sheetOf, countIn, totalIn, kindsIn, sizesIn, bodiesIn}
 use Rattle.sheet.specs.Sheet.{entriesFrom, sheetFrom, isSheet}
-use Rattle.sheet.proofs.Basics.{word-of, word-back, bytes-drop, spell, spelled, spelled-whole}
+use Rattle.rom.proofs.Lists.{word-of, word-back, bytes-drop, spell, spelled, spelled-whole}
 
 -- ## Records whose parts have their lengths
 

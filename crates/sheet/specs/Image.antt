@@ -1,11 +1,13 @@
--- The image of a record, what an image means for a chip, and when it is tidy (document 01, 'The sheet', 'The image').
+-- The image of a record, what an image means for a chip, and when it is tidy (document 01, 'The sheet', 'The image'; document
+-- 02, request 1).
 use Prim.Native.Nat.{ℕ, _+_, _-_}
 use mathlib.Core.List.{List, [], _∷_, _++_, map}
 use mathlib.Core.Bool.{Bool, _&&_, _||_}
 use lib.ListN.{length, take, drop}
 use lib.Dec.{eqb}
-use Rattle.rom.specs.Geometry.{leavesEnd, versionAt, addressAt, controllersAt}
-use Rattle.rom.specs.Bytes.{pick, byteAt, wordAt}
+use Rattle.rom.specs.declared.Layout.{Layout}
+use Rattle.rom.specs.Geometry.{boardLength, leavesEnd, versionAt, addressAt, controllersAt}
+use Rattle.rom.specs.Bytes.{pick, byteAt, wordAt, allZero}
 use Rattle.rom.specs.Store.{wordBytes}
 use Rattle.crc.specs.Crc.{sromCrc, idCrc}
 use Rattle.format.specs.Chips.{rowOf, row21140, kindCompact, kind21041, newestLevel}
@@ -14,7 +16,7 @@ use Rattle.header.specs.declared.Arguments.{Arguments}
 use Rattle.header.specs.Image.{controllerCount, leafAt, controlByte}
 use Rattle.header.specs.Header.{leafFor, startFor}
 use Rattle.reader.specs.Reading.{blocksFor}
-use Rattle.sheet.specs.Lists.{allZero, padded}
+use Rattle.sheet.specs.Lists.{padded}
 use Rattle.sheet.specs.Record.{Entry, Plain}
 
 -- ## The image of a record
@@ -58,18 +60,22 @@ leafHeadOf p = wordBytes (p .connection) ++ (controlBytes (rowOf (p .chip)) (p .
 unfoldable pub leafOf : Plain → List ℕ
 leafOf p = leafHeadOf p ++ encodes (p .entries)
 
--- bytes 0 to 125
-unfoldable pub coveredOf : Plain → List ℕ
-coveredOf p = frontOf p ++ (padded (leavesEnd - leafStart) (leafOf p) ++ p .maker)
+-- the bytes that the SROM CRC covers
+unfoldable pub coveredOf : Layout → Plain → List ℕ
+coveredOf l p = frontOf p ++ (padded (leavesEnd l - leafStart) (leafOf p) ++ p .maker)
 
-unfoldable pub imageOf : Plain → List ℕ
-imageOf p = coveredOf p ++ wordBytes (sromCrc (coveredOf p))
+unfoldable pub boardOf : Layout → Plain → List ℕ
+boardOf l p = coveredOf l p ++ wordBytes (sromCrc l (coveredOf l p))
+
+-- written over an output, whose bytes behind the board stay: they are a Magic Packet block's
+unfoldable pub imageOf : Layout → Plain → List ℕ → List ℕ
+imageOf l p out = boardOf l p ++ drop (boardLength l) out
 
 -- ## What an image means for a chip
 
 -- the newest level and controller 0
-unfoldable pub newest : ℕ → Arguments
-newest chip = record { chip = chip; controller = 0; level = newestLevel }
+unfoldable pub newest : Layout → ℕ → Arguments
+newest l chip = record { chip = chip; controller = 0; level = newestLevel; layout = l }
 
 -- how many bytes of a block stand before its body: length and type
 unfoldable pub openingLength : ℕ → List ℕ → ℕ
@@ -81,18 +87,18 @@ bodyOf row s = drop (openingLength row s) (take (sizeOf row s) s)
 abbrev pub entryFrom : ℕ → List ℕ → Entry
 entryFrom row s = record { kind = kindOf row s; body = bodyOf row s }
 
-unfoldable pub imageFrom : ℕ → List ℕ → Plain
-imageFrom chip image = record {
+unfoldable pub imageFrom : Layout → ℕ → List ℕ → Plain
+imageFrom l chip image = record {
   id = take 16 image;
   lastId = byteAt image 17;
   version = byteAt image versionAt;
   address = take 6 (drop addressAt image);
   device = byteAt image controllersAt;
   chip = chip;
-  connection = wordAt image (leafFor image (newest chip));
-  control = controlByte image (rowOf chip) (leafFor image (newest chip));
-  maker = take 2 (drop leavesEnd image);
-  entries = map (entryFrom (rowOf chip)) (blocksFor image (newest chip));
+  connection = wordAt image (leafFor image (newest l chip));
+  control = controlByte image (rowOf chip) (leafFor image (newest l chip));
+  maker = take 2 (drop (leavesEnd l) image);
+  entries = map (entryFrom (rowOf chip)) (blocksFor image (newest l chip));
 }
 
 -- ## Tidiness
@@ -103,14 +109,14 @@ sizes row [] = 0
 sizes row (s ∷ bs) = sizeOf row s + sizes row bs
 
 -- behind the leaf's last byte
-unfoldable pub leafEnd : ℕ → List ℕ → ℕ
-leafEnd chip image = startFor image (newest chip) + sizes (rowOf chip) (blocksFor image (newest chip))
+unfoldable pub leafEnd : Layout → ℕ → List ℕ → ℕ
+leafEnd l chip image = startFor image (newest l chip) + sizes (rowOf chip) (blocksFor image (newest l chip))
 
--- the bytes from a place up to 123
-unfoldable pub upToLeavesEnd : ℕ → List ℕ → List ℕ
-upToLeavesEnd at image = take (leavesEnd - at) (drop at image)
+-- the bytes from a place up to where leaves end
+unfoldable pub upToLeavesEnd : Layout → ℕ → List ℕ → List ℕ
+upToLeavesEnd l at image = take (leavesEnd l - at) (drop at image)
 
--- n = 1, leaf at 30, zeros after the leaf's last byte up to 123
-unfoldable pub isTidy : ℕ → List ℕ → Bool
-isTidy chip image =
-    eqb (controllerCount image) 1 && (eqb (leafAt image 0) leafStart && allZero (upToLeavesEnd (leafEnd chip image) image))
+-- n = 1, leaf at 30, zeros after the leaf's last byte up to where leaves end
+unfoldable pub isTidy : Layout → ℕ → List ℕ → Bool
+isTidy l chip image =
+    eqb (controllerCount image) 1 && (eqb (leafAt image 0) leafStart && allZero (upToLeavesEnd l (leafEnd l chip image) image))

@@ -1,17 +1,11 @@
--- Lists of bytes: sums, zeros, and a buffer with bytes at its front.
+-- Lists of bytes: sums, padding, and a buffer with bytes at its front.
 use Prim.Native.Nat.{ℕ, _+_, _-_}
 use mathlib.Core.List.{List, [], _∷_, _++_}
-use mathlib.Core.Bool.{Bool, true, _&&_}
 use lib.ListN.{length, drop, replicate}
-use lib.Dec.{eqb}
 
 unfoldable pub sum : List ℕ → ℕ
 sum [] = 0
 sum (x ∷ s) = x + sum s
-
-unfoldable pub allZero : List ℕ → Bool
-allZero [] = true
-allZero (x ∷ s) = eqb x 0 && allZero s
 
 -- the bytes, and zeros up to n of them
 unfoldable pub padded : ℕ → List ℕ → List ℕ

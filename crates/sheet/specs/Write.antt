@@ -4,6 +4,7 @@ use mathlib.Core.List.{List, [], _∷_, _++_}
 use mathlib.Core.Bool.{Bool, false, _&&_, _||_, not}
 use lib.ListN.{length}
 use lib.Dec.{eqb, leb, ltb}
+use Rattle.rom.specs.declared.Layout.{Layout}
 use Rattle.rom.specs.Geometry.{imageLength, leavesEnd}
 use Rattle.rom.specs.Bytes.{pick, byteAt, isIn}
 use Rattle.rom.specs.Refusal.{Cause, _⇒_, firstMet}
@@ -45,23 +46,23 @@ cannotHold p = anyBad (rowOf (p .chip)) (p .entries) || strayControl (rowOf (p .
 -- ## Why a sheet is refused
 
 -- from the record that it means
-unfoldable pub recordCauses : Plain → List Cause
-recordCauses p =
+unfoldable pub recordCauses : Layout → Plain → List Cause
+recordCauses l p =
     (7 ⇒ not (isIn (p .chip) chips))
     ∷ (25 ⇒ cannotHold p)
-    ∷ (26 ⇒ ltb leavesEnd (leafStart + length (leafOf p)))
+    ∷ (26 ⇒ ltb (leavesEnd l) (leafStart + length (leafOf p)))
     ∷ []
 
--- for an output of a length; last the newest reader's, 12 apart, for controller 0 of the image to be written
-unfoldable pub writeCauses : List ℕ → ℕ → List Cause
-writeCauses sheet out =
+-- for an output; last the newest reader's, 12 apart, for controller 0 of the image to be written
+unfoldable pub writeCauses : Layout → List ℕ → List ℕ → List Cause
+writeCauses l sheet out =
     (24 ⇒ not (isSheet sheet))
-    ∷ (1 ⇒ not (eqb out imageLength))
-    ∷ (recordCauses (sheetFrom sheet) ++ judgeCauses (imageOf (sheetFrom sheet)) (newest (sheetFrom sheet .chip)))
+    ∷ (1 ⇒ not (eqb (length out) (imageLength l)))
+    ∷ (recordCauses l (sheetFrom sheet) ++ judgeCauses (imageOf l (sheetFrom sheet) out) (newest l (sheetFrom sheet .chip)))
 
-unfoldable pub writeNumber : List ℕ → ℕ → ℕ
-writeNumber sheet out = firstMet (writeCauses sheet out)
+unfoldable pub writeNumber : Layout → List ℕ → List ℕ → ℕ
+writeNumber l sheet out = firstMet (writeCauses l sheet out)
 
 -- the output after the call: the new image, or unchanged on a refusal
-unfoldable pub written : List ℕ → List ℕ → List ℕ
-written sheet out = pick (eqb (writeNumber sheet (length out)) 0) (imageOf (sheetFrom sheet)) out
+unfoldable pub written : Layout → List ℕ → List ℕ → List ℕ
+written l sheet out = pick (eqb (writeNumber l sheet out) 0) (imageOf l (sheetFrom sheet) out) out

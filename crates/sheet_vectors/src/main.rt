@@ -1,8 +1,14 @@
 // Each sheet on standard input, written and made again: the image and the sheet in hexadecimal, a line each, or a refusal. A
-// record is the sheet's length (word) and its bytes.
+// record is the sheet's length (word), the layout (1 with a Magic Packet block, 0 without), the block that the output holds
+// before, and the sheet's bytes.
 use libc::STDIN_FILENO;
 use libc::STDOUT_FILENO;
 use rom::ByteOffset;
+use rom::Layout;
+use rom::store::put_bytes;
+
+// The bytes of a record before the sheet's.
+const HEAD: usize = 3 + rom::MAGIC_LENGTH;
 
 fn print_refusal(number: u8) {
     io::write_all(STDOUT_FILENO, b"refused ");
@@ -23,9 +29,9 @@ fn print_front(bytes: &[u8], length: usize) {
 }
 
 // The sheet of an image again.
-fn print_sheet(image: &[u8], chip: u16) {
+fn print_sheet(image: &[u8], chip: u16, layout: Layout) {
     let mut buffer = [0u8; 512];
-    let made = maker::make(image, chip, &mut buffer);
+    let made = maker::make(image, chip, layout, &mut buffer);
     if made.number != rom::refusal::ACCEPTED {
         print_refusal(made.number);
         return;
@@ -33,15 +39,17 @@ fn print_sheet(image: &[u8], chip: u16) {
     print_front(&buffer, made.length);
 }
 
-fn print_image(sheet: &[u8]) {
+fn print_image(sheet: &[u8], layout: Layout, block: &[u8]) {
     let mut image = [0u8; 128];
-    let number = writer::write(sheet, &mut image);
+    put_bytes(&mut image, ByteOffset(layout.magic_at()), block);
+    let number = writer::write(sheet, layout, &mut image);
     if number != rom::refusal::ACCEPTED {
         print_refusal(number);
         return;
     }
     print_line(&image);
-    print_sheet(&image, rom::word_at(sheet, ByteOffset(sheet::CHIP_AT)));
+    let chip = rom::word_at(sheet, ByteOffset(sheet::CHIP_AT));
+    print_sheet(&image, chip, layout);
 }
 
 // Fills the front of the room from the input; a sheet that it does not hold is left out.
@@ -52,24 +60,27 @@ fn read_front(room: &mut [u8], length: usize) {
     io::read_full(STDIN_FILENO, &mut room[..length]);
 }
 
-fn print_front_image(room: &[u8], length: usize) {
+fn print_front_image(room: &[u8], length: usize, layout: Layout, block: &[u8]) {
     if room.len() < length {
         return;
     }
-    print_image(&room[..length]);
+    print_image(&room[..length], layout, block);
 }
 
 // One record; false at the end of the input.
 fn next_record() -> bool {
-    let mut size = [0u8; 2];
-    let got = io::read_full(STDIN_FILENO, &mut size);
-    if got < 2 {
+    let mut head = [0u8; HEAD];
+    let got = io::read_full(STDIN_FILENO, &mut head);
+    if got < HEAD {
         return false;
     }
-    let length = rom::word_at(&size, ByteOffset(0)) as usize;
+    let length = rom::word_at(&head, ByteOffset(0)) as usize;
+    let layout = Layout {
+        magic: head[2] == 1,
+    };
     let mut room = io::buffer();
     read_front(&mut room, length);
-    print_front_image(&room, length);
+    print_front_image(&room, length, layout, &head[3..]);
     true
 }
 

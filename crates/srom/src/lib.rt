@@ -2,25 +2,29 @@
 use autosense::Walk;
 use autosense::Walked;
 use crc::Checksum;
+use magic::Magic;
+use magic::MagicAnswer;
 use maker::Made;
 use reader::Answer;
 use reader::Arguments;
 use reader::Part;
+use rom::Layout;
 ghost use mathlib.Core.Path.{_≡_};
 ghost use lib.ListN.{length};
-ghost use Rattle.crc.specs.Answer.{sromAnswer, idAnswer};
+ghost use Rattle.crc.specs.Answer.{sromAnswer, idAnswer, magicAnswer};
+ghost use Rattle.magic.specs.Answer.{magicReading, magicWriteNumber, magicWritten};
 ghost use Rattle.reader.specs.Reading.{readAnswer, readKinds, readOffsets, partFor};
 ghost use Rattle.walk.specs.Walk.{freshWalk, loadFor, lookFor, clearFor};
 ghost use Rattle.sheet.specs.Write.{writeNumber, written};
 ghost use Rattle.sheet.specs.Make.{made};
 ghost use Rattle.maker.specs.Answer.{madeFor};
 
-// The CRC that bytes 126 and 127 of an image should hold.
+// The CRC that the last word of an image's board should hold.
 #[no_mangle]
-pub extern "C" fn srom_crc(image: &[u8]) -> Checksum
-    ensures { λ r. ⌜ r ≡ sromAnswer (now (image .entry)) ⌝ }
+pub extern "C" fn srom_crc(image: &[u8], layout: Layout) -> Checksum
+    ensures { λ r. ⌜ r ≡ sromAnswer layout (now (image .entry)) ⌝ }
 {
-    crc::srom_crc(image)
+    crc::srom_crc(image, layout)
 }
 
 // The CRC that byte 16 of an image should hold.
@@ -29,6 +33,14 @@ pub extern "C" fn srom_id_crc(image: &[u8]) -> Checksum
     ensures { λ r. ⌜ r ≡ idAnswer (now (image .entry)) ⌝ }
 {
     crc::id_crc(image)
+}
+
+// The CRC that byte 126 of an image with a Magic Packet block should hold.
+#[no_mangle]
+pub extern "C" fn srom_magic_crc(image: &[u8]) -> Checksum
+    ensures { λ r. ⌜ r ≡ magicAnswer (now (image .entry)) ⌝ }
+{
+    crc::magic_crc(image)
 }
 
 // The media table of a controller's leaf, in two lent arrays.
@@ -86,20 +98,42 @@ pub extern "C" fn srom_clear(walk: Walk) -> Walked
     autosense::clear(walk)
 }
 
+// What the Magic Packet block of an image says.
+#[no_mangle]
+pub extern "C" fn srom_read_magic(image: &[u8]) -> MagicAnswer
+    ensures { λ r. ⌜ r ≡ magicReading (now (image .entry)) ⌝ }
+{
+    magic::read(image)
+}
+
+// Writes the Magic Packet block of an image.
+#[no_mangle]
+pub extern "C" fn srom_write_magic(magic: Magic, image: &mut [u8]) -> u8
+    ensures { λ r. ⌜ r ≡ magicWriteNumber (now (image .entry)) ⌝ }
+    ensures { λ r. ⌜ now (image .exit) ≡ magicWritten magic (now (image .entry)) ⌝ }
+{
+    magic::write(magic, image)
+}
+
 // Writes the image of a sheet.
 #[no_mangle]
-pub extern "C" fn srom_write(sheet: &[u8], image: &mut [u8]) -> u8
-    ensures { λ r. ⌜ r ≡ writeNumber (now (sheet .entry)) (length (now (image .entry))) ⌝ }
-    ensures { λ r. ⌜ now (image .exit) ≡ written (now (sheet .entry)) (now (image .entry)) ⌝ }
+pub extern "C" fn srom_write(sheet: &[u8], layout: Layout, image: &mut [u8]) -> u8
+    ensures { λ r. ⌜ r ≡ writeNumber layout (now (sheet .entry)) (now (image .entry)) ⌝ }
+    ensures { λ r. ⌜ now (image .exit) ≡ written layout (now (sheet .entry)) (now (image .entry)) ⌝ }
 {
-    writer::write(sheet, image)
+    writer::write(sheet, layout, image)
 }
 
 // Makes the sheet of a tidy image.
 #[no_mangle]
-pub extern "C" fn srom_make_sheet(image: &[u8], chip: u16, buffer: &mut [u8]) -> Made
-    ensures { λ r. ⌜ r ≡ madeFor (now (image .entry)) chip (length (now (buffer .entry))) ⌝ }
-    ensures { λ r. ⌜ now (buffer .exit) ≡ made (now (image .entry)) chip (now (buffer .entry)) ⌝ }
+pub extern "C" fn srom_make_sheet(
+    image: &[u8],
+    chip: u16,
+    layout: Layout,
+    buffer: &mut [u8],
+) -> Made
+    ensures { λ r. ⌜ r ≡ madeFor layout (now (image .entry)) chip (length (now (buffer .entry))) ⌝ }
+    ensures { λ r. ⌜ now (buffer .exit) ≡ made layout (now (image .entry)) chip (now (buffer .entry)) ⌝ }
 {
-    maker::make(image, chip, buffer)
+    maker::make(image, chip, layout, buffer)
 }

@@ -1,11 +1,10 @@
 -- What is answered of a refused header and of the leaf that an accepted one names, in the code's terms. Assumes nothing.
-use Prim.Native.Nat.{ℕ, _-_, _≤_, _<_}
+use Prim.Native.Nat.{ℕ, _≤_, _<_}
 use mathlib.Core.List.{List}
 use mathlib.Core.Path.{_≡_, _∙_}
 use mathlib.Core.Bool.{false}
-use lib.ListN.{take, drop}
 use borrow.Author.Tests.{ne-eqb, lt-ltb, le-ltb}
-use Rattle.rom.specs.Geometry.{none, leavesEnd}
+use Rattle.rom.specs.Geometry.{none}
 use Rattle.rom.specs.Bytes.{pick}
 use Rattle.rom.specs.Refusal.{firstMet}
 use Rattle.header.specs.declared.Arguments.{Arguments}
@@ -49,15 +48,14 @@ module _ (image : List ℕ) (a : Arguments) (h : Header) (eh : h ≡ headerFor i
     unfolding placeFor pick
     no-block-place k l = simp (accepted, le-ltb k (countFor image a) (rw count at l))
 
-    pub block-stands : (k : ℕ) → k < h .blocks
-        → placeFrom (h .row) (h .start) k (take (leavesEnd - h .start) (drop (h .start) image)) ≡ placeFor image a k
-    unfolding placeFor foundHeader restFrom pick
-    block-stands k l =
+    pub block-stands : (rest : List ℕ) → rest ≡ restFrom (a .layout) image (h .start) → (k : ℕ) → k < h .blocks
+        → placeFrom (h .row) (h .start) k rest ≡ placeFor image a k
+    unfolding placeFor foundHeader pick
+    block-stands rest e k l =
         simp (accepted, lt-ltb k (countFor image a) (rw count at l))
-        (rw found (stands-behind _ _ _ k (restFrom image (startFor image a)) _ (rw count at l)))
+        (rw (e, found) (stands-behind _ _ _ k (restFrom (a .layout) image (startFor image a)) _ (rw count at l)))
 
-    pub leaf-refused :
-        firstFrom (isRefused (h .row) (a .level)) 0 (cut (h .row) (h .blocks) (take (leavesEnd - h .start) (drop (h .start) image)))
-        ≡ refusedFor image a
-    unfolding refusedFor foundHeader restFrom pick
-    leaf-refused = rw (found, accepted)
+    pub leaf-refused : (rest : List ℕ) → rest ≡ restFrom (a .layout) image (h .start)
+        → firstFrom (isRefused (h .row) (a .level)) 0 (cut (h .row) (h .blocks) rest) ≡ refusedFor image a
+    unfolding refusedFor foundHeader pick
+    leaf-refused rest e = rw (e, found, accepted)

@@ -5,7 +5,7 @@ use reader::Arguments;
 use rom::NONE;
 use rom::refusal;
 ghost use mathlib.Core.Path.{_≡_};
-ghost use Prim.Native.Nat.{_≤_};
+ghost use Prim.Native.Nat.{_<_};
 ghost use lib.ListN.{drop};
 ghost use Rattle.leaf.specs.Leaf.{cut, firstFrom};
 ghost use Rattle.survey.specs.Inside.{placeFrom};
@@ -41,7 +41,7 @@ fn behind(rest: &[u8], size: usize) -> &[u8]
 
 // The place of a block of a leaf, of which the first stands at an offset.
 fn find(blocks: &[u8], start: usize, row: usize, number: u8) -> Place
-    requires { ⌜ start ≤ 124 ⌝ }
+    requires { ⌜ start < 1024 ⌝ }
     ensures { λ r. ⌜ r ≡ placeFrom row start number (now (blocks .entry)) ⌝ }
 {
     let mut rest = blocks;
@@ -73,7 +73,8 @@ pub fn block_place(image: &[u8], arguments: Arguments, number: u8) -> Place
         return nowhere();
     }
     let start = h.start;
-    find(&image[start..rom::LEAVES_END], start, h.row, number)
+    let rest = header::rest_from(image, arguments.layout, start);
+    find(rest, start, h.row, number)
 }
 
 // The number of the first block of a leaf that a reader of a level refuses.
@@ -103,11 +104,6 @@ pub fn refused_block(image: &[u8], arguments: Arguments) -> u8
     if h.number != refusal::ACCEPTED {
         return NONE;
     }
-    let start = h.start;
-    first_refused(
-        &image[start..rom::LEAVES_END],
-        h.blocks,
-        h.row,
-        arguments.level,
-    )
+    let rest = header::rest_from(image, arguments.layout, h.start);
+    first_refused(rest, h.blocks, h.row, arguments.level)
 }

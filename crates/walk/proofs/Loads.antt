@@ -8,6 +8,7 @@ use lib.Dec.{eqb, lit<}
 use lib.ListN.{length, drop, length-take, length-drop}
 use borrow.Author.Tests.{ne-eqb, leb-false, eqb-false}
 use Rattle.rom.specs.Geometry.{leavesEnd, none}
+use Rattle.rom.proofs.Layouts.{geometry}
 use Rattle.rom.specs.Bytes.{pick}
 use Rattle.rom.specs.Refusal.{firstMet}
 use Rattle.rom.proofs.First.{none-here, both-accepted}
@@ -16,10 +17,10 @@ use Rattle.format.specs.Block.{sizeOf}
 use Rattle.block.proofs.Seen.{fits}
 use Rattle.block.proofs.Whole.{size-positive}
 use Rattle.header.specs.declared.Arguments.{Arguments}
-use Rattle.header.specs.Image.{controllerCount, reservedAt, headerLength, blocksAt, badCount, restFrom, imageCauses, argumentCauses}
-use Rattle.header.specs.Image.{leafHeaderCauses}
+use Rattle.header.specs.Image.{controllerCount, reservedAt, headerLength, blocksAt, badCount, restFrom}
+use Rattle.header.specs.Image.{magicCauses, imageCauses, argumentCauses, leafHeaderCauses}
 use Rattle.header.specs.Header.{rowFor, leafFor, startFor, countFor, headerCauses}
-use Rattle.header.proofs.Headers.{image-numbered, argument-numbered, start-fits}
+use Rattle.header.proofs.Headers.{magic-numbered, image-numbered, argument-numbered, start-fits}
 use Rattle.leaf.specs.Leaf.{cut, blockCauses}
 use Rattle.leaf.proofs.Cuts.{first-accepted, accepted-blocks}
 use Rattle.reader.specs.declared.Reading.{Reading}
@@ -57,13 +58,13 @@ header-positive row = go (eqb row 1)
 pub start-late : (image : List ℕ) (a : Arguments) → firstMet (headerCauses image a) ≡ 0 → 33 ≤ startFor image a
 unfolding headerCauses imageCauses badCount leafHeaderCauses reservedAt blocksAt
 start-late image a e =
-    let b = both-accepted (imageCauses image) _ (image-numbered image) e in
+    let b = both-accepted (imageCauses (a .layout) image) _ (image-numbered (a .layout) image) e in
     let l = both-accepted (argumentCauses image a) _ (argument-numbered image a) (b .1) .1 in
     let i1 = none-here _ _ (lit< tt) (b .0) in
     let i2 = none-here _ _ (lit< tt) (i1 .1) in
     let i3 = none-here _ _ (lit< tt) (i2 .1) in
     let i4 = none-here _ _ (lit< tt) (i3 .1) in
-    let i5 = none-here _ _ (lit< tt) (i4 .1) in
+    let i5 = none-here _ _ (lit< tt) (both-accepted (magicCauses (a .layout) image) _ (magic-numbered (a .layout) image) (i4 .1) .1) in
     let some = eqb-false (controllerCount image) 0 (or-false _ _ (or-false _ _ (i5 .0) .0) .0) in
     let behind = leb-false (leafFor image a) (reservedAt image) (or-false _ _ (none-here _ _ (lit< tt) l .0) .0) in
     omega (arith, some, behind, header-positive (rowFor a))
@@ -72,13 +73,14 @@ pub few-blocks : (image : List ℕ) (a : Arguments) → firstMet (headerCauses i
     → countFor image a ≤ 91
 unfolding leafCausesFor restFrom
 few-blocks image a h l =
+    let g = geometry (a .layout) in
     omega (
       arith,
       start-late image a h,
       start-fits image a h,
-      blocks-few (rowFor a) (a .level) (countFor image a) (restFrom image (startFor image a))
+      blocks-few (rowFor a) (a .level) (countFor image a) (restFrom (a .layout) image (startFor image a))
           (accepted-blocks (rowFor a) (a .level) (blocksFor image a) l),
-      length-take (leavesEnd - startFor image a) (drop (startFor image a) image),
+      length-take (leavesEnd (a .layout) - startFor image a) (drop (startFor image a) image),
     )
 
 pub reading-few-blocks : {image : List ℕ} {a : Arguments} {r : Reading} → Accepted image a r → r .answer .blocks ≤ 91
@@ -105,8 +107,8 @@ module _ (w : Walk) (image : List ℕ) (a : Arguments) where
     unfolding loadFor walkedTo pick
     load-refused n = rw (load-number, ne-eqb (r .answer .number) 0 n)
 
-    pub load-done : (z : r .answer .number ≡ 0) (rows : Rows)
-        → rows ≡ rowsOf (r .row) (a .level) (cut (r .row) (r .answer .blocks) (restOf image r))
+    pub load-done : (z : r .answer .number ≡ 0) (rest : List ℕ) → rest ≡ restOf image a r → (rows : Rows)
+        → rows ≡ rowsOf (r .row) (a .level) (cut (r .row) (r .answer .blocks) rest)
         → record {
           number = r .answer .number;
           walk = record {
@@ -121,7 +123,7 @@ module _ (w : Walk) (image : List ℕ) (a : Arguments) where
             switches = 0;
           };
         } ≡ loadFor w image a
-    unfolding loadFor walkedTo pick loadedWalk acceptedReading acceptedAnswer restFrom
-    load-done z rows f =
+    unfolding loadFor walkedTo pick loadedWalk acceptedReading acceptedAnswer
+    load-done z rest q rows f =
         let c = accepted-judged image a r er z in
-        rw (load-number, z, f, c .known)
+        rw (load-number, z, f, q, c .known)

@@ -1,11 +1,13 @@
 // The walk over each record's list of calls on standard input, one line a call. A record is chip (word), controller, level,
-// image and the number of calls; a call is 0 for a load, 1 for a clear, or 2, a length and a report for a look.
+// layout (1 with a Magic Packet block, 0 without), image and the number of calls; a call is 0 for a load, 1 for a clear, or 2, a
+// length and a report for a look.
 use autosense::Walk;
 use autosense::Walked;
 use libc::STDIN_FILENO;
 use libc::STDOUT_FILENO;
 use reader::Arguments;
 use rom::ByteOffset;
+use rom::Layout;
 
 const LOAD: u8 = 0;
 
@@ -103,18 +105,21 @@ fn run(image: &[u8], arguments: Arguments, count: u8) {
 
 // One record; false at the end of the input.
 fn next_record() -> bool {
-    let mut record = [0u8; 133];
+    let mut record = [0u8; 134];
     let got = io::read_full(STDIN_FILENO, &mut record);
-    if got < 133 {
+    if got < 134 {
         return false;
     }
     let arguments = Arguments {
         chip: rom::word_at(&record, ByteOffset(0)),
         controller: record[2],
         level: record[3],
+        layout: Layout {
+            magic: record[4] == 1,
+        },
     };
-    let count = record[132];
-    run(&record[4..132], arguments, count);
+    let count = record[133];
+    run(&record[5..133], arguments, count);
     true
 }
 

@@ -1,9 +1,10 @@
 -- The definitions of readings, walks and sheets, opened together for what computes: `unfolding reading-computes` and so on.
 use Rattle.crc.specs.Crc.{sromCrc, idCrc}
+use Rattle.magic.proofs.Computes.{magic-computes}
 use Rattle.format.specs.Chips.{connections21041, connections21140, connections21142, connectionRows, isConnection}
 use Rattle.header.specs.Image.{versions, controllerCount, reservedAt, baseAddress, addressOf, leafAt, headerLength, controlByte, blocksAt}
 use Rattle.header.specs.Image.{blockCount}
-use Rattle.header.specs.Image.{restFrom, badCount, imageCauses, argumentCauses, leafHeaderCauses}
+use Rattle.header.specs.Image.{restFrom, badCount, magicCauses, imageCauses, argumentCauses, leafHeaderCauses}
 use Rattle.header.specs.Header.{headerCauses}
 use Rattle.leaf.proofs.Computes.{leaf-computes}
 use Rattle.reader.specs.Table.{tabled}
@@ -15,22 +16,23 @@ use Rattle.walk.proofs.Computes.{look-computes}
 use Rattle.older.specs.Calls.{call, seen, after, run}
 use Rattle.older.specs.Written.{answerOf, entries, tableIn}
 use Rattle.rom.specs.Store.{wordBytes}
-use Rattle.sheet.specs.Lists.{sum, allZero, padded, over}
+use Rattle.sheet.specs.Lists.{sum, padded, over}
 use Rattle.sheet.specs.Sheet.{headOf, kindBytes, sizeBytes, bodyBytes, partsOf, sheetOf, entriesFrom, sheetFrom, isSheet}
-use Rattle.sheet.specs.Image.{frontWith, frontOf, isWhole, openingOf, encodes, controlBytes, leafHeadOf, leafOf, coveredOf, imageOf, newest}
+use Rattle.sheet.specs.Image.{frontWith, frontOf, isWhole, openingOf, encodes, controlBytes, leafHeadOf, leafOf}
+use Rattle.sheet.specs.Image.{coveredOf, boardOf, imageOf, newest}
 use Rattle.sheet.specs.Image.{openingLength, bodyOf, imageFrom, sizes, leafEnd, upToLeavesEnd, isTidy}
 use Rattle.sheet.specs.Write.{isOtherFamily, isBadBody, isBad, anyBad, strayControl, cannotHold, recordCauses, writeCauses, writeNumber}
 use Rattle.sheet.specs.Write.{written}
 use Rattle.sheet.specs.Make.{makeCauses, makeNumber, makeLength, made}
-use Rattle.worked.specs.Cases.{unsealed, sealed, imageWith}
+use Rattle.worked.specs.Cases.{unsealed, sealed, behindBoard, imageWith}
 
 -- a whole image, and why it is refused
 unfoldable pub image-computes : Unit {0}
-unfolding leaf-computes sromCrc idCrc
+unfolding leaf-computes magic-computes sromCrc idCrc
     connections21041 connections21140 connections21142 connectionRows isConnection
     versions controllerCount reservedAt baseAddress addressOf leafAt headerLength controlByte blocksAt blockCount restFrom badCount
-    imageCauses argumentCauses leafHeaderCauses headerCauses leafCausesFor judgeCauses
-    unsealed sealed imageWith
+    magicCauses imageCauses argumentCauses leafHeaderCauses headerCauses leafCausesFor judgeCauses
+    unsealed sealed behindBoard imageWith
 image-computes = tt
 
 -- what is read of it
@@ -47,9 +49,9 @@ walk-computes = tt
 
 -- sheets and their images
 unfoldable pub sheet-computes : Unit {0}
-unfolding image-computes wordBytes sum allZero padded over
+unfolding image-computes wordBytes sum padded over
     headOf kindBytes sizeBytes bodyBytes partsOf sheetOf entriesFrom sheetFrom isSheet
-    frontWith frontOf isWhole openingOf encodes controlBytes leafHeadOf leafOf coveredOf imageOf
+    frontWith frontOf isWhole openingOf encodes controlBytes leafHeadOf leafOf coveredOf boardOf imageOf
     newest openingLength bodyOf imageFrom sizes leafEnd upToLeavesEnd isTidy
     isOtherFamily isBadBody isBad anyBad strayControl cannotHold recordCauses writeCauses writeNumber written
     makeCauses makeNumber makeLength made

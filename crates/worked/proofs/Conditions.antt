@@ -5,7 +5,7 @@ use mathlib.Core.Path.{_≡_, refl, ap, sym, _∙_}
 use mathlib.Core.List.{List, [], _∷_}
 use mathlib.Core.Bool.{false, true}
 use lib.Dec.{lit<}
-use Rattle.rom.specs.Geometry.{none}
+use Rattle.rom.specs.Geometry.{withoutMagic, none}
 use Rattle.rom.specs.Refusal.{firstMet}
 use Rattle.format.specs.Chips.{newestLevel}
 use Rattle.header.specs.declared.Arguments.{Arguments}
@@ -20,7 +20,7 @@ use Rattle.worked.specs.Claims.{RemovedDefault, RemovedUp}
 use Rattle.worked.proofs.Computes.{walk-computes}
 
 abbrev for21143 : Arguments
-for21143 = record { chip = 21143; controller = 0; level = newestLevel }
+for21143 = record { chip = 21143; controller = 0; level = newestLevel; layout = withoutMagic }
 
 abbrev after-load : After
 after-load = then false none 0 0
@@ -41,7 +41,7 @@ apart new old n o e = let z : _≡_ {A = ℕ} 1 0 = sym n ∙ ap secondSwitches 
 -- ## A removed default: a type 4 block with the Default bit, at level 4, and a report with no link
 
 unfoldable defaultImage : List ℕ
-defaultImage = imageWith (0x00 ∷ 0x08 ∷ 0x01 ∷ 0x88 ∷ 0x04 ∷ 0x03 ∷ 0x00 ∷ 0x00 ∷ 0x00 ∷ 0x00 ∷ 0x00 ∷ 0x40 ∷ [])
+defaultImage = imageWith withoutMagic (0x00 ∷ 0x08 ∷ 0x01 ∷ 0x88 ∷ 0x04 ∷ 0x03 ∷ 0x00 ∷ 0x00 ∷ 0x00 ∷ 0x00 ∷ 0x00 ∷ 0x40 ∷ [])
 
 unfoldable defaultCalls : List Call
 defaultCalls = load ∷ look (0 ∷ []) ∷ []
@@ -71,7 +71,7 @@ removed-default = record {
 -- ## A removed entry up: a type 2 block at level 2, and its link
 
 unfoldable upImage : List ℕ
-upImage = imageWith (0x00 ∷ 0x08 ∷ 0x01 ∷ 0x86 ∷ 0x02 ∷ 0x00 ∷ 0x01 ∷ 0x00 ∷ 0x02 ∷ 0x00 ∷ [])
+upImage = imageWith withoutMagic (0x00 ∷ 0x08 ∷ 0x01 ∷ 0x86 ∷ 0x02 ∷ 0x00 ∷ 0x01 ∷ 0x00 ∷ 0x02 ∷ 0x00 ∷ [])
 
 unfoldable upCalls : List Call
 upCalls = load ∷ look (1 ∷ []) ∷ []

@@ -1,10 +1,18 @@
 -- The cases compute. Assumes nothing.
 use mathlib.Core.Path.{refl}
 use Rattle.leaf.specs.Cases as leaves
-use Rattle.worked.specs.Cases.{argumentsOf, readWhole, worked, imageCases}
-use Rattle.worked.specs.Claims.{ImagesWorked}
-use Rattle.worked.proofs.Computes.{walk-computes}
+use Rattle.worked.specs.Cases.{argumentsOf, readWhole, worked, imageCases, magicImageCases, order, orderCases}
+use Rattle.worked.specs.Claims.{ImagesWorked, MagicImagesWorked, OrderWorked}
+use Rattle.worked.proofs.Computes.{walk-computes, sheet-computes}
 
 pub images-worked : ImagesWorked
 unfolding walk-computes leaves.paperCases argumentsOf readWhole worked imageCases
 images-worked = refl
+
+pub magic-images-worked : MagicImagesWorked
+unfolding walk-computes leaves.paperCases argumentsOf readWhole worked magicImageCases
+magic-images-worked = refl
+
+pub order-worked : OrderWorked
+unfolding sheet-computes order orderCases
+order-worked = refl

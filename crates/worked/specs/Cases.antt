@@ -2,47 +2,60 @@
 use Prim.Native.Nat.{ℕ, _/_, _%_}
 use mathlib.Core.List.{List, [], _∷_, _++_, map}
 use mathlib.Core.Bool.{Bool, true, false}
-use lib.ListN.{take, replicate}
+use lib.ListN.{take, replicate, set}
+use Rattle.rom.specs.declared.Layout.{Layout}
+use Rattle.rom.specs.Geometry.{withoutMagic, withMagic, imageLength, checkedLength, none}
+use Rattle.rom.specs.Bytes.{pick}
+use Rattle.rom.specs.Refusal.{firstMet}
 use Rattle.crc.specs.Crc.{sromCrc, idCrc}
+use Rattle.magic.specs.Cases.{wholeBlock, otherCrc, strayLast}
 use Rattle.header.specs.declared.Arguments.{Arguments}
 use Rattle.leaf.specs.Cases as leaves
-use Rattle.rom.specs.Geometry.{none}
+use Rattle.reader.specs.Reading.{judgeCauses}
+use Rattle.sheet.specs.Image.{newest}
 use Rattle.walk.specs.Walk.{freshWalk}
 use Rattle.older.specs.Calls.{Call, load, look, loaded, After, run}
 use Rattle.older.specs.Written.{Arrays, answerOf, tableIn}
 
 -- ## A whole image
 
--- bytes 0 to 125: an ID block of zeros with this CRC, version 4, one controller with address 0 and its leaf at 30, zeros elsewhere
-unfoldable pub unsealed : ℕ → List ℕ → List ℕ
-unsealed idCrc leaf =
-    take 126 (replicate 16 0 ++ (idCrc ∷ 0 ∷ 4 ∷ 1 ∷ replicate 6 0) ++ (0 ∷ 30 ∷ 0 ∷ 0 ∷ leaf) ++ replicate 96 0)
+-- the bytes before the SROM CRC: an ID block of zeros with this CRC, version 4, one controller with address 0 and its leaf at
+-- 30, zeros elsewhere
+unfoldable pub unsealed : Layout → ℕ → List ℕ → List ℕ
+unsealed l idCrc leaf =
+    take (checkedLength l)
+    (replicate 16 0 ++ (idCrc ∷ 0 ∷ 4 ∷ 1 ∷ replicate 6 0) ++ (0 ∷ 30 ∷ 0 ∷ 0 ∷ leaf) ++ replicate (imageLength l) 0)
 
 -- the SROM CRC behind them
-unfoldable pub sealed : List ℕ → List ℕ
-sealed bytes = let crc = sromCrc bytes in bytes ++ crc % 256 ∷ crc / 256 ∷ []
+unfoldable pub sealed : Layout → List ℕ → List ℕ
+sealed l bytes = let crc = sromCrc l bytes in bytes ++ crc % 256 ∷ crc / 256 ∷ []
 
--- an image with both CRCs
-unfoldable pub imageWith : List ℕ → List ℕ
-imageWith leaf = sealed (unsealed (idCrc (unsealed 0 leaf)) leaf)
+-- a Magic Packet block where there is one
+unfoldable pub behindBoard : Layout → List ℕ
+behindBoard l = pick (l .magic) wholeBlock []
 
--- ## A case: a chip, a level, a leaf, and what is read of it; and calls, with what is seen after each
+-- an image with its CRCs
+unfoldable pub imageWith : Layout → List ℕ → List ℕ
+imageWith l leaf = sealed l (unsealed l (idCrc (unsealed l 0 leaf)) leaf) ++ behindBoard l
+
+-- ## A case: a layout, a chip, a level, a leaf, and what is read of it; and calls, with what is seen after each
 
 pub record ImageCase : Type 0 where
+  pub layout : Layout
   pub reading : leaves.LeafCase
   pub calls : List Call
   pub seen : List After
 
-unfoldable pub argumentsOf : leaves.LeafCase → Arguments
-argumentsOf c = record { chip = c .chip; controller = 0; level = c .level }
+unfoldable pub argumentsOf : Layout → leaves.LeafCase → Arguments
+argumentsOf l c = record { chip = c .chip; controller = 0; level = c .level; layout = l }
 
 -- lent arrays, longer than any case needs
 abbrev room : Arrays
 room = record { kinds = replicate 8 0; offsets = replicate 8 0 }
 
-unfoldable pub readWhole : List ℕ → leaves.LeafCase → leaves.LeafCase
-readWhole image c =
-    let a = argumentsOf c in
+unfoldable pub readWhole : Layout → List ℕ → leaves.LeafCase → leaves.LeafCase
+readWhole l image c =
+    let a = argumentsOf l c in
     let answer = answerOf image a room in
     let table = tableIn image a room in
     record {
@@ -59,17 +72,23 @@ readWhole image c =
 
 unfoldable pub worked : ImageCase → ImageCase
 worked c =
-    let image = imageWith (c .reading .leaf) in
-    record { reading = readWhole image (c .reading); calls = c .calls; seen = run image (argumentsOf (c .reading)) freshWalk (c .calls) }
+    let image = imageWith (c .layout) (c .reading .leaf) in
+    record {
+      layout = c .layout;
+      reading = readWhole (c .layout) image (c .reading);
+      calls = c .calls;
+      seen = run image (argumentsOf (c .layout) (c .reading)) freshWalk (c .calls);
+    }
 
 -- ## The cases
 
-abbrev read : leaves.LeafCase → ImageCase
-read c = record { reading = c; calls = []; seen = [] }
+abbrev read : Layout → leaves.LeafCase → ImageCase
+read l c = record { layout = l; reading = c; calls = []; seen = [] }
 
 -- b under a connection type with this high byte, walked with reports 000, 101, 100
-abbrev walked : ℕ → List After → ImageCase
-walked high seen = record {
+abbrev walked : Layout → ℕ → List After → ImageCase
+walked l high seen = record {
+  layout = l;
   reading = leaves.caseB high;
   calls = load ∷ look (0 ∷ 0 ∷ 0 ∷ []) ∷ look (1 ∷ 0 ∷ 1 ∷ []) ∷ look (1 ∷ 0 ∷ 0 ∷ []) ∷ [];
   seen = seen;
@@ -79,11 +98,62 @@ walked high seen = record {
 abbrev pub then : Bool → ℕ → ℕ → ℕ → After
 then settled selected looks switches = record { number = 0; walk = loaded settled selected looks switches }
 
+-- k, and under 0x8800
+abbrev caseK : Layout → List ImageCase
+caseK l =
+    walked l 0x08 (then false none 0 0 ∷ then false none 1 0 ∷ then true 2 2 1 ∷ then true 0 3 2 ∷ [])
+    ∷ walked l 0x88 (then false none 0 0 ∷ then false none 1 0 ∷ then true 2 2 1 ∷ then true 2 3 1 ∷ [])
+    ∷ []
+
+-- a to k
 unfoldable pub imageCases : List ImageCase
-imageCases =
-    -- a to j
-    map read leaves.paperCases
-    -- k, and under 0x8800
-    ++ walked 0x08 (then false none 0 0 ∷ then false none 1 0 ∷ then true 2 2 1 ∷ then true 0 3 2 ∷ [])
-    ∷ walked 0x88 (then false none 0 0 ∷ then false none 1 0 ∷ then true 2 2 1 ∷ then true 2 3 1 ∷ [])
+imageCases = map (read withoutMagic) leaves.paperCases ++ caseK withoutMagic
+
+-- a and k before a Magic Packet block, and j, whose block may end at byte 91 there and no later
+unfoldable pub magicImageCases : List ImageCase
+magicImageCases =
+    map (read withMagic) (take 1 leaves.paperCases) ++ caseK withMagic
+    ++ read withMagic (leaves.accepted 21143 6 (0x00 ∷ 0x08 ∷ 0x01 ∷ 0xBA ∷ 0x09 ∷ replicate 57 0) 0 0 1 [] [])
+    ∷ read withMagic (leaves.refused 21143 6 (0x00 ∷ 0x08 ∷ 0x01 ∷ 0xBB ∷ 0x09 ∷ replicate 58 0) 13)
+    ∷ []
+
+-- ## The order of an image's causes, with a Magic Packet block
+
+-- case a's board with a byte set and its SROM CRC, a block behind it, and the newest reader's number
+pub record OrderCase : Type 0 where
+  pub at : ℕ
+  pub value : ℕ
+  pub block : List ℕ
+  pub number : ℕ
+
+abbrev leafA : List ℕ
+leafA = 0x00 ∷ 0x08 ∷ 0x01 ∷ 0x86 ∷ 0x02 ∷ 0x00 ∷ 0x01 ∷ 0x00 ∷ 0x02 ∷ 0x00 ∷ []
+
+unfoldable pub order : OrderCase → OrderCase
+order c =
+    let board = set (unsealed withMagic (idCrc (unsealed withMagic 0 leafA)) leafA) (c .at) (c .value) in
+    record {
+      at = c .at;
+      value = c .value;
+      block = c .block;
+      number = firstMet (judgeCauses (sealed withMagic board ++ c .block) (newest withMagic 21143));
+    }
+
+abbrev setTo : ℕ → ℕ → List ℕ → ℕ → OrderCase
+setTo at value block number = record { at = at; value = value; block = block; number = number }
+
+unfoldable pub orderCases : List OrderCase
+orderCases =
+    -- version 4; another CRC of the block, and a byte behind it
+    setTo 18 4 wholeBlock 0
+    ∷ setTo 18 4 otherCrc 29
+    ∷ setTo 18 4 strayLast 30
+    -- 2 and 4 come before 29
+    ∷ setTo 18 5 otherCrc 2
+    ∷ setTo 0 1 otherCrc 4
+    -- 29 and 30 before 5: 21 controllers, where 20 pass and leave no room for a leaf at 30
+    ∷ setTo 19 21 otherCrc 29
+    ∷ setTo 19 21 strayLast 30
+    ∷ setTo 19 21 wholeBlock 5
+    ∷ setTo 19 20 wholeBlock 10
     ∷ []

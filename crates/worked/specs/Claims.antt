@@ -4,6 +4,7 @@ use mathlib.Core.Path.{_≡_}
 use mathlib.Core.List.{List, [], _∷_, _++_, map}
 use mathlib.Core.Bool.{false}
 use lib.ListN.{replicate}
+use Rattle.rom.specs.Geometry.{withoutMagic, withMagic}
 use Rattle.rom.specs.Refusal.{firstMet}
 use Rattle.format.specs.Chips.{newestLevel}
 use Rattle.header.specs.declared.Arguments.{Arguments}
@@ -12,28 +13,46 @@ use Rattle.reader.specs.Reading.{judgeCauses, judgeAnswer}
 use Rattle.walk.specs.Walk.{freshWalk}
 use Rattle.older.specs.Calls.{Call, Down, run}
 use Rattle.older.specs.Levels.{removedBlock}
-use Rattle.sheet.specs.Write.{writeNumber}
+use Rattle.sheet.specs.Lists.{over}
+use Rattle.sheet.specs.Write.{writeNumber, written}
 use Rattle.sheet.specs.Make.{makeNumber, makeLength, made}
 use Rattle.worked.specs.Cases as whole
 use Rattle.worked.specs.Sheets as sheets
-use Rattle.worked.specs.Sheets.{changes, try, long, wide, case21143, untidy}
+use Rattle.worked.specs.Sheets.{changes, try, allOnes, long, wide, case21143, untidy, caseMagic, untidyMagic}
 
 -- cases a to k, as whole images: each is answered as it says
 abbrev pub ImagesWorked : Type 0
 ImagesWorked = map whole.worked whole.imageCases ≡ whole.imageCases
+
+-- and so are cases before a Magic Packet block
+abbrev pub MagicImagesWorked : Type 0
+MagicImagesWorked = map whole.worked whole.magicImageCases ≡ whole.magicImageCases
+
+-- 29 and 30 stand behind 4 and before 5
+abbrev pub OrderWorked : Type 0
+OrderWorked = map whole.order whole.orderCases ≡ whole.orderCases
 
 -- sheets and images are each other's, and changes of them are refused as they say
 abbrev pub SheetsWorked : Type 0
 SheetsWorked =
     (map sheets.runSheet sheets.sheetCases ≡ sheets.sheetCases)
     × (map try changes ≡ changes)
-    × (map (λ n. writeNumber (long n) 128) (91 ∷ 92 ∷ []) ≡ 0 ∷ 26 ∷ [])
-    × (map (λ n. writeNumber (wide n) 128) (89 ∷ 90 ∷ 126 ∷ 127 ∷ []) ≡ 0 ∷ 26 ∷ 26 ∷ 25 ∷ [])
-    × (writeNumber (case21143 .sheet) 127 ≡ 1)
-    × (makeLength (case21143 .image) 21143 57 ≡ 55)
-    × (made (case21143 .image) 21143 (replicate 57 1) ≡ case21143 .sheet ++ 1 ∷ 1 ∷ [])
-    × (makeNumber (case21143 .image) 21143 54 ≡ 12)
-    × (makeNumber untidy 21143 57 ≡ 27)
+    × (map (λ n. writeNumber withoutMagic (long n) allOnes) (91 ∷ 92 ∷ []) ≡ 0 ∷ 26 ∷ [])
+    × (map (λ n. writeNumber withoutMagic (wide n) allOnes) (89 ∷ 90 ∷ 126 ∷ 127 ∷ []) ≡ 0 ∷ 26 ∷ 26 ∷ 25 ∷ [])
+    × (writeNumber withoutMagic (case21143 .sheet) (0 ∷ allOnes) ≡ 1)
+    × (makeLength withoutMagic (case21143 .image) 21143 57 ≡ 55)
+    × (made withoutMagic (case21143 .image) 21143 (replicate 57 1) ≡ case21143 .sheet ++ 1 ∷ 1 ∷ [])
+    × (makeNumber withoutMagic (case21143 .image) 21143 54 ≡ 12)
+    × (makeNumber withoutMagic untidy 21143 57 ≡ 27)
+
+-- and before a Magic Packet block: it is kept, and judged; leaves end before it, and tidiness does
+abbrev pub MagicSheetsWorked : Type 0
+MagicSheetsWorked =
+    (written withMagic (caseMagic .sheet) (over allOnes (caseMagic .image)) ≡ caseMagic .image)
+    × (made withMagic (caseMagic .image) 21143 (replicate 55 1) ≡ caseMagic .sheet)
+    × (writeNumber withMagic (caseMagic .sheet) allOnes ≡ 29)
+    × (map (λ n. writeNumber withMagic (long n) (caseMagic .image)) (59 ∷ 60 ∷ []) ≡ 0 ∷ 26 ∷ [])
+    × (makeNumber withMagic untidyMagic 21143 57 ≡ 27)
 
 -- ## Without either condition of demand 3, two walks differ
 

@@ -3,6 +3,8 @@
 use Prim.Native.Nat.{ℕ, _*_}
 use mathlib.Core.List.{List, [], _∷_, _++_}
 use lib.ListN.{length, take, drop, replicate, set}
+use Rattle.rom.specs.Geometry.{withoutMagic, imageLength}
+use Rattle.magic.specs.Cases.{wholeBlock}
 use Rattle.sheet.specs.Write.{writeNumber, written}
 use Rattle.sheet.specs.Make.{made}
 
@@ -96,12 +98,16 @@ caseNoBlock = record {
       ++ (replicate 91 0 ++ 0 ∷ 0 ∷ 0x93 ∷ 0x94 ∷ []);
 }
 
+-- an image of ones
+unfoldable pub allOnes : List ℕ
+allOnes = replicate (imageLength withoutMagic) 1
+
 -- the sheet written over an image of ones, and the image made a sheet in a buffer of ones
 unfoldable pub runSheet : SheetCase → SheetCase
 runSheet c = record {
   chip = c .chip;
-  sheet = made (c .image) (c .chip) (replicate (length (c .sheet)) 1);
-  image = written (c .sheet) (replicate 128 1);
+  sheet = made withoutMagic (c .image) (c .chip) (replicate (length (c .sheet)) 1);
+  image = written withoutMagic (c .sheet) allOnes;
 }
 
 unfoldable pub sheetCases : List SheetCase
@@ -117,7 +123,12 @@ pub record Change : Type 0 where
   pub number : ℕ
 
 unfoldable pub try : Change → Change
-try c = record { sheet = c .sheet; at = c .at; value = c .value; number = writeNumber (set (c .sheet) (c .at) (c .value)) 128 }
+try c = record {
+  sheet = c .sheet;
+  at = c .at;
+  value = c .value;
+  number = writeNumber withoutMagic (set (c .sheet) (c .at) (c .value)) allOnes;
+}
 
 abbrev change : SheetCase → ℕ → ℕ → ℕ → Change
 change c at value number = record { sheet = c .sheet; at = at; value = value; number = number }
@@ -148,3 +159,25 @@ wide n = 1 ∷ n ∷ (drop 2 (take 34 (case21143 .sheet)) ++ 9 ∷ 0 ∷ n ∷ r
 -- case21143's image with byte 123 set, and its CRC
 unfoldable pub untidy : List ℕ
 untidy = set (take 124 (case21143 .image)) 123 1 ++ 0xCC ∷ 0xDD ∷ 0x06 ∷ 0xFF ∷ []
+
+-- ## Before a Magic Packet block
+
+-- case21143's sheet, and its image before a block that is read
+unfoldable pub caseMagic : SheetCase
+caseMagic = record {
+  chip = case21143 .chip;
+  sheet = case21143 .sheet;
+  image =
+      (0x11 ∷ 0x22 ∷ 0x33 ∷ 0x44 ∷ 0x55 ∷ 0x66 ∷ 0x77 ∷ 0x88 ∷ 0 ∷ 0 ∷ 0 ∷ 0 ∷ 0 ∷ 0 ∷ 0x99 ∷ 0xAA ∷ 0x55 ∷ 0xBB
+      ∷ 4 ∷ 1 ∷ 0 ∷ 0 ∷ 0xF8 ∷ 1 ∷ 2 ∷ 3 ∷ 5 ∷ 30 ∷ 0 ∷ 0
+      ∷ 0 ∷ 8 ∷ 3
+      ∷ 0x86 ∷ 2 ∷ 0 ∷ 1 ∷ 0 ∷ 2 ∷ 0
+      ∷ 0x81 ∷ 9
+      ∷ 0x88 ∷ 4 ∷ 3 ∷ 0x10 ∷ 0 ∷ 0x20 ∷ 0 ∷ 0x61 ∷ 0x40 ∷ [])
+      ++ (replicate 41 0 ++ 0xCC ∷ 0xDD ∷ 0x4B ∷ 0xE1 ∷ [])
+      ++ wholeBlock;
+}
+
+-- the same with byte 91 set, and its CRC
+unfoldable pub untidyMagic : List ℕ
+untidyMagic = set (take 92 (caseMagic .image)) 91 1 ++ (0xCC ∷ 0xDD ∷ 0x7C ∷ 0x8B ∷ wholeBlock)

@@ -1,22 +1,27 @@
 -- The image as it is built. Assumes nothing.
 use Prim.Native.Nat.{ℕ, zero, suc, _+_, _-_, _≤_}
 use mathlib.Core.Path.{_≡_, refl, sym, ap, ap₂, _∙_}
-use mathlib.Core.List.{List, [], _++_, append-assoc, append-nil}
+use mathlib.Core.List.{List, [], _∷_, _++_, append-assoc, append-nil}
 use native.Mathlib.Omega.{arith}
 use native.Mathlib.Nat.{sub-zero, zero-sub, suc-sub-suc}
 use lib.ListN.{length, take, drop, set, length-append, length-drop, length-replicate, drop-of-length-le}
-use lib.Seq.{take-at, take-all, drop-at, drop-append-le, set-at, length-take-le}
+use lib.Seq.{take-at, take-all, drop-at, drop-append-le, drop-append-add, set-at, length-take-le}
 use borrow.Rule.Slice.PartMut.{putMid}
-use Rattle.rom.specs.Geometry.{imageLength, checkedLength, leavesEnd, idCrcAt}
+use Rattle.rom.specs.declared.Layout.{Layout}
+use Rattle.rom.specs.Geometry.{imageLength, boardLength, checkedLength, leavesEnd, idCrcAt}
+use Rattle.rom.proofs.Layouts.{geometry, image-length}
+use Rattle.rom.proofs.Lists.{spell, spelled}
+use Rattle.rom.proofs.Put.{laid-end, laid-behind}
 use Rattle.rom.specs.Bytes.{pick}
 use Rattle.rom.specs.Store.{wordBytes, put, laid}
 use Rattle.crc.specs.Crc.{sromCrc, idCrc}
 use Rattle.sheet.specs.Lists.{padded}
 use Rattle.sheet.specs.Layout.{headLength}
 use Rattle.sheet.specs.Sheet.{sheetFrom}
-use Rattle.sheet.specs.Image.{leafStart, frontWith, frontOf, leafOf, coveredOf, imageOf}
+use Rattle.sheet.specs.Image.{leafStart, frontWith, frontOf, leafOf, coveredOf, boardOf, imageOf}
 use Rattle.sheet.proofs.Crcs.{srom-front}
-use Rattle.sheet.proofs.Basics.{padded-length, spell, spelled}
+use Rattle.sheet.proofs.Sheets.{Sized, from-sized}
+use Rattle.sheet.proofs.Images.{front-length, covered-length, board-length}
 use Rattle.writer.specs.Inside.{zeros, frameOf, withIdCrc, withSromCrc, Writable}
 use Rattle.writer.proofs.Checksums.{id-front}
 use Rattle.writer.proofs.Sheets.{has-head, leaf-fits}
@@ -33,23 +38,33 @@ zeros-length : (n : ℕ) → length (zeros n) ≡ n
 unfolding zeros
 zeros-length n = length-replicate n 0
 
+take-zeros : (k n : ℕ) → k ≤ n → take k (zeros n) ≡ zeros k
+unfolding zeros
+take-zeros zero n h = refl
+take-zeros (suc k) zero h = absurd (omega arith)
+take-zeros (suc k) (suc n) h = ap (λ (x : List ℕ). 0 ∷ x) (take-zeros k n (omega arith))
+
+-- bytes among zeros
+put-zeros : (n k : ℕ) (m : List ℕ) → k + length m ≤ n → put (zeros n) k m ≡ zeros k ++ (m ++ zeros (n - (k + length m)))
+unfolding put
+put-zeros n k m h = ap₂ (λ (a b : List ℕ). a ++ (m ++ b)) (take-zeros k n (omega arith)) (drop-zeros (k + length m) n)
+
 -- ## The frame
 
--- what stands before the leaf, and the maker's bytes, part by part
-pub frame-is : (s : List ℕ) → headLength ≤ length s → {blank id last address offset image : List ℕ} → blank ≡ zeros imageLength
+-- what stands before the leaf, part by part
+pub front-is : (s : List ℕ) → headLength ≤ length s → {blank id last address image : List ℕ} → blank ≡ zeros 128
     → id ≡ laid blank 0 (take 16 (drop 2 s)) → last ≡ laid id 17 (take 2 (drop 18 s))
     → address ≡ laid (set last 19 1) 20 (take 7 (drop 20 s))
-    → offset ≡ laid address 27 (wordBytes leafStart) → image ≡ laid offset leavesEnd (take 2 (drop 32 s))
-    → image ≡ frameOf (frontWith 0 (sheetFrom s)) (sheetFrom s .maker)
-unfolding pick put laid zeros frameOf frontWith sheetFrom spell wordBytes
-frame-is s h e₀ e₁ e₂ e₃ e₄ e₅ =
-    rw (e₅, e₄, e₃, e₂, e₁, e₀)
+    → image ≡ laid address 27 (wordBytes leafStart)
+    → image ≡ frontWith 0 (sheetFrom s) ++ zeros (128 - leafStart)
+unfolding pick put laid zeros frontWith sheetFrom spell wordBytes
+front-is s h e₀ e₁ e₂ e₃ e₄ =
+    rw (e₄, e₃, e₂, e₁, e₀)
     (rw (
       spelled 2 16 s (omega arith),
       spelled 18 2 s (omega arith),
       spelled 20 7 s (omega arith),
       spelled 20 6 s (omega arith),
-      spelled 32 2 s (omega arith),
     ) refl)
 
 module _ (s : List ℕ) (h : headLength ≤ length s) where
@@ -65,19 +80,37 @@ module _ (s : List ℕ) (h : headLength ≤ length s) where
   unfolding sheetFrom
   two = length-take-le 2 (drop 32 s) (omega (arith, length-drop 32 s))
 
-  front-length : (crc : ℕ) → length (frontWith crc (sheetFrom s)) ≡ leafStart
+  front-start : (crc : ℕ) → length (frontWith crc (sheetFrom s)) ≡ leafStart
   unfolding frontWith wordBytes
-  front-length crc = simp length-append (omega (arith, sixteen, six))
+  front-start crc = simp length-append (omega (arith, sixteen, six))
+
+  -- the maker's bytes where leaves end
+  pub frame-is : (l : Layout) (at : ℕ) {image framed : List ℕ} → image ≡ frontWith 0 (sheetFrom s) ++ zeros (128 - leafStart)
+      → at ≡ leavesEnd l → framed ≡ laid image at (take 2 (drop 32 s))
+      → framed ≡ frameOf l (frontWith 0 (sheetFrom s)) (sheetFrom s .maker)
+  unfolding frameOf sheetFrom
+  frame-is l at e ea ef =
+      let g = geometry l in
+      let n = image-length l in
+      let k = leavesEnd l - leafStart in
+      let m = take 2 (drop 32 s) in
+      let place : at ≡ leafStart + k = omega arith in
+      let left : (128 - leafStart) - (k + length m) ≡ imageLength l - checkedLength l = omega (arith, two) in
+      ef ∙ ap₂ (λ (x : List ℕ) (i : ℕ). laid x i m) e place
+      ∙ laid-behind (frontWith 0 (sheetFrom s)) (zeros (128 - leafStart)) m leafStart k (front-start 0)
+      (omega (arith, two, zeros-length (128 - leafStart)))
+      ∙ ap (λ (x : List ℕ). frontWith 0 (sheetFrom s) ++ x)
+      (put-zeros (128 - leafStart) k m (omega (arith, two)) ∙ ap (λ (i : ℕ). zeros k ++ (m ++ zeros i)) left)
 
   -- the ID CRC goes to its byte, which it does not cover
-  pub with-id-crc : withIdCrc (frameOf (frontWith 0 (sheetFrom s)) (sheetFrom s .maker))
-      ≡ frameOf (frontOf (sheetFrom s)) (sheetFrom s .maker)
+  pub with-id-crc : (l : Layout) → withIdCrc (frameOf l (frontWith 0 (sheetFrom s)) (sheetFrom s .maker))
+      ≡ frameOf l (frontOf (sheetFrom s)) (sheetFrom s .maker)
   unfolding withIdCrc frameOf frontOf frontWith
-  with-id-crc =
+  with-id-crc l =
       let p = sheetFrom s in
-      let rest = zeros (leavesEnd - leafStart) ++ (p .maker ++ zeros 2) in
-      ap (λ (v : ℕ). set (frontWith 0 p ++ rest) idCrcAt v) (id-front (frontWith 0 p) rest (omega (arith, front-length 0)))
-      ∙ ap (λ (l : List ℕ). set l idCrcAt (idCrc (frontWith 0 p))) (append-assoc (p .id) _ rest)
+      let rest = zeros (leavesEnd l - leafStart) ++ (p .maker ++ zeros (imageLength l - checkedLength l)) in
+      ap (λ (v : ℕ). set (frontWith 0 p ++ rest) idCrcAt v) (id-front (frontWith 0 p) rest (omega (arith, front-start 0)))
+      ∙ ap (λ (x : List ℕ). set x idCrcAt (idCrc (frontWith 0 p))) (append-assoc (p .id) _ rest)
       ∙ set-at (p .id) 0 _ (idCrc (frontWith 0 p)) 16 sixteen
       ∙ sym (append-assoc (p .id) _ rest)
 
@@ -116,51 +149,65 @@ placed f l after n m h fits all =
 
 -- ## The SROM CRC behind what it covers
 
-with-srom-crc : (c : List ℕ) → length c ≡ checkedLength → withSromCrc (c ++ zeros 2) ≡ c ++ wordBytes (sromCrc c)
+with-srom-crc : (l : Layout) (c : List ℕ) (z : ℕ) → length c ≡ checkedLength l → 2 ≤ z
+    → withSromCrc l (c ++ zeros z) ≡ (c ++ wordBytes (sromCrc l c)) ++ zeros (z - 2)
 unfolding withSromCrc put wordBytes
-with-srom-crc c h =
-    let v = sromCrc (c ++ zeros 2) in
-    let short : length (c ++ zeros 2) ≤ imageLength = simp length-append (omega (arith, zeros-length 2)) in
-    ap₂ (λ (a b : List ℕ). a ++ (wordBytes v ++ b)) (take-at c (zeros 2) checkedLength h)
-    (drop-of-length-le (c ++ zeros 2) {i = imageLength} short)
-    ∙ ap (λ (x : List ℕ). c ++ x) (append-nil (wordBytes v))
-    ∙ ap (λ (n : ℕ). c ++ wordBytes n) (srom-front c (zeros 2) (omega arith))
+with-srom-crc l c z h more =
+    let v = sromCrc l (c ++ zeros z) in
+    let behind : checkedLength l + 2 ≡ length c + 2 = omega arith in
+    ap₂ (λ (a b : List ℕ). a ++ (wordBytes v ++ b)) (take-at c (zeros z) (checkedLength l) h)
+    (ap (λ (n : ℕ). drop n (c ++ zeros z)) behind ∙ drop-append-add c (zeros z) 2 ∙ drop-zeros 2 z)
+    ∙ sym (append-assoc c (wordBytes v) (zeros (z - 2)))
+    ∙ ap (λ (n : ℕ). (c ++ wordBytes n) ++ zeros (z - 2)) (srom-front l c (zeros z) (omega arith))
 
-module _ (s : List ℕ) (w : Writable s) where
-  front-start : length (frontOf (sheetFrom s)) ≡ leafStart
-  unfolding frontOf
-  front-start = front-length s (has-head s (w .is)) (idCrc (frontWith 0 (sheetFrom s)))
+module _ (l : Layout) (s : List ℕ) (w : Writable l s) where
+  size : Sized (sheetFrom s)
+  size = from-sized s (w .is)
 
-  covered-length : length (coveredOf (sheetFrom s)) ≡ checkedLength
-  unfolding coveredOf
-  covered-length =
-      let p = sheetFrom s in
-      simp length-append (omega (
-        arith,
-        front-start,
-        padded-length (leavesEnd - leafStart) (leafOf p) (leaf-fits s w),
-        two s (has-head s (w .is)),
-      ))
-
-  framed : (f l m : List ℕ) (n : ℕ) → f ++ (padded n l ++ (m ++ zeros 2)) ≡ (f ++ (padded n l ++ m)) ++ zeros 2
-  framed f l m n = simp append-assoc
+  framed : (f p m : List ℕ) (n z : ℕ) → f ++ (padded n p ++ (m ++ zeros z)) ≡ (f ++ (padded n p ++ m)) ++ zeros z
+  framed f p m n z = simp append-assoc
 
   -- frame, ID CRC, leaf, SROM CRC
-  pub built-is : (image₀ image room image₂ : List ℕ) → image₀ ≡ frameOf (frontWith 0 (sheetFrom s)) (sheetFrom s .maker)
+  pub board-is : (image₀ image room image₂ : List ℕ) → image₀ ≡ frameOf l (frontWith 0 (sheetFrom s)) (sheetFrom s .maker)
       → image ≡ withIdCrc image₀
-      → room ≡ put (take (imageLength - leafStart) (drop leafStart image)) 0 (leafOf (sheetFrom s))
-      → image₂ ≡ withSromCrc (putMid leafStart (imageLength - leafStart) image room) → image₂ ≡ imageOf (sheetFrom s)
-  unfolding imageOf coveredOf frameOf
-  built-is image₀ image room image₂ e₀ e er e₂ =
+      → room ≡ put (take (128 - leafStart) (drop leafStart image)) 0 (leafOf (sheetFrom s))
+      → image₂ ≡ withSromCrc l (putMid leafStart (128 - leafStart) image room)
+      → image₂ ≡ boardOf l (sheetFrom s) ++ zeros (128 - boardLength l)
+  unfolding boardOf coveredOf frameOf frontOf
+  board-is image₀ image room image₂ e₀ e er e₂ =
+      let g = geometry l in
+      let n = image-length l in
       let p = sheetFrom s in
-      let i : image ≡ frameOf (frontOf p) (p .maker) = e ∙ ap withIdCrc e₀ ∙ with-id-crc s (has-head s (w .is)) in
-      let after : (leavesEnd - leafStart) + length (p .maker ++ zeros 2) ≤ imageLength - leafStart
-      = simp length-append (omega (arith, two s (has-head s (w .is)), zeros-length 2)) in
-      let whole : putMid leafStart (imageLength - leafStart) image room ≡ coveredOf p ++ zeros 2
-      = ap (putMid leafStart (imageLength - leafStart) image) er
-      ∙ ap (λ (x : List ℕ). putMid leafStart (imageLength - leafStart) x
-      (put (take (imageLength - leafStart) (drop leafStart x)) 0 (leafOf p))) i
-      ∙ placed (frontOf p) (leafOf p) (p .maker ++ zeros 2) (leavesEnd - leafStart) (imageLength - leafStart) front-start
-      (leaf-fits s w) after
-      ∙ framed (frontOf p) (leafOf p) (p .maker) (leavesEnd - leafStart) in
-      e₂ ∙ ap withSromCrc whole ∙ with-srom-crc (coveredOf p) covered-length
+      let z = imageLength l - checkedLength l in
+      let i : image ≡ frameOf l (frontOf p) (p .maker) = e ∙ ap withIdCrc e₀ ∙ with-id-crc s (has-head s (w .is)) l in
+      let after : (leavesEnd l - leafStart) + length (p .maker ++ zeros z) ≤ 128 - leafStart
+      = simp length-append (omega (arith, size .maker, zeros-length z)) in
+      let whole : putMid leafStart (128 - leafStart) image room ≡ coveredOf l p ++ zeros z
+      = ap (putMid leafStart (128 - leafStart) image) er
+      ∙ ap (λ (x : List ℕ). putMid leafStart (128 - leafStart) x (put (take (128 - leafStart) (drop leafStart x)) 0 (leafOf p))) i
+      ∙ placed (frontOf p) (leafOf p) (p .maker ++ zeros z) (leavesEnd l - leafStart) (128 - leafStart)
+      (front-length p (idCrc (frontWith 0 p)) size) (leaf-fits l s w) after
+      ∙ framed (frontOf p) (leafOf p) (p .maker) (leavesEnd l - leafStart) z in
+      let left : z - 2 ≡ 128 - boardLength l = omega arith in
+      e₂ ∙ ap (withSromCrc l) whole
+      ∙ with-srom-crc l (coveredOf l p) z (covered-length l p [] size (leaf-fits l s w)) (omega arith)
+      ∙ ap (λ (k : ℕ). boardOf l p ++ zeros k) left
+
+  -- and what the output has behind the board
+  pub built-is : (out image built : List ℕ) (end : ℕ) → length out ≡ imageLength l
+      → image ≡ boardOf l (sheetFrom s) ++ zeros (128 - boardLength l) → end ≡ boardLength l
+      → built ≡ laid image end (take (length out - end) (drop end out)) → built ≡ imageOf l (sheetFrom s) out
+  unfolding imageOf
+  built-is out image built end long ei ee eb =
+      let g = geometry l in
+      let n = image-length l in
+      let b = board-length l (sheetFrom s) out size (leaf-fits l s w) in
+      let tail : take (length out - end) (drop end out) ≡ drop (boardLength l) out
+      = ap (λ (k : ℕ). take (length out - k) (drop k out)) ee
+      ∙ take-all (length out - boardLength l) (drop (boardLength l) out) (simp length-drop (omega arith)) in
+      let all : boardLength l + length (drop (boardLength l) out) ≡ length (boardOf l (sheetFrom s) ++ zeros (128 - boardLength l))
+      = simp (length-append, length-drop) (omega (arith, b, zeros-length (128 - boardLength l))) in
+      eb ∙ ap₂ (λ (x : List ℕ) (k : ℕ). laid x k (take (length out - end) (drop end out))) ei ee
+      ∙ ap (laid (boardOf l (sheetFrom s) ++ zeros (128 - boardLength l)) (boardLength l)) tail
+      ∙ laid-end (boardOf l (sheetFrom s) ++ zeros (128 - boardLength l)) (drop (boardLength l) out) (boardLength l) all
+      ∙ ap (λ (x : List ℕ). x ++ drop (boardLength l) out) (take-at (boardOf l (sheetFrom s)) _ (boardLength l) b)

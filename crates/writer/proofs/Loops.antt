@@ -8,7 +8,6 @@ use native.Mathlib.Nat.{add-zero}
 use lib.ListN.{length, take, drop, length-append, take-append-drop}
 use lib.Seq.{length-take-le, drop-drop}
 use borrow.Author.Tests.{lt-ltb, le-ltb}
-use Rattle.rom.specs.Geometry.{leavesEnd}
 use Rattle.rom.specs.Bytes.{byteAt, wordAt}
 use Rattle.rom.specs.Store.{put}
 use Rattle.rom.specs.Refusal.{firstMet}
@@ -46,13 +45,13 @@ module _ {row start : ℕ} {all : List Entry} {n : ℕ} {ks ss bs : List ℕ} {a
   unfolding encodes
   at-end = sym (add-zero at) ∙ ap (λ (l : List Entry). at + length (encodes l)) (sym (entries-none n ks ss bs h)) ∙ i .size
 
-  pub sized-long : leavesEnd < at → 26 ≡ firstMet (entryCauses row start all)
+  pub sized-long : (limit : ℕ) → limit < at → 26 ≡ firstMet (entryCauses limit row start all)
   unfolding entryCauses
-  sized-long l = reached (skip none-bad (stop (lt-ltb leavesEnd (start + length (encodes all)) (omega (arith, at-end)))))
+  sized-long limit l = reached (skip none-bad (stop (lt-ltb limit (start + length (encodes all)) (omega (arith, at-end)))))
 
-  pub sized-none : at ≤ leavesEnd → 0 ≡ firstMet (entryCauses row start all)
+  pub sized-none : (limit : ℕ) → at ≤ limit → 0 ≡ firstMet (entryCauses limit row start all)
   unfolding entryCauses
-  sized-none l = reached (skip none-bad (skip (le-ltb leavesEnd (start + length (encodes all)) (omega (arith, at-end))) end))
+  sized-none limit l = reached (skip none-bad (skip (le-ltb limit (start + length (encodes all)) (omega (arith, at-end))) end))
 
 -- ## The leaf written
 
@@ -105,9 +104,9 @@ module _ (n : ℕ) (ks ss bs : List ℕ) (kind size : ℕ) (h : 0 < n) (p : Part
   rest-bad row = ap (anyBad row) (first n ks ss bs kind size h p ek es)
 
   module _ {row start : ℕ} {all : List Entry} {at : ℕ} (i : Sized row start all n ks ss bs at) where
-    pub sized-bad : true ≡ isBad row (entry kind (take size bs)) → 25 ≡ firstMet (entryCauses row start all)
+    pub sized-bad : (limit : ℕ) → true ≡ isBad row (entry kind (take size bs)) → 25 ≡ firstMet (entryCauses limit row start all)
     unfolding entryCauses
-    sized-bad b =
+    sized-bad limit b =
         reached (stop (sym (i .bad) ∙ rest-bad row
         ∙ ap (λ (t : Bool). t || anyBad row (entriesFrom (n - 1) (drop 2 ks) (drop 1 ss) (drop (byteAt ss 0) bs))) (sym b)))
 

@@ -7,6 +7,7 @@ use native.Mathlib.Omega.{arith}
 use lib.ListN.{length}
 use lib.Dec.{eqb, ltb}
 use borrow.Author.Tests.{eq-eqb, ne-eqb, lt-ltb, le-ltb}
+use Rattle.rom.specs.declared.Layout.{Layout}
 use Rattle.rom.specs.Geometry.{imageLength, leavesEnd}
 use Rattle.rom.specs.Bytes.{pick, isIn}
 use Rattle.rom.specs.Refusal.{firstMet}
@@ -31,7 +32,7 @@ use Rattle.writer.proofs.Sheets.{leaf-length}
 -- ## 7, 25 and 26
 
 -- what is no chip has the row behind the last
-module _ (p : Plain) (row : ℕ) (er : row ≡ rowOf (p .chip)) where
+module _ (l : Layout) (p : Plain) (row : ℕ) (er : row ≡ rowOf (p .chip)) where
   no-chip : 5 ≤ row → not (isIn (p .chip) chips) ≡ true
   unfolding rowOf chips
   no-chip h = rw (sym (in-place (p .chip) chips) ∙ le-ltb (rowOf (p .chip)) 5 (omega arith))
@@ -40,7 +41,7 @@ module _ (p : Plain) (row : ℕ) (er : row ≡ rowOf (p .chip)) where
   unfolding rowOf chips
   some-chip h = rw (sym (in-place (p .chip) chips) ∙ lt-ltb (rowOf (p .chip)) 5 (omega arith))
 
-  pub record-7 : 5 ≤ row → 7 ≡ firstMet (recordCauses p)
+  pub record-7 : 5 ≤ row → 7 ≡ firstMet (recordCauses l p)
   unfolding recordCauses
   record-7 h = reached (stop (no-chip h))
 
@@ -48,14 +49,15 @@ module _ (p : Plain) (row : ℕ) (er : row ≡ rowOf (p .chip)) where
     stray-is : strayControl (rowOf (p .chip)) (p .control) ≡ stray
     stray-is = ap (λ (r : ℕ). strayControl r (p .control)) (sym er) ∙ sym is
 
-    pub record-25 : stray ≡ true → 25 ≡ firstMet (recordCauses p)
+    pub record-25 : stray ≡ true → 25 ≡ firstMet (recordCauses l p)
     unfolding recordCauses cannotHold
     record-25 e =
         reached (skip (some-chip h) (stop (or-second (anyBad (rowOf (p .chip)) (p .entries)) (strayControl (rowOf (p .chip)) (p .control))
         (stray-is ∙ e))))
 
-    pub record-entries : (n m : ℕ) → stray ≡ false → m ≡ headerLength row → n ≡ firstMet (entryCauses row (leafStart + m) (p .entries))
-        → n ≡ firstMet (recordCauses p)
+    pub record-entries : (n m : ℕ) → stray ≡ false → m ≡ headerLength row
+        → n ≡ firstMet (entryCauses (leavesEnd l) row (leafStart + m) (p .entries))
+        → n ≡ firstMet (recordCauses l p)
     unfolding recordCauses entryCauses cannotHold firstMet
     record-entries n m e em en =
         let held : anyBad row (p .entries) ≡ (anyBad (rowOf (p .chip)) (p .entries) || strayControl (rowOf (p .chip)) (p .control))
@@ -63,7 +65,7 @@ module _ (p : Plain) (row : ℕ) (er : row ≡ rowOf (p .chip)) where
         ∙ sym (or-none (anyBad (rowOf (p .chip)) (p .entries)) (strayControl (rowOf (p .chip)) (p .control)) (stray-is ∙ e)) in
         let k : m ≡ headerLength (rowOf (p .chip)) = em ∙ ap headerLength er in
         let ends : (leafStart + m) + length (encodes (p .entries)) ≡ leafStart + length (leafOf p) = omega (arith, leaf-length p) in
-        en ∙ ap₂ (λ (b : Bool) (j : ℕ). pick b 25 (pick (ltb leavesEnd j) 26 0)) held ends
+        en ∙ ap₂ (λ (b : Bool) (j : ℕ). pick b 25 (pick (ltb (leavesEnd l) j) 26 0)) held ends
         ∙ sym (pick-false (not (isIn (p .chip) chips)) _ _ (some-chip h))
       where
         or-none : (a b : Bool) → b ≡ false → (a || b) ≡ a
@@ -72,39 +74,42 @@ module _ (p : Plain) (row : ℕ) (er : row ≡ rowOf (p .chip)) where
 
 -- ## The whole list
 
-module _ (s : List ℕ) (k : ℕ) where
-  pub write-24 : isSheet s ≡ false → 24 ≡ writeNumber s k
-  write-24 h = sym (writer-order s k .0 h)
+module _ (l : Layout) (s out : List ℕ) where
+  pub write-24 : isSheet s ≡ false → 24 ≡ writeNumber l s out
+  write-24 h = sym (writer-order l s out .0 h)
 
   module _ (is : isSheet s ≡ true) where
-    pub write-1 : (k ≡ imageLength → ⊥) → 1 ≡ writeNumber s k
-    write-1 h = sym (writer-order s k .1 is .0 h)
+    pub write-1 : (length out ≡ imageLength l → ⊥) → 1 ≡ writeNumber l s out
+    write-1 h = sym (writer-order l s out .1 is .0 h)
 
-    module _ (e : k ≡ imageLength) where
-      later : writeNumber s k ≡ firstMet (recordCauses (sheetFrom s) ++ judgeCauses (imageOf (sheetFrom s)) (newest (sheetFrom s .chip)))
+    module _ (e : length out ≡ imageLength l) where
+      later : writeNumber l s out
+          ≡ firstMet (recordCauses l (sheetFrom s) ++ judgeCauses (imageOf l (sheetFrom s) out) (newest l (sheetFrom s .chip)))
       unfolding writeNumber writeCauses firstMet
-      later = pick-false (not (isSheet s)) _ _ (ap not is) ∙ pick-false (not (eqb k imageLength)) _ _ (ap not (eq-eqb k imageLength e))
+      later =
+          pick-false (not (isSheet s)) _ _ (ap not is)
+          ∙ pick-false (not (eqb (length out) (imageLength l))) _ _ (ap not (eq-eqb (length out) (imageLength l) e))
 
-      pub write-record : (n : ℕ) → n ≡ firstMet (recordCauses (sheetFrom s)) → (n ≡ 0 → ⊥) → n ≡ writeNumber s k
-      write-record n en z = sym (later ∙ after-refused (recordCauses (sheetFrom s)) _ n z (sym en))
+      pub write-record : (n : ℕ) → n ≡ firstMet (recordCauses l (sheetFrom s)) → (n ≡ 0 → ⊥) → n ≡ writeNumber l s out
+      write-record n en z = sym (later ∙ after-refused (recordCauses l (sheetFrom s)) _ n z (sym en))
 
-      pub write-judged : (chip : ℕ) (image : List ℕ) (r : Answer) → firstMet (recordCauses (sheetFrom s)) ≡ 0
-          → image ≡ imageOf (sheetFrom s)
-          → chip ≡ sheetFrom s .chip → r ≡ judgeAnswer image (newest chip) → r .number ≡ writeNumber s k
+      pub write-judged : (chip : ℕ) (image : List ℕ) (r : Answer) → firstMet (recordCauses l (sheetFrom s)) ≡ 0
+          → image ≡ imageOf l (sheetFrom s) out
+          → chip ≡ sheetFrom s .chip → r ≡ judgeAnswer image (newest l chip) → r .number ≡ writeNumber l s out
       unfolding judgeAnswer
       write-judged chip image r z ei ec er =
-          ap (λ (x : Answer). x .number) er ∙ answer-number (firstMet (judgeCauses image (newest chip))) image (newest chip)
-          ∙ ap₂ (λ (l : List ℕ) (c : ℕ). firstMet (judgeCauses l (newest c))) ei ec
-          ∙ sym (later ∙ after-accepted (recordCauses (sheetFrom s)) _ (record-numbered (sheetFrom s)) z)
+          ap (λ (x : Answer). x .number) er ∙ answer-number (firstMet (judgeCauses image (newest l chip))) image (newest l chip)
+          ∙ ap₂ (λ (x : List ℕ) (c : ℕ). firstMet (judgeCauses x (newest l c))) ei ec
+          ∙ sym (later ∙ after-accepted (recordCauses l (sheetFrom s)) _ (record-numbered l (sheetFrom s)) z)
 
 -- ## What a call leaves
 
-pub kept : (s out : List ℕ) (n : ℕ) → n ≡ writeNumber s (length out) → (n ≡ 0 → ⊥)
-    → (n ≡ writeNumber s (length out)) × (out ≡ written s out)
+pub kept : (l : Layout) (s out : List ℕ) (n : ℕ) → n ≡ writeNumber l s out → (n ≡ 0 → ⊥)
+    → (n ≡ writeNumber l s out) × (out ≡ written l s out)
 unfolding written
-kept s out n e z = (e, sym (pick-false _ _ _ (ne-eqb (writeNumber s (length out)) 0 (λ h. z (e ∙ h)))))
+kept l s out n e z = (e, sym (pick-false _ _ _ (ne-eqb (writeNumber l s out) 0 (λ h. z (e ∙ h)))))
 
-pub copied : (s out image : List ℕ) → 0 ≡ writeNumber s (length out) → image ≡ imageOf (sheetFrom s)
-    → (0 ≡ writeNumber s (length out)) × (image ≡ written s out)
+pub copied : (l : Layout) (s out image : List ℕ) → 0 ≡ writeNumber l s out → image ≡ imageOf l (sheetFrom s) out
+    → (0 ≡ writeNumber l s out) × (image ≡ written l s out)
 unfolding written
-copied s out image e i = (e, i ∙ sym (pick-true _ _ _ (eq-eqb (writeNumber s (length out)) 0 (sym e))))
+copied l s out image e i = (e, i ∙ sym (pick-true _ _ _ (eq-eqb (writeNumber l s out) 0 (sym e))))

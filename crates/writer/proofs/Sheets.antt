@@ -7,7 +7,9 @@ use native.Mathlib.Omega.{arith}
 use lib.ListN.{length, take, drop, set, length-append, length-drop}
 use lib.Dec.{eqb, lit<}
 use borrow.Author.Tests.{eq-eqb, ne-eqb, ltb-false}
+use Rattle.rom.specs.declared.Layout.{Layout}
 use Rattle.rom.specs.Geometry.{leavesEnd}
+use Rattle.rom.proofs.Layouts.{geometry}
 use Rattle.rom.specs.Bytes.{pick, byteAt, wordAt}
 use Rattle.rom.specs.Store.{wordBytes, put, laid}
 use Rattle.rom.proofs.First.{none-here}
@@ -23,7 +25,7 @@ use Rattle.sheet.specs.Sheet.{countIn, totalIn, kindsIn, sizesIn, bodiesIn, ent
 use Rattle.sheet.specs.Image.{leafStart, encodes, controlBytes, leafHeadOf, leafOf}
 use Rattle.sheet.specs.Write.{anyBad, cannotHold, recordCauses}
 use Rattle.sheet.proofs.Sheets.{long, total}
-use Rattle.writer.specs.Inside.{Parts, Holds, Writable}
+use Rattle.writer.specs.Inside.{Parts, Holds, Writable, Roomy}
 use Rattle.writer.proofs.Parts.{entries-length}
 
 -- ## Length and sum
@@ -130,28 +132,36 @@ module _ (s : List ℕ) (row c : ℕ) (room room₁ : List ℕ) (er : row ≡ ro
 
 -- ## What 7, 25 and 26 leave
 
-module _ (s : List ℕ) (w : Writable s) where
-  held : (anyBad (rowOf (sheetFrom s .chip)) (sheetFrom s .entries) ≡ false) × (leafStart + length (leafOf (sheetFrom s)) ≤ leavesEnd)
+module _ (l : Layout) (s : List ℕ) (w : Writable l s) where
+  pub held : (anyBad (rowOf (sheetFrom s .chip)) (sheetFrom s .entries) ≡ false) × (leafStart + length (leafOf (sheetFrom s)) ≤ leavesEnd l)
   unfolding recordCauses cannotHold
   held =
       let a = none-here _ _ (lit< tt) (w .number) in
       let b = none-here _ _ (lit< tt) (a .1) in
       let c = none-here _ _ (lit< tt) (b .1) in (
         or-false (anyBad (rowOf (sheetFrom s .chip)) (sheetFrom s .entries)) _ (b .0) .0,
-        ltb-false leavesEnd (leafStart + length (leafOf (sheetFrom s))) (c .0),
+        ltb-false (leavesEnd l) (leafStart + length (leafOf (sheetFrom s))) (c .0),
       )
 
-  pub leaf-fits : length (leafOf (sheetFrom s)) ≤ leavesEnd - leafStart
+  pub leaf-fits : length (leafOf (sheetFrom s)) ≤ leavesEnd l - leafStart
   leaf-fits = omega (arith, held .1)
 
-  -- the leaf behind its head, in the terms of the code
+  -- the rest of an image from the leaf's place on has room
+  pub leaf-roomy : (room : List ℕ) → leavesEnd l ≤ leafStart + length room → Roomy s room
+  leaf-roomy room h =
+      let g = geometry l in
+      record { is = w .is; good = held .0; head = omega arith; fits = omega (arith, leaf-fits) }
+
+-- ## The leaf behind its head, in the terms of the code
+
+module _ (s room : List ℕ) (w : Roomy s room) where
   module _ (n : ℕ) (en : n ≡ byteAt s 0) (row m : ℕ) (er : row ≡ rowOf (sheetFrom s .chip)) (em : m ≡ headerLength row)
-      (room room₁ : List ℕ) (size : leavesEnd ≤ leafStart + length room) (is : room₁ ≡ put room 0 (leafHeadOf (sheetFrom s))) where
+      (room₁ : List ℕ) (is : room₁ ≡ put room 0 (leafHeadOf (sheetFrom s))) where
     at-head : m ≡ length (leafHeadOf (sheetFrom s))
     at-head = em ∙ ap headerLength er ∙ sym (head-length (sheetFrom s))
 
     leaf-room : m + length (encodes (sheetFrom s .entries)) ≤ length room
-    leaf-room = omega (arith, held .1, at-head, head-length (sheetFrom s), leaf-length (sheetFrom s))
+    leaf-room = omega (arith, w .fits, at-head, head-length (sheetFrom s), leaf-length (sheetFrom s))
 
     pub leaf-holds : Holds room₁ m n (take (length s - headLength) (drop headLength s))
         (take (length s - (headLength + 2 * n)) (drop (headLength + 2 * n) s))
@@ -163,7 +173,7 @@ module _ (s : List ℕ) (w : Writable s) where
         record {
           parts = cut-parts s (w .is) n en;
           row = rowOf (sheetFrom s .chip);
-          good = ap (anyBad (rowOf (sheetFrom s .chip))) es ∙ held .0;
+          good = ap (anyBad (rowOf (sheetFrom s .chip))) es ∙ w .good;
           fits = rw es (omega (arith, leaf-room, same));
         }
 

@@ -5,15 +5,17 @@ use mathlib.Core.List.{List, [], _∷_, _++_}
 use mathlib.Core.Bool.{true, false}
 use lib.ListN.{length, take, set, replicate}
 use lib.Dec.{ltb}
+use Rattle.rom.specs.declared.Layout.{Layout}
 use Rattle.rom.specs.Geometry.{imageLength, leavesEnd, checkedLength, idCrcAt}
 use Rattle.rom.specs.Bytes.{pick}
 use Rattle.rom.specs.Store.{wordBytes, put}
 use Rattle.rom.specs.Refusal.{Cause, _⇒_, firstMet}
+use Rattle.format.specs.Chips.{rowOf}
 use Rattle.crc.specs.Crc.{sromCrc, idCrc}
 use Rattle.sheet.specs.Lists.{sum}
 use Rattle.sheet.specs.Record.{Entry}
 use Rattle.sheet.specs.Sheet.{entriesFrom, sheetFrom, isSheet}
-use Rattle.sheet.specs.Image.{leafStart, isWhole, encodes}
+use Rattle.sheet.specs.Image.{leafStart, isWhole, encodes, leafOf}
 use Rattle.sheet.specs.Write.{isBad, anyBad, recordCauses}
 
 -- ## Bytes laid into others
@@ -22,15 +24,15 @@ unfoldable pub zeros : ℕ → List ℕ
 zeros n = replicate n 0
 
 -- an image with these bytes before the place of its leaf, these maker's bytes, and zeros elsewhere
-unfoldable pub frameOf : List ℕ → List ℕ → List ℕ
-frameOf front maker = front ++ (zeros (leavesEnd - leafStart) ++ (maker ++ zeros (imageLength - checkedLength)))
+unfoldable pub frameOf : Layout → List ℕ → List ℕ → List ℕ
+frameOf l front maker = front ++ (zeros (leavesEnd l - leafStart) ++ (maker ++ zeros (imageLength l - checkedLength l)))
 
 -- an image with its ID CRC, and with its SROM CRC
 unfoldable pub withIdCrc : List ℕ → List ℕ
 withIdCrc image = set image idCrcAt (idCrc image)
 
-unfoldable pub withSromCrc : List ℕ → List ℕ
-withSromCrc image = put image checkedLength (wordBytes (sromCrc image))
+unfoldable pub withSromCrc : Layout → List ℕ → List ℕ
+withSromCrc l image = put image (checkedLength l) (wordBytes (sromCrc l image))
 
 -- ## Entries
 
@@ -47,9 +49,9 @@ pub record Parts (n : ℕ) (kinds sizes bodies : List ℕ) : Type 0 where
   pub forSizes : n ≤ length sizes
   pub forBodies : sum (take n sizes) ≤ length bodies
 
--- 25 and 26 of entries whose first block stands at `start`
-unfoldable pub entryCauses : ℕ → ℕ → List Entry → List Cause
-entryCauses row start es = (25 ⇒ anyBad row es) ∷ (26 ⇒ ltb leavesEnd (start + length (encodes es))) ∷ []
+-- 25 and 26 of entries whose first block stands at `start`, where leaves end before `limit`
+unfoldable pub entryCauses : ℕ → ℕ → ℕ → List Entry → List Cause
+entryCauses limit row start es = (25 ⇒ anyBad row es) ∷ (26 ⇒ ltb limit (start + length (encodes es))) ∷ []
 
 -- ## What an inner function may take for granted
 
@@ -67,6 +69,13 @@ pub record Holds (room : List ℕ) (to n : ℕ) (kinds sizes bodies : List ℕ) 
   pub fits : to + length (encodes (entriesFrom n kinds sizes bodies)) ≤ length room
 
 -- a sheet that passes 24, 7, 25 and 26
-pub record Writable (s : List ℕ) : Type 0 where
+pub record Writable (l : Layout) (s : List ℕ) : Type 0 where
   pub is : isSheet s ≡ true
-  pub number : firstMet (recordCauses (sheetFrom s)) ≡ 0
+  pub number : firstMet (recordCauses l (sheetFrom s)) ≡ 0
+
+-- a sheet whose entries images of its chip hold, and room for its leaf
+pub record Roomy (s room : List ℕ) : Type 0 where
+  pub is : isSheet s ≡ true
+  pub good : anyBad (rowOf (sheetFrom s .chip)) (sheetFrom s .entries) ≡ false
+  pub head : 4 ≤ length room
+  pub fits : length (leafOf (sheetFrom s)) ≤ length room

@@ -89,8 +89,10 @@ pub(crate) fn opening_size(kind: u16) -> usize
     2
 }
 
-// Refusals 25 and 26 of so many entries, from their kinds, body sizes and bodies, where the first block stands at `start`.
+// Refusals 25 and 26 of so many entries, from their kinds, body sizes and bodies, where the first block stands at `start` and
+// leaves end before `limit`.
 pub(crate) fn refusal_of(
+    limit: usize,
     row: usize,
     start: usize,
     count: usize,
@@ -101,7 +103,7 @@ pub(crate) fn refusal_of(
     requires { ⌜ Parts count (now kinds) (now sizes) (now bodies) ⌝ }
     requires { ⌜ (count < 256) × (start < 256) ⌝ }
     ensures { λ r. ⌜ r ≡
-        firstMet (entryCauses row start (entriesFrom count (now (kinds .entry)) (now (sizes .entry)) (now (bodies .entry)))) ⌝ }
+        firstMet (entryCauses limit row start (entriesFrom count (now (kinds .entry)) (now (sizes .entry)) (now (bodies .entry)))) ⌝ }
 {
     let mut left = count;
     let mut kind_rest = kinds;
@@ -121,7 +123,7 @@ pub(crate) fn refusal_of(
         body_rest = &body_rest[size..];
         left -= 1;
     }
-    if rom::LEAVES_END < end {
+    if limit < end {
         return refusal::LEAF_END;
     }
     refusal::ACCEPTED

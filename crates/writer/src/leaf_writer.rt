@@ -8,13 +8,12 @@ use rom::store::put_word;
 ghost use mathlib.Core.Path.{_≡_};
 ghost use Prim.Native.Nat.{_+_, _≤_};
 ghost use lib.ListN.{length};
-ghost use Rattle.rom.specs.Geometry.{leavesEnd};
 ghost use Rattle.rom.specs.Store.{put};
 ghost use Rattle.format.specs.Chips.{rowOf};
 ghost use Rattle.sheet.specs.Layout.{headLength};
 ghost use Rattle.sheet.specs.Sheet.{entriesFrom, sheetFrom};
-ghost use Rattle.sheet.specs.Image.{leafStart, openingOf, encode, encodes, leafHeadOf, leafOf};
-ghost use Rattle.writer.specs.Inside.{entry, Fits, Holds, Writable};
+ghost use Rattle.sheet.specs.Image.{openingOf, encode, encodes, leafHeadOf, leafOf};
+ghost use Rattle.writer.specs.Inside.{entry, Fits, Holds, Roomy};
 
 // The first byte of an extended block with an empty body: the top bit, and the length of the type byte alone.
 const EMPTY_EXTENDED: u8 = 129;
@@ -92,7 +91,7 @@ fn put_head(room: &mut [u8], row: usize, sheet: &[u8])
 
 // Writes the leaf of a sheet at the room's front.
 pub(crate) fn put_leaf(room: &mut [u8], sheet: &[u8])
-    requires { ⌜ Writable (now sheet) × (leavesEnd ≤ leafStart + length (now room)) ⌝ }
+    requires { ⌜ Roomy (now sheet) (now room) ⌝ }
     ensures { λ _. ⌜ now (room .exit) ≡ put (now (room .entry)) 0 (leafOf (sheetFrom (now (sheet .entry)))) ⌝ }
 {
     let row = chip::row_of(rom::word_at(sheet, ByteOffset(sheet::CHIP_AT)));

@@ -5,18 +5,20 @@ mod leaf_writer;
 use block::chip;
 use reader::Arguments;
 use rom::ByteOffset;
+use rom::Layout;
 use rom::refusal;
 use rom::store::put_bytes;
 use rom::store::put_word;
 ghost use mathlib.Core.Path.{_≡_};
 ghost use mathlib.Core.Bool.{true};
-ghost use Prim.Native.Nat.{_≤_};
+ghost use mathlib.Core.List.{_++_};
+ghost use Prim.Native.Nat.{_-_, _≤_};
 ghost use lib.ListN.{length};
-ghost use Rattle.rom.specs.Geometry.{imageLength};
+ghost use Rattle.rom.specs.Geometry.{imageLength, boardLength};
 ghost use Rattle.rom.specs.Refusal.{firstMet};
 ghost use Rattle.sheet.specs.Layout.{headLength};
 ghost use Rattle.sheet.specs.Sheet.{isSheet, sheetFrom};
-ghost use Rattle.sheet.specs.Image.{frontWith, imageOf};
+ghost use Rattle.sheet.specs.Image.{leafStart, frontWith, boardOf, imageOf};
 ghost use Rattle.sheet.specs.Write.{strayControl, recordCauses, writeNumber, written};
 ghost use Rattle.writer.specs.Inside.{Writable, zeros, frameOf, withIdCrc, withSromCrc};
 
@@ -54,9 +56,9 @@ fn stray_control(row: usize, control: u8) -> bool
 }
 
 // Refusals 7, 25 and 26, from what the sheet means.
-fn record_refusal(sheet: &[u8]) -> u8
+fn record_refusal(sheet: &[u8], layout: Layout) -> u8
     requires { ⌜ isSheet (now sheet) ≡ true ⌝ }
-    ensures { λ r. ⌜ r ≡ firstMet (recordCauses (sheetFrom (now (sheet .entry)))) ⌝ }
+    ensures { λ r. ⌜ r ≡ firstMet (recordCauses layout (sheetFrom (now (sheet .entry)))) ⌝ }
 {
     let row = chip::row_of(rom::word_at(sheet, ByteOffset(sheet::CHIP_AT)));
     if chip::CHIP_COUNT <= row {
@@ -71,6 +73,7 @@ fn record_refusal(sheet: &[u8]) -> u8
     let bodies = sheet::HEAD_LENGTH + 3 * count;
     let start = sheet::LEAF_START + header::header_length(row);
     entries::refusal_of(
+        layout.leaves_end(),
         row,
         start,
         count,
@@ -81,15 +84,15 @@ fn record_refusal(sheet: &[u8]) -> u8
 }
 
 fn blank() -> [u8; rom::IMAGE_LENGTH]
-    ensures { λ r. ⌜ r ≡ zeros imageLength ⌝ }
+    ensures { λ r. ⌜ r ≡ zeros 128 ⌝ }
 {
     [0; rom::IMAGE_LENGTH]
 }
 
-// The image but for its leaf and CRCs: one controller, and the leaf at 30.
-fn frame(sheet: &[u8]) -> [u8; rom::IMAGE_LENGTH]
+// What stands before the leaf, but for the ID CRC: one controller, and its leaf at 30.
+fn front(sheet: &[u8]) -> [u8; rom::IMAGE_LENGTH]
     requires { ⌜ headLength ≤ length (now sheet) ⌝ }
-    ensures { λ r. ⌜ r ≡ frameOf (frontWith 0 (sheetFrom (now (sheet .entry)))) (sheetFrom (now (sheet .entry)) .maker) ⌝ }
+    ensures { λ r. ⌜ r ≡ frontWith 0 (sheetFrom (now (sheet .entry))) ++ zeros (128 - leafStart) ⌝ }
 {
     let mut image = blank();
     put_bytes(
@@ -113,9 +116,18 @@ fn frame(sheet: &[u8]) -> [u8; rom::IMAGE_LENGTH]
         ByteOffset(LEAF_OFFSET_AT),
         sheet::LEAF_START as u16,
     );
+    image
+}
+
+// The board but for its leaf and CRCs.
+fn frame(sheet: &[u8], layout: Layout) -> [u8; rom::IMAGE_LENGTH]
+    requires { ⌜ headLength ≤ length (now sheet) ⌝ }
+    ensures { λ r. ⌜ r ≡ frameOf layout (frontWith 0 (sheetFrom (now (sheet .entry)))) (sheetFrom (now (sheet .entry)) .maker) ⌝ }
+{
+    let mut image = front(sheet);
     put_bytes(
         &mut image,
-        ByteOffset(rom::LEAVES_END),
+        ByteOffset(layout.leaves_end()),
         &sheet[sheet::MAKER_AT..sheet::HEAD_LENGTH],
     );
     image
@@ -132,47 +144,59 @@ fn identify(image: [u8; rom::IMAGE_LENGTH]) -> [u8; rom::IMAGE_LENGTH]
 }
 
 // The image with its SROM CRC.
-fn seal(image: [u8; rom::IMAGE_LENGTH]) -> [u8; rom::IMAGE_LENGTH]
-    ensures { λ r. ⌜ r ≡ withSromCrc image ⌝ }
+fn seal(image: [u8; rom::IMAGE_LENGTH], layout: Layout) -> [u8; rom::IMAGE_LENGTH]
+    ensures { λ r. ⌜ r ≡ withSromCrc layout image ⌝ }
 {
-    let checksum = crc::srom_crc(&image).value;
+    let checksum = crc::srom_crc(&image, layout).value;
     let mut whole = image;
-    put_word(&mut whole, ByteOffset(rom::CHECKED_LENGTH), checksum);
+    put_word(&mut whole, ByteOffset(layout.checked_length()), checksum);
     whole
 }
 
-// The image of a sheet. The image from byte 30 on is lent to the leaf writer.
-fn build(sheet: &[u8]) -> [u8; rom::IMAGE_LENGTH]
-    requires { ⌜ Writable (now sheet) ⌝ }
-    ensures { λ r. ⌜ r ≡ imageOf (sheetFrom (now (sheet .entry))) ⌝ }
+// The board of a sheet. The image from byte 30 on is lent to the leaf writer.
+fn board(sheet: &[u8], layout: Layout) -> [u8; rom::IMAGE_LENGTH]
+    requires { ⌜ Writable layout (now sheet) ⌝ }
+    ensures { λ r. ⌜ r ≡ boardOf layout (sheetFrom (now (sheet .entry))) ++ zeros (128 - boardLength layout) ⌝ }
 {
-    let mut image = identify(frame(sheet));
+    let mut image = identify(frame(sheet, layout));
     leaf_writer::put_leaf(&mut image[sheet::LEAF_START..], sheet);
-    seal(image)
+    seal(image, layout)
 }
 
-// Writes the image of a sheet, or answers the first refusal and leaves the image as it was. The newest reader judges the
-// image, for controller 0, before any of it is written out.
-pub fn write(sheet: &[u8], image: &mut [u8]) -> u8
-    ensures { λ r. ⌜ r ≡ writeNumber (now (sheet .entry)) (length (now (image .entry))) ⌝ }
-    ensures { λ r. ⌜ now (image .exit) ≡ written (now (sheet .entry)) (now (image .entry)) ⌝ }
+// The image of a sheet, with what an output holds behind the board: a Magic Packet block.
+fn build(sheet: &[u8], layout: Layout, output: &[u8]) -> [u8; rom::IMAGE_LENGTH]
+    requires { ⌜ Writable layout (now sheet) × (length (now output) ≡ imageLength layout) ⌝ }
+    ensures { λ r. ⌜ r ≡ imageOf layout (sheetFrom (now (sheet .entry))) (now (output .entry)) ⌝ }
+{
+    let mut image = board(sheet, layout);
+    let end = layout.board_length();
+    put_bytes(&mut image, ByteOffset(end), &output[end..]);
+    image
+}
+
+// Writes the image of a sheet, or answers the first refusal and leaves the image as it was. Told of a Magic Packet block, it
+// keeps the image's own. The newest reader judges the image, for controller 0, before any of it is written out.
+pub fn write(sheet: &[u8], layout: Layout, image: &mut [u8]) -> u8
+    ensures { λ r. ⌜ r ≡ writeNumber layout (now (sheet .entry)) (now (image .entry)) ⌝ }
+    ensures { λ r. ⌜ now (image .exit) ≡ written layout (now (sheet .entry)) (now (image .entry)) ⌝ }
 {
     let whole = is_sheet(sheet);
     if !whole {
         return refusal::SHEET;
     }
-    if image.len() != rom::IMAGE_LENGTH {
+    if image.len() != layout.image_length() {
         return refusal::IMAGE_LENGTH;
     }
-    let number = record_refusal(sheet);
+    let number = record_refusal(sheet, layout);
     if number != refusal::ACCEPTED {
         return number;
     }
-    let built = build(sheet);
+    let built = build(sheet, layout, image);
     let arguments = Arguments {
         chip: rom::word_at(sheet, ByteOffset(sheet::CHIP_AT)),
         controller: 0,
         level: block::NEWEST_LEVEL,
+        layout,
     };
     let judged = reader::judge(&built, arguments).number;
     if judged != refusal::ACCEPTED {

@@ -2,13 +2,13 @@
 //! over the same inputs: `cargo run --release -p bench`. With `only CALL SIDE PASSES` it prints nothing
 //! and makes one side's passes over the inputs of one call, for tools/instructions to count.
 
-use library::{Answer, Made, Walk};
+use library::{Answer, Layout, Made, Magic, Walk};
 use second::crc;
 use second::images::block::{self, Phy};
-use second::images::{Card, Image};
+use second::images::{Card, Image, MagicBlock};
 use second::random::Random;
 use second::reader::{self, Arguments, HIGHEST_COUNT};
-use second::{sheet, walk};
+use second::{magic, sheet, walk};
 use std::{env, hint::black_box, time::Instant};
 
 const IMAGE_COUNT: usize = 1_000;
@@ -17,7 +17,7 @@ const ROUNDS: usize = 200;
 fn main() {
     if only().is_none() {
         println!(
-            "{:<14}{:>12}{:>12}{:>8}",
+            "{:<15}{:>12}{:>12}{:>8}",
             "call", "library ns", "second ns", "ratio"
         );
     }
@@ -25,19 +25,26 @@ fn main() {
         private: random.bytes(),
         ..typical_card()
     });
-    let longest = images(Card::longest);
-    contest("srom_crc", &typical, library::srom_crc, crc::fast::srom_crc);
-    contest("id_crc", &typical, library::id_crc, crc::fast::id_crc);
-    contest_reading("typical", 21143, &typical);
-    contest_reading("longest", 21041, &longest);
+    let longest = images(|random| Card::longest(random, Layout::PLAIN));
+    let waking = images(|random| Card {
+        private: random.bytes(),
+        magic: Some(MagicBlock::valid(random)),
+        ..typical_card()
+    });
+    let (newest, newest_21041) = (Arguments::newest(21143), Arguments::newest(21041));
+    contest_crcs(&typical, &waking);
+    contest_magic(&waking);
+    contest_reading("typical", newest, &typical);
+    contest_reading("longest", newest_21041, &longest);
+    contest_reading("magic", newest.laid_out(Layout::MAGIC), &waking);
     let tidy = images(|random| {
         let mut card = typical_card();
         card.private[..18].copy_from_slice(&random.bytes::<18>());
         card
     });
     contest_by_value(&tidy);
-    contest_walking("typical", 21143, &tidy);
-    contest_walking("longest", 21041, &longest);
+    contest_walking("typical", newest, &tidy);
+    contest_walking("longest", newest_21041, &longest);
     contest_sheets("typical", 21143, &tidy);
     contest_sheets("longest", 21041, &longest);
 }
@@ -67,9 +74,59 @@ fn images(card: impl Fn(&mut Random) -> Card) -> Vec<Image> {
         .collect()
 }
 
+/// The CRCs, of images without a Magic Packet block and with one.
+fn contest_crcs(typical: &[Image], waking: &[Image]) {
+    for (call, layout, images) in [
+        ("srom_crc", Layout::PLAIN, typical),
+        ("srom_crc magic", Layout::MAGIC, waking),
+    ] {
+        contest(
+            call,
+            images,
+            |image| library::srom_crc(image, layout),
+            |image| crc::fast::srom_crc(image, layout),
+        );
+    }
+    contest("id_crc", typical, library::id_crc, crc::fast::id_crc);
+    contest(
+        "magic_crc",
+        waking,
+        library::magic_crc,
+        crc::fast::magic_crc,
+    );
+}
+
+/// Reading and writing the Magic Packet block.
+fn contest_magic(waking: &[Image]) {
+    contest(
+        "read_magic",
+        waking,
+        library::read_magic,
+        magic::fast::read_magic,
+    );
+    contest(
+        "write_magic",
+        waking,
+        writing_magic(library::write_magic),
+        writing_magic(magic::fast::write_magic),
+    );
+}
+
+/// A call with an image of its own, which writes what stands first in the one that it is given.
+fn writing_magic(write: impl Fn(Magic, &mut [u8]) -> u8) -> impl FnMut(&[u8]) -> u8 {
+    let mut image = [0; 128];
+    move |from| {
+        let magic = Magic {
+            password: from[..6].try_into().expect("six bytes"),
+            address: from[6..12].try_into().expect("six bytes"),
+            command: u16::from_le_bytes([from[12], from[13]]),
+        };
+        write(magic, black_box(&mut image))
+    }
+}
+
 /// Reading into arrays that are long enough, and the view of the table's last entry.
-fn contest_reading(leaf: &str, chip: u16, images: &[Image]) {
-    let arguments = Arguments::newest(chip);
+fn contest_reading(leaf: &str, arguments: Arguments, images: &[Image]) {
     let listed = reading(arguments, reader::read)(&images[0]).listed;
     assert!(listed > 0, "the newest reader accepts the {leaf} leaf");
     contest(
@@ -89,8 +146,7 @@ fn contest_reading(leaf: &str, chip: u16, images: &[Image]) {
 
 /// Loading into a fresh walk, and looks of a settled walk at reports with a quarter of the links
 /// up, so that most of them select anew.
-fn contest_walking(leaf: &str, chip: u16, images: &[Image]) {
-    let arguments = Arguments::newest(chip);
+fn contest_walking(leaf: &str, arguments: Arguments, images: &[Image]) {
     contest(
         &format!("load {leaf}"),
         images,
@@ -142,7 +198,7 @@ fn settled(image: &[u8], arguments: Arguments) -> Walk {
 fn contest_sheets(leaf: &str, chip: u16, images: &[Image]) {
     let sheet = |image: &Image| {
         let mut buffer = [0; 500];
-        let made = sheet::make(image, chip, &mut buffer);
+        let made = sheet::make(image, chip, Layout::PLAIN, &mut buffer);
         assert_eq!(made.number, 0, "the {leaf} leaf is tidy");
         buffer[..made.length].to_vec()
     };
@@ -162,15 +218,18 @@ fn contest_sheets(leaf: &str, chip: u16, images: &[Image]) {
 }
 
 /// A call with an image of its own.
-fn writing(write: impl Fn(&[u8], &mut [u8]) -> u8) -> impl FnMut(&[u8]) -> u8 {
+fn writing(write: impl Fn(&[u8], Layout, &mut [u8]) -> u8) -> impl FnMut(&[u8]) -> u8 {
     let mut image = [0; 128];
-    move |sheet| write(sheet, black_box(&mut image))
+    move |sheet| write(sheet, Layout::PLAIN, black_box(&mut image))
 }
 
 /// A call with a buffer of its own.
-fn making(chip: u16, make: impl Fn(&[u8], u16, &mut [u8]) -> Made) -> impl FnMut(&[u8]) -> Made {
+fn making(
+    chip: u16,
+    make: impl Fn(&[u8], u16, Layout, &mut [u8]) -> Made,
+) -> impl FnMut(&[u8]) -> Made {
     let mut buffer = [0; 500];
-    move |image| make(image, chip, black_box(&mut buffer))
+    move |image| make(image, chip, Layout::PLAIN, black_box(&mut buffer))
 }
 
 /// A call with arrays of its own.
@@ -215,7 +274,7 @@ fn contest<A, B>(
         second_best = second_best.min(nanoseconds(inputs, &mut second));
     }
     let ratio = library_best / second_best;
-    println!("{call:<14}{library_best:>12.1}{second_best:>12.1}{ratio:>8.2}");
+    println!("{call:<15}{library_best:>12.1}{second_best:>12.1}{ratio:>8.2}");
 }
 
 /// The mean time of one call in one pass over the inputs.

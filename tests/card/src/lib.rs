@@ -1,5 +1,6 @@
 //! The bench tool `./card`, run from the root of the repository.
 
+use second::layout::Layout;
 use second::reader::Arguments;
 use std::fs;
 use std::path::{Path, PathBuf};
@@ -38,8 +39,17 @@ pub fn words(arguments: Arguments) -> String {
         chip,
         controller,
         level,
+        layout,
     } = arguments;
-    format!("{chip} --controller {controller} --level {level}")
+    format!(
+        "{chip} --controller {controller} --level {level}{}",
+        option(layout)
+    )
+}
+
+/// The option that names a layout, behind other words.
+pub fn option(layout: Layout) -> &'static str {
+    if layout.magic { " --magic" } else { "" }
 }
 
 /// Runs `./card` with words that need no quotes.
@@ -57,9 +67,9 @@ pub fn temporary(name: &str) -> PathBuf {
     folder.canonicalize().unwrap()
 }
 
-/// The sample images: each file's name, its chip and its bytes, as samples/README.md lists them.
-/// Each row names a file, and each image has one row.
-pub fn samples() -> Vec<(String, u16, Vec<u8>)> {
+/// The sample images: each file's name, the newest reader's arguments for its chip and layout, and its
+/// bytes, as samples/README.md lists them. Each row names a file, and each image has one row.
+pub fn samples() -> Vec<(String, Arguments, Vec<u8>)> {
     let folder = root().join("samples");
     let readme = fs::read_to_string(folder.join("README.md")).unwrap();
     let sample = |row: &str| {
@@ -67,9 +77,15 @@ pub fn samples() -> Vec<(String, u16, Vec<u8>)> {
         let name = cells.next().unwrap().to_string();
         let chip = cells.next().and_then(|chip| chip.parse().ok());
         let chip = chip.unwrap_or_else(|| panic!("samples/README.md has no chip in: {row}"));
+        let layout = match cells.next() {
+            Some("plain") => Layout::PLAIN,
+            Some("magic") => Layout::MAGIC,
+            _ => panic!("samples/README.md has no layout in: {row}"),
+        };
+        let arguments = Arguments::newest(chip).laid_out(layout);
         let image = fs::read(folder.join(&name));
         let image = image.unwrap_or_else(|error| panic!("samples/{name}: {error}"));
-        (name, chip, image)
+        (name, arguments, image)
     };
     // The first row has the titles.
     let rows = readme.lines().filter(|line| line.starts_with("| ")).skip(1);

@@ -1,17 +1,20 @@
 //! What the bench tool says of a card, held to the second implementation.
 
-use card::{card, samples, temporary, words};
-use second::crc::{IMAGE_LENGTH, lay_srom_crc};
-use second::images::{Image, Sample};
+use card::{Run, card, option, samples, temporary, words};
+use second::crc::{IMAGE_LENGTH, MAGIC_CRC_OFFSET, lay_srom_crc, magic_crc, srom_crc};
+use second::images::{Card, Image, MagicBlock, Sample};
+use second::layout::{LAYOUTS, Layout};
+use second::magic::{LAST_RESERVED, Magic, RESERVED, read_magic, write_magic};
 use second::random::Random;
 use second::reader::{
     Answer, Arguments, CHIPS, COMPACT, MEDIA_21041, NEWEST_LEVEL, NO_DEFAULT, controller_offset,
-    header_size, read_all, starts,
+    first_leaf, header_size, read_all, starts,
 };
 use second::sheet;
 use second::walk::{Autosense, NONE};
-use std::collections::BTreeMap;
+use std::collections::{BTreeMap, BTreeSet};
 use std::fs;
+use std::path::Path;
 
 fn kind_words(kind: u16) -> String {
     match kind {
@@ -25,24 +28,121 @@ fn kind_words(kind: u16) -> String {
 fn expected(image: &[u8], arguments: Arguments) -> Vec<String> {
     let (answer, entries) = read_all(image, arguments);
     if answer.number != 0 {
-        return vec![format!("REFUSED {}", answer.number)];
+        let mut facts = vec![format!("REFUSED {}", answer.number)];
+        facts.extend(reasons(image, arguments.layout, answer.number));
+        facts.extend(otherwise(image, arguments));
+        return facts;
     }
     let mut facts = vec!["ACCEPTED".to_string()];
-    facts.push(address(&answer));
+    facts.push(six(&answer.address.to_be_bytes()[2..]));
     facts.push(format!("0x{:04x}", answer.connection));
     facts.push(format!(
         "{}: {} listed, {} resets, {} stepped over",
         answer.blocks, answer.listed, answer.resets, answer.skipped
     ));
     facts.push(default(&answer));
+    if arguments.layout.magic {
+        facts.extend(block(read_magic(image).magic));
+    }
     for (entry, (kind, offset)) in entries.into_iter().enumerate() {
         facts.push(format!("{entry} {offset} {}", kind_words(kind)));
     }
     facts
 }
 
-fn address(answer: &Answer) -> String {
-    let bytes = &answer.address.to_be_bytes()[2..];
+/// What is shown of a refusal that the layout has a say in, and of the CRC and the reserved bytes of the
+/// Magic Packet block.
+fn reasons(image: &[u8], layout: Layout, number: u8) -> Vec<String> {
+    let leaf_limit = layout.leaf_limit();
+    match number {
+        3 => {
+            let at = layout.srom_crc_offset();
+            let stored = u16::from_le_bytes([image[at], image[at + 1]]);
+            let computed = srom_crc(image, layout).value;
+            let (high, last) = (at + 1, at - 1);
+            vec![format!(
+                "SROM CRC, bytes {at} and {high}: 0x{stored:04x} stored, 0x{computed:04x} of bytes 0 to {last}"
+            )]
+        }
+        5 | 6 => {
+            let most = layout.most_controllers();
+            let count = image[19];
+            let at = controller_offset(count.into());
+            let reserved = image.get(at).unwrap_or(&0);
+            vec![format!(
+                "controller count (1 to {most}), byte 19: {count}; reserved byte (0), byte {at}: 0x{reserved:02x}"
+            )]
+        }
+        10 => {
+            let least = first_leaf(image[19].into());
+            vec![format!(
+                "a leaf of this card starts at byte {least} or later, and ends before byte {leaf_limit}"
+            )]
+        }
+        13 => vec![format!("leaves end before byte {leaf_limit}")],
+        29 => {
+            let (stored, computed) = (image[MAGIC_CRC_OFFSET], magic_crc(image).value);
+            vec![format!(
+                "Magic CRC, byte 126: 0x{stored:02x} stored, 0x{computed:02x} of the block's other bytes"
+            )]
+        }
+        30 => RESERVED
+            .chain([LAST_RESERVED])
+            .filter(|&at| image[at] != 0)
+            .map(|at| format!("reserved byte, byte {at}: 0x{:02x}", image[at]))
+            .collect(),
+        _ => vec![],
+    }
+}
+
+/// What the lines of `reasons` begin with, and that about the other layout.
+const BEGINS: [&str; 7] = [
+    "SROM CRC,",
+    "controller count (",
+    "a leaf of this card",
+    "leaves end",
+    "Magic CRC,",
+    "reserved byte,",
+    "accepted with",
+];
+
+/// What is said of an image that is refused with 3 and accepted in the other layout.
+fn otherwise(image: &[u8], arguments: Arguments) -> Option<String> {
+    let number = |arguments| read_all(image, arguments).0.number;
+    let other = other(arguments.layout);
+    let is_so = number(arguments) == 3 && number(arguments.laid_out(other)) == 0;
+    let word = if other.magic { "with" } else { "without" };
+    is_so.then(|| format!("accepted {word} --magic"))
+}
+
+/// "the command's bits in 000's words", and by its number one that must be 0.
+const COMMAND_BITS: [(u32, &str); 8] = [
+    (0, "MAGIC_DIS"),
+    (1, "Sec_ON_En"),
+    (3, "BNC"),
+    (4, "AUI/HR"),
+    (5, "TP10"),
+    (6, "MII"),
+    (7, "SYM"),
+    (8, "LOCK"),
+];
+
+/// The lines of a Magic Packet block, without their names.
+fn block(magic: Magic) -> [String; 3] {
+    let word = |bit: u32| match COMMAND_BITS.iter().find(|(it, _)| *it == bit) {
+        Some((_, name)) => format!(" {name}"),
+        None => format!(" bit {bit}"),
+    };
+    let bits = (0..16).filter(|bit| magic.command >> bit & 1 == 1);
+    let command = format!(
+        "0x{:04x}{}",
+        magic.command,
+        bits.map(word).collect::<String>()
+    );
+    [six(&magic.password), six(&magic.address), command]
+}
+
+fn six(bytes: &[u8]) -> String {
     let words: Vec<_> = bytes.iter().map(|byte| format!("{byte:02x}")).collect();
     words.join(":")
 }
@@ -63,6 +163,9 @@ fn shown(written: &str) -> Vec<String> {
         None => first.split("  ").next().unwrap_or_default().to_string(),
     });
     if facts[0] != "ACCEPTED" {
+        let lines = written.lines().map(str::trim_start);
+        let is_fact = |line: &&str| BEGINS.iter().any(|begin| line.starts_with(begin));
+        facts.extend(lines.filter(is_fact).map(str::to_string));
         return facts;
     }
     for name in [
@@ -70,6 +173,9 @@ fn shown(written: &str) -> Vec<String> {
         "connection type",
         "blocks",
         "default medium",
+        "password",
+        "address",
+        "command ",
     ] {
         let line = written
             .lines()
@@ -98,39 +204,103 @@ fn shown(written: &str) -> Vec<String> {
     facts
 }
 
-/// Reading: every sample at every level for two controllers with its own chip, and at the newest
-/// level with every other chip.
+/// The arguments that a sample is read with: at every level for two controllers and for the first in
+/// the other layout, and at the newest level with every other chip.
+fn readers(newest: Arguments) -> Vec<Arguments> {
+    let chips = CHIPS.into_iter().filter(|&chip| chip != newest.chip);
+    let mut readers: Vec<_> = chips.map(|chip| Arguments { chip, ..newest }).collect();
+    for level in 0..=NEWEST_LEVEL + 1 {
+        let own = Arguments { level, ..newest };
+        let second = Arguments {
+            controller: 1,
+            ..own
+        };
+        readers.extend([own, second, own.laid_out(other(own.layout))]);
+    }
+    readers
+}
+
+fn other(layout: Layout) -> Layout {
+    Layout {
+        magic: !layout.magic,
+    }
+}
+
+/// Reading: what is shown of a card, the Magic Packet block too, or why it is refused; and whether it
+/// would be accepted in the other layout.
 #[test]
 fn readings() {
     let mut verdicts = BTreeMap::new();
     for (name, own, image) in samples() {
-        for chip in CHIPS {
-            for level in 0..=NEWEST_LEVEL + 1 {
-                for controller in 0..2 {
-                    if chip != own && (level != NEWEST_LEVEL || controller != 0) {
-                        continue;
-                    }
-                    let arguments = Arguments {
-                        chip,
-                        controller,
-                        level,
-                    };
-                    let run = card(&format!("read samples/{name} {}", words(arguments)));
-                    let facts = expected(&image, arguments);
-                    assert_eq!(
-                        shown(&run.written),
-                        facts,
-                        "{name} {arguments:?}\n{}",
-                        run.written
-                    );
-                    assert_eq!(run.status, i32::from(facts[0] != "ACCEPTED"));
-                    *verdicts.entry(facts[0].clone()).or_insert(0) += 1;
-                }
+        for arguments in readers(own) {
+            let run = card(&format!("read samples/{name} {}", words(arguments)));
+            let facts = expected(&image, arguments);
+            assert_eq!(
+                shown(&run.written),
+                facts,
+                "{name} {arguments:?}\n{}",
+                run.written
+            );
+            assert_eq!(run.status, i32::from(facts[0] != "ACCEPTED"));
+            *verdicts.entry(facts[0].clone()).or_insert(0) += 1;
+            if let Some(line) = otherwise(&image, arguments) {
+                *verdicts.entry(line).or_insert(0) += 1;
             }
         }
     }
     println!("{verdicts:?}");
-    assert!(verdicts.len() > 15, "{verdicts:?}");
+    assert!(verdicts.len() > 19, "{verdicts:?}");
+    for fact in ["accepted with --magic", "accepted without --magic"] {
+        assert!(verdicts[fact] > 10, "{verdicts:?}");
+    }
+}
+
+/// The same of random cards of both layouts, whose blocks say anything.
+#[test]
+fn random_cards() {
+    let file = temporary("random_cards").join("card.rom");
+    let mut random = Random::new(21143);
+    for layout in LAYOUTS {
+        for _ in 0..40 {
+            let Sample {
+                card: made,
+                arguments,
+            } = Sample::valid_in(&mut random, layout);
+            fs::write(&file, made.image()).unwrap();
+            let run = card(&format!("read {} {}", file.display(), words(arguments)));
+            let facts = expected(&made.image(), arguments);
+            assert_eq!(shown(&run.written), facts, "{arguments:?}\n{}", run.written);
+        }
+    }
+}
+
+/// Every command that shows the verdict of a reading says where the other layout would accept.
+#[test]
+fn other_layout() {
+    let folder = temporary("other_layout");
+    let out = folder.join("out").display().to_string();
+    let mut count = 0;
+    for (name, own, image) in samples() {
+        for layout in LAYOUTS {
+            let arguments = own.laid_out(layout);
+            let line = otherwise(&image, arguments).map(|line| format!("  {line}"));
+            let chip = own.chip;
+            let option = option(layout);
+            for command in [
+                format!("read samples/{name} {chip}{option}"),
+                format!("older samples/{name} {chip}{option}"),
+                format!("walk samples/{name} {chip} 0{option}"),
+                format!("sheet samples/{name} {chip} {out} --force{option}"),
+                format!("map samples/{name} {chip} {out} --force{option}"),
+            ] {
+                let run = card(&command);
+                let said = run.written.lines().find(|it| it.starts_with("  accepted"));
+                assert_eq!(said, line.as_deref(), "{command}\n{}", run.written);
+                count += usize::from(said.is_some());
+            }
+        }
+    }
+    assert!(count > 50, "{count} times");
 }
 
 /// The block for which an image is refused: the last of the fewest blocks that are refused so, were they the whole leaf.
@@ -141,7 +311,7 @@ fn refused_block(image: &Image, arguments: Arguments, number: u8) -> u8 {
     let is_refused = |&blocks: &u8| {
         let mut fewer = *image;
         fewer[count] = blocks;
-        lay_srom_crc(&mut fewer);
+        lay_srom_crc(&mut fewer, arguments.layout);
         read_all(&fewer, arguments).0.number == number
     };
     (1..=image[count]).find(is_refused).unwrap() - 1
@@ -163,17 +333,13 @@ fn named_blocks() {
             fs::write(&file, image).unwrap();
             let words = format!("{} {}", file.display(), words(arguments));
             let run = card(&format!("read {words}"));
+            assert_eq!(shown(&run.written), expected(&image, arguments));
             let block = refused_block(&image, arguments, number);
             let line = run
                 .written
                 .lines()
                 .find(|line| line.starts_with("  block "));
             let named = line.and_then(|line| line.split_whitespace().nth(1));
-            assert!(
-                run.written.starts_with(&format!("REFUSED {number}: ")),
-                "{}",
-                run.written
-            );
             assert_eq!(
                 named,
                 Some(block.to_string().as_str()),
@@ -193,39 +359,194 @@ fn named_blocks() {
     }
 }
 
-/// The sheet of every sample, and the image of that sheet: the second implementation's bytes, or no
-/// file.
+/// The sheet of every sample in both layouts, and the image of that sheet, with the sample's own block
+/// where it has one: the second implementation's bytes, or no file.
 #[test]
 fn sheets() {
     let folder = temporary("sheets");
-    let mut count = 0;
-    for (name, chip, image) in samples() {
-        let made = folder.join(&name).with_extension("sheet");
-        let run = card(&format!("sheet samples/{name} {chip} {}", made.display()));
-        let mut buffer = [0; 1024];
-        let answer = sheet::make(&image, chip, &mut buffer);
-        if answer.number != 0 {
-            let refused = format!("REFUSED {}: ", answer.number);
-            assert!(run.written.starts_with(&refused), "{name}");
-            assert_eq!(run.status, 1, "{name}");
-            assert!(!made.exists(), "{name}");
+    let mut counts = [0, 0];
+    for (name, own, image) in samples() {
+        for layout in LAYOUTS {
+            let made = folder.join(&name).with_extension("sheet");
+            let written = folder.join(&name);
+            let is_made = is_sheet_made(&name, &image, own.laid_out(layout), &made, &written);
+            counts[usize::from(layout.magic)] += usize::from(is_made);
+        }
+    }
+    assert!(
+        counts[0] >= 10 && counts[1] >= 1,
+        "{counts:?} samples have a sheet"
+    );
+}
+
+/// Whether a sample has a sheet; it is written, and so is its image, over what was there.
+fn is_sheet_made(
+    name: &str,
+    image: &[u8],
+    arguments: Arguments,
+    made: &Path,
+    written: &Path,
+) -> bool {
+    let Arguments { chip, layout, .. } = arguments;
+    let _ = fs::remove_file(made);
+    let words = format!("samples/{name} {chip} {}{}", made.display(), option(layout));
+    let run = card(&format!("sheet {words}"));
+    let mut buffer = [0; 1024];
+    let answer = sheet::make(image, chip, layout, &mut buffer);
+    if answer.number != 0 {
+        assert_refused(&run, answer.number, made);
+        return false;
+    }
+    let bytes = &buffer[..answer.length];
+    assert_written(&run, made, bytes);
+    let from = if layout.magic {
+        format!(" --magic samples/{name}")
+    } else {
+        String::new()
+    };
+    let words = format!("{} {} --force{from}", made.display(), written.display());
+    let run = card(&format!("write {words}"));
+    let mut output = if layout.magic {
+        image.try_into().unwrap()
+    } else {
+        [0; IMAGE_LENGTH]
+    };
+    assert_eq!(sheet::write(bytes, layout, &mut output), 0, "{name}");
+    assert_written(&run, written, &output);
+    true
+}
+
+/// A byte behind the leaf that is not 0, the last before the maker's bytes: a sheet would lose it.
+#[test]
+fn untidy_images() {
+    let folder = temporary("untidy_images");
+    let (file, out) = (folder.join("card.rom"), folder.join("card.sheet"));
+    for layout in LAYOUTS {
+        let mut made = Card::tidy(21143, 0x0800, vec![]);
+        made.magic = MagicBlock::of_layout(&mut Random::new(1), layout);
+        let limit = layout.leaf_limit();
+        made.private[limit - 1] = 1;
+        fs::write(&file, made.image()).unwrap();
+        let (file, words) = (file.display(), out.display());
+        let run = card(&format!("sheet {file} 21143 {words}{}", option(layout)));
+        assert_refused(&run, 27, &out);
+        let line = format!("  a byte behind the leaf's last, before byte {limit}, is not 0");
+        assert_eq!(run.written.lines().nth(1), Some(&*line));
+    }
+}
+
+/// What a refused call says, and that it leaves no file.
+fn assert_refused(run: &Run, number: u8, out: &Path) {
+    let refused = format!("REFUSED {number}: ");
+    assert!(
+        run.written.starts_with(&refused),
+        "{number}\n{}",
+        run.written
+    );
+    assert_eq!(run.status, 1, "{}", run.written);
+    assert!(!out.exists(), "{}", out.display());
+}
+
+/// What is said first of a file that is written, and what it holds.
+fn assert_written(run: &Run, out: &Path, bytes: &[u8]) {
+    let accepted = format!("ACCEPTED  {} bytes are written\n", bytes.len());
+    assert!(run.written.starts_with(&accepted), "{}", run.written);
+    assert_eq!(run.status, 0, "{}", run.written);
+    assert_eq!(fs::read(out).unwrap(), bytes, "{}", out.display());
+}
+
+/// A sheet written beside each sample's block: "the writer, told of the block, keeps bytes 96 to 127,
+/// judged with the rest", also where those are refused, or the image has another length.
+#[test]
+fn kept_blocks() {
+    let folder = temporary("kept_blocks");
+    let sheet_file = folder.join("card.sheet");
+    let words = format!(
+        "samples/magic-21143.rom 21143 {} --magic",
+        sheet_file.display()
+    );
+    assert_eq!(card(&format!("sheet {words}")).status, 0);
+    let bytes = fs::read(&sheet_file).unwrap();
+    let mut numbers = BTreeSet::new();
+    for (name, _, mut image) in samples() {
+        let out = folder.join(&name);
+        let words = format!(
+            "{} {} --magic samples/{name}",
+            sheet_file.display(),
+            out.display()
+        );
+        let run = card(&format!("write {words}"));
+        let number = sheet::write(&bytes, Layout::MAGIC, &mut image);
+        numbers.insert(number);
+        if number == 0 {
+            assert_written(&run, &out, &image);
+        } else {
+            assert_refused(&run, number, &out);
+            for reason in reasons(&image, Layout::MAGIC, number) {
+                assert!(run.written.contains(&reason), "{name}\n{}", run.written);
+            }
+        }
+    }
+    assert!(
+        numbers.is_superset(&BTreeSet::from([0, 1, 29, 30])),
+        "{numbers:?}"
+    );
+}
+
+/// A new block in every sample: the second implementation's bytes, what the block then says, and
+/// whether the card is laid out for one.
+#[test]
+fn magic_blocks() {
+    let folder = temporary("magic_blocks");
+    let mut random = Random::new(21143);
+    let mut counts = [0, 0];
+    for (name, _, mut image) in samples() {
+        let magic = Magic {
+            password: random.bytes(),
+            address: random.bytes(),
+            command: random.below(0x10000) as u16,
+        };
+        let out = folder.join(&name);
+        let run = card(&format!(
+            "magic samples/{name} {} --password {} --address {} --command {:x}",
+            out.display(),
+            six(&magic.password),
+            six(&magic.address),
+            magic.command
+        ));
+        let number = write_magic(magic, &mut image);
+        if number != 0 {
+            assert_refused(&run, number, &out);
             continue;
         }
-        let bytes = &buffer[..answer.length];
-        let accepted = format!("ACCEPTED  {} bytes are written\n", bytes.len());
-        assert_eq!((run.written, run.status), (accepted, 0), "{name}");
-        assert_eq!(fs::read(&made).unwrap(), bytes, "{name}");
-        let written = folder.join(&name);
-        let run = card(&format!("write {} {}", made.display(), written.display()));
-        let mut image = [0; IMAGE_LENGTH];
-        assert_eq!(sheet::write(bytes, &mut image), 0, "{name}");
-        let accepted = "ACCEPTED  128 bytes are written\n".to_string();
-        assert_eq!((run.written, run.status), (accepted, 0), "{name}");
-        assert_eq!(fs::read(&written).unwrap(), image, "{name}");
-        count += 1;
+        assert_written(&run, &out, &image);
+        let [password, address, command] = block(magic);
+        let mut lines = vec![
+            "Magic Packet block".to_string(),
+            format!("  password         {password}"),
+            format!("  address          {address}"),
+            format!("  command          {command}"),
+        ];
+        let at = Layout::MAGIC.srom_crc_offset();
+        let stored = u16::from_le_bytes([image[at], image[at + 1]]);
+        let is_laid_out = stored == srom_crc(&image, Layout::MAGIC).value;
+        if !is_laid_out {
+            lines.push(NOT_LAID_OUT.to_string());
+            lines.extend(
+                reasons(&image, Layout::MAGIC, 3)
+                    .iter()
+                    .map(|it| format!("  {it}")),
+            );
+        }
+        let shown: Vec<_> = run.written.lines().skip(1).collect();
+        assert_eq!(shown, lines, "{name}");
+        counts[usize::from(is_laid_out)] += 1;
     }
-    assert!(count >= 10, "{count} samples have a sheet");
+    assert!(counts[0] > 20 && counts[1] > 2, "{counts:?}");
 }
+
+const NOT_LAID_OUT: &str =
+    "The card is not laid out for a block: with --magic its SROM CRC is wrong (3).";
 
 /// The walk: after each look the selected block, settled, looks and switches, or the refusal; or why
 /// the image is not loaded. The options stand between the reports.
@@ -233,12 +554,12 @@ fn sheets() {
 fn walks() {
     let mut random = Random::new(21143);
     let mut count = 0;
-    for (name, chip, image) in samples() {
+    for (name, own, image) in samples() {
         for (controller, level) in [(0, NEWEST_LEVEL), (1, NEWEST_LEVEL), (0, 3), (2, 4)] {
             let arguments = Arguments {
-                chip,
                 controller,
                 level,
+                ..own
             };
             count += usize::from(is_walked(&name, &image, arguments, &mut random));
         }
@@ -252,6 +573,7 @@ fn is_walked(name: &str, image: &[u8], arguments: Arguments, random: &mut Random
         chip,
         controller,
         level,
+        layout,
     } = arguments;
     let mut walk = Autosense::Fresh;
     let number = walk.load(image, arguments);
@@ -266,13 +588,19 @@ fn is_walked(name: &str, image: &[u8], arguments: Arguments, random: &mut Random
     let reports: Vec<_> = (0..20).map(|_| report(random, starts.len())).collect();
     let (first, last) = reports.split_at(random.below(reports.len()));
     let (first, last) = (first.join(" "), last.join(" "));
+    let magic = option(layout);
     let run = card(&format!(
-        "walk --level {level} samples/{name} {chip} {first} --controller {controller} {last}"
+        "walk --level {level} samples/{name} {chip} {first}{magic} --controller {controller} {last}"
     ));
     let lines: Vec<_> = run.written.lines().collect();
     assert_eq!(lines.len(), 1 + reports.len(), "{name}\n{}", run.written);
+    let laid_out = if layout.magic {
+        ", Magic Packet layout"
+    } else {
+        ""
+    };
     let loaded = format!(
-        "LOADED  chip {chip}, controller {controller}, level {level}, {} blocks",
+        "LOADED  chip {chip}, controller {controller}, level {level}{laid_out}, {} blocks",
         starts.len()
     );
     assert_eq!(lines[0], loaded, "{name}");
@@ -339,8 +667,8 @@ fn rows(written: &str) -> Vec<Row> {
 #[test]
 fn older_readers() {
     let mut count = 0;
-    for (name, chip, image) in samples() {
-        let run = card(&format!("older samples/{name} {chip}"));
+    for (name, newest, image) in samples() {
+        let run = card(&format!("older samples/{name} {}", words(newest)));
         let rows = rows(&run.written);
         let [
             levels,
@@ -365,7 +693,7 @@ fn older_readers() {
             assert_eq!(row.begin, begin, "{name}");
         }
         for level in 0..=NEWEST_LEVEL {
-            let arguments = Arguments::at_level(chip, level);
+            let arguments = Arguments { level, ..newest };
             let (answer, entries) = read_all(&image, arguments);
             let cell = |row: &Row| row.cells[usize::from(level)].clone();
             let place = format!("{name} level {level}\n{}", run.written);
@@ -390,10 +718,10 @@ fn older_readers() {
             );
             // From the last block to the first, or from the one that the newest reader refuses.
             let starts = starts(&image, arguments).unwrap();
-            let number = read_all(&image, Arguments::newest(chip)).0.number;
+            let number = read_all(&image, newest).0.number;
             let shown = if (13..18).contains(&number) {
                 let image = image.as_slice().try_into().unwrap();
-                usize::from(refused_block(image, Arguments::newest(chip), number)) + 1
+                usize::from(refused_block(image, newest, number)) + 1
             } else {
                 starts.len()
             };

@@ -107,7 +107,7 @@ fn what_programs_print() {
             eprintln!("{program} is not installed: {words} is not tried");
             continue;
         }
-        for (name, chip, image) in samples() {
+        for (name, arguments, image) in samples() {
             let printed = shell(&format!("{words} samples/{name}"), &folder);
             assert_eq!(printed.status, 0, "{words} {name}");
             if form.is_words() && image.len() % 2 == 1 {
@@ -115,7 +115,8 @@ fn what_programs_print() {
             }
             assert_eq!(printed.written, form.text(&image), "{words} {name}");
             fs::write(folder.join("printed"), printed.written).unwrap();
-            let read = |file: &str| shell(&format!("./card read {file} {chip}"), &folder);
+            let arguments = card::words(arguments);
+            let read = |file: &str| shell(&format!("./card read {file} {arguments}"), &folder);
             let raw = read(&format!("samples/{name}"));
             assert_eq!(read("$TMP/printed"), raw, "{words} {name}");
         }

@@ -1,9 +1,11 @@
 //! The picture of a ROM: well formed, a cell for each byte with its value and its field.
 
-use card::{card, samples, temporary, words};
+use card::{card, option, samples, temporary, words};
 use second::crc::IMAGE_LENGTH;
+use second::layout::{LAYOUTS, Layout};
 use second::reader::{Arguments, COMPACT, read_all, view};
 use std::fs;
+use std::ops::Range;
 use std::path::Path;
 
 /// The tags of an SVG file, each opened and closed in order, with nothing but text between them.
@@ -39,6 +41,18 @@ const PHY: usize = 10;
 const UNKNOWN: usize = 12;
 const MAKER: usize = 14;
 const SROM_CRC: usize = 15;
+const PASSWORD: usize = 16;
+const WAKE_ADDRESS: usize = 17;
+const COMMAND: usize = 18;
+const MAGIC_CRC: usize = 19;
+
+/// The fields of a Magic Packet block in the legend, where there is one.
+const MAGIC_KEYS: [&str; 4] = [
+    "SecureON password",
+    "Magic's address",
+    "Magic command",
+    "Magic CRC",
+];
 
 /// The cells in their order: value and field of each.
 fn cells(tags: &[String]) -> Vec<(u8, usize)> {
@@ -58,25 +72,56 @@ fn cells(tags: &[String]) -> Vec<(u8, usize)> {
     cells
 }
 
-/// Every sample of 128 bytes, be it refused: its bytes in order, and what every image has in the
-/// same place. Where it is accepted, the bytes of each entry's block (document 01, "The image"), and
-/// those of the blocks that a reader of level 3 does not know.
+/// Every sample of 128 bytes in both layouts, be it refused: its bytes in order, and what every image
+/// of the layout has in the same place. Where it is accepted, the bytes of each entry's block (document
+/// 01, "The image"), and those of the blocks that a reader of level 3 does not know.
 #[test]
 fn every_sample() {
-    let folder = temporary("map");
-    let (mut known, mut unknown) = (0, 0);
-    for (name, chip, image) in samples() {
-        let newest = Arguments::newest(chip);
-        let fields = fields(&folder, &name, newest, &image);
-        known += held(&fields, &image, newest, |kind| Some(listed(kind)));
-        let older = Arguments::at_level(chip, 3);
-        let fields = self::fields(&folder, &name, older, &image);
-        unknown += held(&fields, &image, newest, |kind| {
-            (3..COMPACT).contains(&kind).then_some(UNKNOWN)
-        });
+    for layout in LAYOUTS {
+        let folder = temporary(&format!("map{}", option(layout).trim()));
+        let (mut known, mut unknown) = (0, 0);
+        for (name, own, image) in samples() {
+            let newest = own.laid_out(layout);
+            let fields = fields(&folder, &name, newest, &image);
+            known += held(&fields, &image, newest, |kind| Some(listed(kind)));
+            let older = Arguments { level: 3, ..newest };
+            let fields = self::fields(&folder, &name, older, &image);
+            unknown += held(&fields, &image, newest, |kind| {
+                (3..COMPACT).contains(&kind).then_some(UNKNOWN)
+            });
+        }
+        // Two samples have a Magic Packet block and are accepted.
+        let least = if layout.magic { (5, 3) } else { (30, 10) };
+        assert!(known >= least.0, "{layout:?}: {known} blocks are known");
+        assert!(unknown >= least.1, "{layout:?}: {unknown} blocks are not");
     }
-    assert!(known >= 30, "{known} blocks that are known");
-    assert!(unknown >= 10, "{unknown} blocks that are not");
+}
+
+/// What stands where, whatever the image holds; by their sizes, the fields of a Magic Packet block.
+fn frame(layout: Layout) -> Vec<(Range<usize>, usize)> {
+    let maker = layout.leaf_limit();
+    let srom_crc = layout.srom_crc_offset();
+    let mut frame = vec![
+        (0..16, ID),
+        (16..17, ID_CRC),
+        (17..18, ID),
+        (18..19, VERSION),
+        (19..20, COUNT),
+        (20..26, ADDRESS),
+        (maker..srom_crc, MAKER),
+        (srom_crc..srom_crc + 2, SROM_CRC),
+    ];
+    if layout.magic {
+        frame.extend([
+            (96..102, PASSWORD),
+            (102..108, WAKE_ADDRESS),
+            (108..110, COMMAND),
+            (110..126, RESERVED),
+            (126..127, MAGIC_CRC),
+            (127..128, RESERVED),
+        ]);
+    }
+    frame
 }
 
 /// The field of a listed block.
@@ -86,16 +131,7 @@ fn listed(kind: u16) -> usize {
 
 /// The field of each byte in the picture of a sample; none where it has no picture.
 fn fields(folder: &Path, name: &str, arguments: Arguments, image: &[u8]) -> Vec<usize> {
-    let fixed = [
-        (0..=15, ID),
-        (16..=16, ID_CRC),
-        (17..=17, ID),
-        (18..=18, VERSION),
-        (19..=19, COUNT),
-        (20..=25, ADDRESS),
-        (124..=125, MAKER),
-        (126..=127, SROM_CRC),
-    ];
+    let layout = arguments.layout;
     let path = folder.join(format!("{name}.{}.svg", arguments.level));
     let words = format!("{} {}", words(arguments), path.display());
     let run = card(&format!("map samples/{name} {words}"));
@@ -105,10 +141,15 @@ fn fields(folder: &Path, name: &str, arguments: Arguments, image: &[u8]) -> Vec<
         assert!(!path.exists(), "{name}");
         return Vec::new();
     }
-    let cells = cells(&tags(&fs::read_to_string(&path).unwrap()));
+    let tags = tags(&fs::read_to_string(&path).unwrap());
+    for key in MAGIC_KEYS {
+        let is_named = tags.iter().any(|tag| tag.ends_with(&format!(">{key}")));
+        assert_eq!(is_named, layout.magic, "{name} {key}");
+    }
+    let cells = cells(&tags);
     let (values, fields): (Vec<_>, Vec<_>) = cells.into_iter().unzip();
     assert_eq!(values, image, "{name}");
-    for (places, field) in fixed {
+    for (places, field) in frame(layout) {
         let is_its = |&it: &usize| it == field;
         assert!(
             fields[places.clone()].iter().all(is_its),

@@ -1,9 +1,10 @@
 //! The sentences of `./card older`, held to all walks of the second implementation: every list of looks, a reader and an older
 //! one side by side (document 01, 'The walk' and demand 3).
 
-use card::{card, samples, temporary};
+use card::{card, samples, temporary, words};
 use second::calls::{block_count, mark, serve};
 use second::images::{Card, block};
+use second::layout::LAYOUTS;
 use second::random::Random;
 use second::reader::{Arguments, CHIPS, COMPACT, NEWEST_LEVEL, read_all, starts};
 use second::walk::{SERVED, Walk, fast};
@@ -44,14 +45,14 @@ fn look(walk: Walk, report: &[u8]) -> (Walk, Seen) {
 
 impl Pair {
     /// Both walks have read the image.
-    fn load(image: &[u8], chip: u16, reader: u8, older: u8) -> Self {
+    fn load(image: &[u8], reader: Arguments, older: u8) -> Self {
         let load = |level| {
-            let walked = fast::load(Walk::FRESH, image, Arguments::at_level(chip, level));
+            let walked = fast::load(Walk::FRESH, image, Arguments { level, ..reader });
             assert_eq!(walked.number, 0);
             walked.walk
         };
         Self {
-            newer: load(reader),
+            newer: load(reader.level),
             older: load(older),
         }
     }
@@ -107,10 +108,9 @@ fn alone(blocks: usize, block: usize) -> Vec<u8> {
 
 /// The blocks of the entries that an older level takes out of a reader's table, in table order: "whose kind is a type not
 /// below the older level (256 and 257 are no types)".
-fn removed(image: &[u8], chip: u16, reader: u8, older: u8) -> Vec<usize> {
-    let arguments = Arguments::at_level(chip, reader);
-    let starts = starts(image, arguments).unwrap();
-    let (_, entries) = read_all(image, arguments);
+fn removed(image: &[u8], reader: Arguments, older: u8) -> Vec<usize> {
+    let starts = starts(image, reader).unwrap();
+    let (_, entries) = read_all(image, reader);
     let is_removed = |&(kind, _): &(u16, u16)| kind < COMPACT && kind >= older.into();
     let block = |(_, offset): (u16, u16)| {
         let is_there = |&start: &usize| start == usize::from(offset);
@@ -147,12 +147,13 @@ impl Tally {
         &mut self,
         lines: &mut dyn Iterator<Item = &str>,
         image: &[u8],
-        (chip, reader, level): (u16, u8, u8),
+        reader: Arguments,
+        level: u8,
     ) {
-        let start = Pair::load(image, chip, reader, level);
+        let start = Pair::load(image, reader, level);
         let blocks = start.newer.blocks.into();
         let tells_apart = |report: &[u8]| !start.look(report).1;
-        let removed = removed(image, chip, reader, level);
+        let removed = removed(image, reader, level);
         let is_condition_needed = || {
             let mut first = removed.iter().take(NAMED);
             first.all(|&block| tells_apart(&alone(blocks, block)))
@@ -188,30 +189,30 @@ impl Tally {
     }
 
     /// Holds what the tool says of a card that the newest reader accepts, as a reader of each level.
-    fn hold_card(&mut self, file: &str, image: &[u8], chip: u16) {
-        for reader in 0..=NEWEST_LEVEL {
-            self.hold_reader(file, image, chip, reader);
+    fn hold_card(&mut self, file: &str, image: &[u8], newest: Arguments) {
+        for level in 0..=NEWEST_LEVEL {
+            self.hold_reader(file, image, Arguments { level, ..newest });
         }
     }
 
-    fn hold_reader(&mut self, file: &str, image: &[u8], chip: u16, reader: u8) {
-        let run = card(&format!("older {file} {chip} --level {reader}"));
+    fn hold_reader(&mut self, file: &str, image: &[u8], reader: Arguments) {
+        let run = card(&format!("older {file} {}", words(reader)));
         // Shown where a sentence does not hold.
         println!("{image:02x?}\n{}", run.written);
         assert_eq!(run.status, 0);
         let (_, below) = run.written.rsplit_once("\n\n").unwrap();
         let mut lines = below.lines();
-        let connection = read_all(image, Arguments::newest(chip)).0.connection;
+        let connection = read_all(image, reader).0.connection;
         if SERVED.contains(&connection) {
-            assert_eq!(lines.next(), Some(&*title(reader)));
-            for level in 0..reader {
-                self.hold(&mut lines, image, (chip, reader, level));
+            assert_eq!(lines.next(), Some(&*title(reader.level)));
+            for level in 0..reader.level {
+                self.hold(&mut lines, image, reader, level);
             }
         } else {
             let fixed = "The connection type is fixed, so that no driver looks: all stand alike.";
             assert_eq!(lines.next(), Some(fixed));
-            for level in 0..reader {
-                let start = Pair::load(image, chip, reader, level);
+            for level in 0..reader.level {
+                let start = Pair::load(image, reader, level);
                 let reports = reports(start.newer.blocks.into());
                 let walks = [start.newer, start.older];
                 let is_refused =
@@ -228,7 +229,8 @@ impl Tally {
     fn hold_made(&mut self, folder: &Path, made: &Card, chip: u16) {
         let file = folder.join("card.rom");
         fs::write(&file, made.image()).unwrap();
-        self.hold_card(file.to_str().unwrap(), &made.image(), chip);
+        let newest = Arguments::newest(chip).laid_out(made.layout());
+        self.hold_card(file.to_str().unwrap(), &made.image(), newest);
     }
 }
 
@@ -241,18 +243,20 @@ fn title(reader: u8) -> String {
     }
 }
 
-/// A random card for the chip whose first controller has from 1 to 12 blocks, mostly of a type that looks serve, and in half
-/// of the cases with more blocks that have Active_Invalid.
+/// A random card for the chip, of either layout, whose first controller has from 1 to 12 blocks, mostly of a type that looks
+/// serve, and in half of the cases with more blocks that have Active_Invalid.
 fn random_card(random: &mut Random, chip: u16) -> Card {
     loop {
-        let mut card = Card::valid(random, chip);
+        let layout = random.pick(&LAYOUTS);
+        let mut card = Card::valid(random, chip, layout);
         if !random.one_in(6) {
             serve(random, &mut card);
         }
         if random.one_in(2) {
             mark(random, &mut card);
         }
-        let blocks = block_count(&card.image(), Arguments::newest(chip));
+        let newest = Arguments::newest(chip).laid_out(layout);
+        let blocks = block_count(&card.image(), newest);
         if (1..=MOST_BLOCKS).contains(&blocks) {
             return card;
         }
@@ -282,10 +286,10 @@ fn long_cards() -> Vec<(Card, u16)> {
 fn older_sentences() {
     let mut tally = Tally::default();
     let mut cards = 0;
-    for (name, chip, image) in samples() {
-        let is_accepted = read_all(&image, Arguments::newest(chip)).0.number == 0;
-        if is_accepted && block_count(&image, Arguments::newest(chip)) <= MOST_BLOCKS {
-            tally.hold_card(&format!("samples/{name}"), &image, chip);
+    for (name, newest, image) in samples() {
+        let is_accepted = read_all(&image, newest).0.number == 0;
+        if is_accepted && block_count(&image, newest) <= MOST_BLOCKS {
+            tally.hold_card(&format!("samples/{name}"), &image, newest);
             cards += 1;
         }
     }

@@ -1,8 +1,8 @@
 //! Transcripts of the bench tool: each line that begins with `$ ` is run at the root, and what it
 //! writes and its exit status must be as stored. `TRANSCRIPTS=write cargo test -p card` stores
-//! them anew, so they guard against change alone; tests/facts.rs holds verdicts, header fields,
-//! counts, tables, named blocks, walks, columns and sheets to the second implementation, and
-//! tests/sentences.rs what is said of older drivers.
+//! them anew, so they guard against change alone; tests/facts.rs holds verdicts in both layouts,
+//! header fields, counts, tables, Magic Packet blocks, named blocks, walks, columns and sheets to the
+//! second implementation, and tests/sentences.rs what is said of older drivers.
 
 use card::{root, shell, temporary};
 use std::fs;
@@ -42,6 +42,8 @@ transcripts! {
     files,
     /// The forms of hexadecimal text, and what is none of them.
     inputs,
+    /// Cards with a Magic Packet block: read, laid out otherwise, written, and with another block.
+    magic,
     /// Demand 3 in words: levels that walk alike, that do while a link is down, and that differ.
     older,
     /// A sample of every chip, and the replacement card.
@@ -70,7 +72,7 @@ fn every_transcript() {
 #[test]
 fn every_refusal() {
     let stored = fs::read_to_string(folder().join("refusals.txt")).unwrap();
-    for number in 1..=27 {
+    for number in (1..=27).chain([29, 30]) {
         let is_caused = stored.contains(&format!("REFUSED {number}: "));
         assert_eq!(is_caused, ![12, 20, 21].contains(&number), "{number}");
         let is_listed = stored.contains(&format!("\n  {number:>2}  "));

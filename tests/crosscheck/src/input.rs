@@ -4,6 +4,7 @@ use crate::tally::{Name, Tally};
 use library::compare::{self, Difference, Pair};
 use library::lent::hex;
 use library::levels::Older;
+use library::{Layout, Magic};
 use second::calls::{Call, Step};
 use second::reader::Arguments;
 use std::fmt::{self, Display, Formatter};
@@ -11,8 +12,12 @@ use std::fmt::{self, Display, Formatter};
 /// A call with all that it takes, or a list of calls.
 #[derive(Debug, Clone, PartialEq, Eq)]
 pub enum Input {
-    SromCrc(Vec<u8>),
+    SromCrc(Vec<u8>, Layout),
     IdCrc(Vec<u8>),
+    MagicCrc(Vec<u8>),
+    ReadMagic(Vec<u8>),
+    /// To an image with these bytes.
+    WriteMagic(Magic, Vec<u8>),
     Read {
         image: Vec<u8>,
         arguments: Arguments,
@@ -33,13 +38,16 @@ pub enum Input {
         level: u8,
         list: Vec<Call>,
     },
+    /// To an image with these bytes.
     Write {
         sheet: Vec<u8>,
-        length: usize,
+        layout: Layout,
+        image: Vec<u8>,
     },
     MakeSheet {
         image: Vec<u8>,
         chip: u16,
+        layout: Layout,
         length: usize,
     },
 }
@@ -48,8 +56,18 @@ impl Input {
     /// Makes the calls of both implementations, as far as the first difference.
     pub fn compare(&self, tally: &mut Tally) -> Result<(), Difference> {
         match self {
-            Self::SromCrc(image) => tally.count(Name::SromCrc, compare::srom_crc(image)?),
+            Self::SromCrc(image, layout) => {
+                tally.count(Name::SromCrc, compare::srom_crc(image, *layout)?);
+            }
             Self::IdCrc(image) => tally.count(Name::IdCrc, compare::id_crc(image)?),
+            Self::MagicCrc(image) => tally.count(Name::MagicCrc, compare::magic_crc(image)?),
+            Self::ReadMagic(image) => {
+                tally.count(Name::ReadMagic, compare::read_magic(image)?.number);
+            }
+            Self::WriteMagic(magic, image) => {
+                let (number, _) = compare::write_magic(*magic, image)?;
+                tally.count(Name::WriteMagic, number);
+            }
             Self::Read {
                 image,
                 arguments,
@@ -74,16 +92,21 @@ impl Input {
                 level,
                 list,
             } => compare_levels(image, *arguments, *level, list, tally)?,
-            Self::Write { sheet, length } => {
-                let (number, _) = compare::write(sheet, *length)?;
+            Self::Write {
+                sheet,
+                layout,
+                image,
+            } => {
+                let (number, _) = compare::write(sheet, *layout, image)?;
                 tally.count(Name::Write, number);
             }
             Self::MakeSheet {
                 image,
                 chip,
+                layout,
                 length,
             } => {
-                let (made, _) = compare::make_sheet(image, *chip, *length)?;
+                let (made, _) = compare::make_sheet(image, *chip, *layout, *length)?;
                 tally.count(Name::MakeSheet, made.number);
             }
         }

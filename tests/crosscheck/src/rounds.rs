@@ -5,9 +5,10 @@ use crate::input::Input;
 use library::levels::Older;
 use second::calls::{self, Habits, Step};
 use second::crc::{IMAGE_LENGTH, lay_crcs};
-use second::images::{Card, DAMAGES, Image, Sample, block, random_image};
+use second::images::{Card, DAMAGES, Image, MagicBlock, Sample, block, random_image};
+use second::layout::{LAYOUTS, Layout};
 use second::random::Random;
-use second::reader::{Arguments, CHIPS, NEWEST_LEVEL, read_all};
+use second::reader::{Arguments, NEWEST_LEVEL, read_all};
 use second::sheet;
 use second::sheets::tidy::{TIDY_DAMAGES, damaged, tidy, untidy};
 use second::sheets::{SHEET_DAMAGES, Sheet};
@@ -45,10 +46,13 @@ impl Iterator for Rounds {
     fn next(&mut self) -> Option<Self::Item> {
         let random = &mut Random::new(self.seeds.bits());
         let mut inputs = checksums(random).to_vec();
+        inputs.extend(blocks(random));
         inputs.extend(readings(random));
         inputs.push(Input::Walk(once(calls::steps(random))));
-        inputs.extend(levels(random));
-        inputs.extend(writings(random));
+        for layout in LAYOUTS {
+            inputs.extend(levels(random, layout));
+            inputs.extend(writings(random, layout));
+        }
         inputs.extend(makings(random));
         if self.number.is_multiple_of(SPENT_RARITY) {
             inputs.push(spent(random));
@@ -63,7 +67,7 @@ fn once(steps: Vec<Step>) -> Vec<(Step, usize)> {
 }
 
 /// Any bytes, few bits, or a right image, mostly 128 bytes.
-fn checksums(random: &mut Random) -> [Input; 2] {
+fn checksums(random: &mut Random) -> [Input; 4] {
     let mut image = match random.below(3) {
         0 => random.row(IMAGE_LENGTH),
         1 => {
@@ -78,13 +82,38 @@ fn checksums(random: &mut Random) -> [Input; 2] {
     if random.one_in(4) {
         image.resize(random.pick(&WRONG_LENGTHS), 0xFF);
     }
-    [Input::SromCrc(image.clone()), Input::IdCrc(image)]
+    let [plain, magic] = LAYOUTS.map(|layout| Input::SromCrc(image.clone(), layout));
+    [
+        plain,
+        magic,
+        Input::IdCrc(image.clone()),
+        Input::MagicCrc(image),
+    ]
 }
 
-/// Readings of one image at two levels, into arrays that are roomy, exact and near the block count,
+/// A Magic Packet block, right or damaged, behind any bytes, read and written again.
+fn blocks(random: &mut Random) -> [Input; 2] {
+    let block = MagicBlock::any(random);
+    let mut image = random.bytes();
+    block.lay(&mut image);
+    if random.one_in(8) {
+        change_byte(random, &mut image, Layout::MAGIC);
+    }
+    let image = resized(random, image);
+    let other = MagicBlock::valid(random).magic;
+    [
+        Input::ReadMagic(image.clone()),
+        Input::WriteMagic(other, image),
+    ]
+}
+
+/// Readings of one image at two levels, now and then in the other layout, into arrays that are roomy, exact and near the block count,
 /// and views of every entry, of one past and of one far past.
 fn readings(random: &mut Random) -> Vec<Input> {
-    let (image, arguments) = subject(random);
+    let (image, mut arguments) = subject(random);
+    if random.one_in(16) {
+        arguments.layout.magic ^= true;
+    }
     let mut inputs = Vec::new();
     for level in [arguments.level, random.pick(&LEVELS)] {
         let arguments = Arguments { level, ..arguments };
@@ -132,37 +161,30 @@ fn subject(random: &mut Random) -> (Vec<u8>, Arguments) {
         }
         6 => Sample::valid(random),
         _ => {
-            let chip = random.pick(&CHIPS);
-            Sample {
-                card: Card::wild(random, chip),
-                arguments: Arguments {
-                    chip,
-                    controller: random.pick(&[0, 0, 0, 1]),
-                    level: NEWEST_LEVEL,
-                },
-            }
+            let mut sample = Sample::wild(random);
+            sample.arguments.controller = random.pick(&[0, 0, 0, 1]);
+            sample
         }
     };
+    let layout = sample.arguments.layout;
     if random.one_in(32) {
-        sample.card = Card::longest(random);
-        sample.arguments.chip = 21041;
-        sample.arguments.controller = 0;
+        sample = Sample::longest(random, layout);
     }
     let mut image = sample.card.image();
     match random.below(16) {
-        0..3 => change_byte(random, &mut image),
-        3 => image = random_image(random),
+        0..3 => change_byte(random, &mut image, layout),
+        3 => image = random_image(random, layout),
         _ => {}
     }
     (resized(random, image), sample.arguments)
 }
 
 /// Changes one byte, often by little, and mostly mends the CRCs.
-fn change_byte(random: &mut Random, image: &mut Image) {
+fn change_byte(random: &mut Random, image: &mut Image, layout: Layout) {
     let offset = random.below(IMAGE_LENGTH);
     image[offset] = changed(random, image[offset]);
     if !random.one_in(4) {
-        lay_crcs(image);
+        lay_crcs(image, layout);
     }
 }
 
@@ -180,10 +202,10 @@ fn resized(random: &mut Random, image: Image) -> Vec<u8> {
     image
 }
 
-/// A list at each level below the newest, on one image; mostly with the removed entries down in the
-/// looks that count.
-fn levels(random: &mut Random) -> Vec<Input> {
-    let sample = calls::accepted(random);
+/// A list at each level below the newest, on one image of a layout; mostly with the removed entries
+/// down in the looks that count.
+fn levels(random: &mut Random, layout: Layout) -> Vec<Input> {
+    let sample = calls::accepted(random, layout);
     let (image, arguments) = (sample.card.image(), sample.arguments);
     let blocks = calls::block_count(&image, arguments);
     let level = |level| {
@@ -209,8 +231,13 @@ fn levels(random: &mut Random) -> Vec<Input> {
 fn spent(random: &mut Random) -> Input {
     let media = [0, 1].map(|code| block::sia(code, None, 0, 0));
     let connection = random.pick(&[0x0800, 0x8800]);
-    let image = Card::tidy(21143, connection, media.to_vec()).image();
-    let arguments = Arguments::newest(21143);
+    let layout = random.pick(&LAYOUTS);
+    let card = Card {
+        magic: MagicBlock::of_layout(random, layout),
+        ..Card::tidy(21143, connection, media.to_vec())
+    };
+    let image = card.image();
+    let arguments = Arguments::newest(21143).laid_out(layout);
     let load = Step::Load(image.to_vec(), arguments);
     let habits = Habits {
         blocks: 2,
@@ -230,77 +257,89 @@ fn spent(random: &mut Random) -> Input {
     Input::Walk(steps)
 }
 
-/// One sheet, mostly to 128 bytes; of a valid one the image and its sheet in buffers of a near
-/// length.
-fn writings(random: &mut Random) -> Vec<Input> {
+/// One sheet in a layout, to an image of mostly 128 bytes and with a Magic Packet block that is mostly
+/// right; of a valid one the image and its sheet in buffers of a near length.
+fn writings(random: &mut Random, layout: Layout) -> Vec<Input> {
     let sheet = match random.below(8) {
-        0..2 => Sheet::valid(random).bytes(),
+        0..2 => Sheet::valid(random, layout).bytes(),
         2..5 => {
             let number = random.pick(&SHEET_DAMAGES);
-            Sheet::damaged(random, number)
+            Sheet::damaged(random, number, layout)
         }
         5 => {
-            let mut sheet = Sheet::valid(random);
+            let mut sheet = Sheet::valid(random, layout);
             let later = 2 + random.below(SHEET_DAMAGES.len() - 2);
             let earlier = 1 + random.below(later - 1);
             for place in [later, earlier] {
-                sheet.damage(random, SHEET_DAMAGES[place]);
+                sheet.damage(random, SHEET_DAMAGES[place], layout);
             }
             sheet.bytes()
         }
         6 => {
-            let mut sheet = Sheet::valid(random).bytes();
+            let mut sheet = Sheet::valid(random, layout).bytes();
             let offset = random.below(sheet.len());
             sheet[offset] = changed(random, sheet[offset]);
             sheet
         }
         _ => Sheet::wild(random),
     };
-    let length = match random.below(8) {
-        0 => random.pick(&WRONG_LENGTHS),
-        _ => IMAGE_LENGTH,
+    let block = match random.below(4) {
+        0 => MagicBlock::any(random),
+        _ => MagicBlock::valid(random),
     };
+    let mut output = random.bytes();
+    block.lay(&mut output);
     let mut inputs = Vec::new();
-    let mut image = [0; IMAGE_LENGTH];
-    if sheet::write(&sheet, &mut image) == 0 {
+    let mut image = output;
+    if sheet::write(&sheet, layout, &mut image) == 0 {
         let chip = u16::from_le_bytes([sheet[sheet::CHIP], sheet[sheet::CHIP + 1]]);
         let exact = sheet.len();
         for length in [exact - 1, exact, exact + 1, ROOMY] {
             inputs.push(Input::MakeSheet {
                 image: image.to_vec(),
                 chip,
+                layout,
                 length,
             });
         }
     }
-    inputs.push(Input::Write { sheet, length });
+    let mut output = output.to_vec();
+    if random.one_in(8) {
+        output.resize(random.pick(&WRONG_LENGTHS), 0);
+    }
+    inputs.push(Input::Write {
+        sheet,
+        layout,
+        image: output,
+    });
     inputs
 }
 
 /// The sheet of an image that is damaged, not tidy, or of any bytes.
 fn makings(random: &mut Random) -> [Input; 2] {
-    let (image, chip) = match random.below(8) {
+    let (image, arguments) = match random.below(8) {
         0..3 => {
             let number = random.pick(&TIDY_DAMAGES);
             let sample = damaged(random, number);
-            (sample.card.image(), sample.arguments.chip)
+            (sample.card.image(), sample.arguments)
         }
         3..5 => untidy(random),
         5..7 => {
-            let (card, chip) = tidy(random);
-            let mut image = card.image();
-            change_byte(random, &mut image);
-            (image, chip)
+            let sample = tidy(random);
+            let mut image = sample.card.image();
+            change_byte(random, &mut image, sample.arguments.layout);
+            (image, sample.arguments)
         }
         _ => {
-            let chip = random.pick(&CHIPS);
-            (Card::wild(random, chip).image(), chip)
+            let sample = Sample::wild(random);
+            (sample.card.image(), sample.arguments)
         }
     };
     let image = resized(random, image);
     [ROOMY, random.below(ROOMY)].map(|length| Input::MakeSheet {
         image: image.clone(),
-        chip,
+        chip: arguments.chip,
+        layout: arguments.layout,
         length,
     })
 }

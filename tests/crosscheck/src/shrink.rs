@@ -1,10 +1,11 @@
-//! The smallest input that still differs, found greedily: calls and blocks are dropped, rows of
-//! bytes cut and bytes lowered, most often to 0, as long as the difference stays.
+//! The smallest input that still differs, found greedily: calls and blocks are dropped, layouts made
+//! plain, rows of bytes cut and bytes lowered, most often to 0, as long as the difference stays.
 
 use crate::input::Input;
 use second::calls::{Call, Step, block_count};
-use second::crc::lay_crcs;
+use second::crc::{lay_crcs, lay_magic_crc};
 use second::images::without_block;
+use second::layout::Layout;
 use second::reader::Arguments;
 use second::sheet::{COUNT, KINDS, TOTAL};
 
@@ -18,6 +19,8 @@ const MOST_CALLS: usize = 10_000_000;
 enum Edit {
     /// Drops so many calls of a list.
     Drop { first: usize, calls: usize },
+    /// Takes the Magic Packet block from a layout, and mends the CRCs of the images or not.
+    Plain { index: usize, mends: bool },
     /// Lowers an array's length, an entry or how often a step is taken.
     Number { index: usize, lower: Lower },
     /// Drops a block of an image or of a sheet.
@@ -62,6 +65,8 @@ struct Row<'a> {
 enum Sort {
     /// With the arguments that say whose leaf is read.
     Image(Arguments),
+    /// An image of which the Magic Packet block alone is read.
+    Block,
     Sheet,
     Other,
 }
@@ -75,7 +80,7 @@ impl<'a> Row<'a> {
         match self.sort {
             Sort::Image(arguments) => block_count(self.bytes, arguments),
             Sort::Sheet => self.bytes.first().copied().unwrap_or(0).into(),
-            Sort::Other => 0,
+            Sort::Block | Sort::Other => 0,
         }
     }
 
@@ -87,7 +92,23 @@ impl<'a> Row<'a> {
                 }
             }
             Sort::Sheet => drop_from_sheet(self.bytes, number),
-            Sort::Other => {}
+            Sort::Block | Sort::Other => {}
+        }
+    }
+
+    /// Whether an image's CRCs can be mended.
+    fn has_crcs(&self) -> bool {
+        matches!(self.sort, Sort::Image(_) | Sort::Block)
+    }
+
+    fn mend(&mut self) {
+        let Ok(image) = self.bytes.as_mut_slice().try_into() else {
+            return;
+        };
+        match self.sort {
+            Sort::Image(arguments) => lay_crcs(image, arguments.layout),
+            Sort::Block => lay_magic_crc(image),
+            Sort::Sheet | Sort::Other => {}
         }
     }
 }
@@ -131,6 +152,11 @@ fn edits(input: &Input) -> Vec<Edit> {
         edits.extend(firsts.map(|first| Edit::Drop { first, calls }));
         calls /= 2;
     }
+    for (index, layout) in layouts(&mut input).iter().enumerate() {
+        if layout.magic {
+            edits.extend([true, false].map(|mends| Edit::Plain { index, mends }));
+        }
+    }
     let numbers = numbers(&mut input).len();
     for index in 0..numbers {
         edits.extend(LOWER.map(|lower| Edit::Number { index, lower }));
@@ -139,9 +165,9 @@ fn edits(input: &Input) -> Vec<Edit> {
         let blocks = (0..row.block_count()).rev();
         edits.extend(blocks.map(|number| Edit::Block { row: index, number }));
         edits.extend(LOWER.map(|lower| Edit::Cut { row: index, lower }));
-        let mendings: &[bool] = match row.sort {
-            Sort::Image(_) => &[true, false],
-            _ => &[false],
+        let mendings: &[bool] = match row.has_crcs() {
+            true => &[true, false],
+            false => &[false],
         };
         for &mends in mendings {
             for offset in (0..row.bytes.len()).filter(|&offset| row.bytes[offset] > 0) {
@@ -161,6 +187,14 @@ impl Edit {
     fn apply(self, input: &mut Input) {
         match self {
             Self::Drop { first, calls } => drop_calls(input, first, calls),
+            Self::Plain { index, mends } => {
+                if let Some(layout) = layouts(input).get_mut(index) {
+                    **layout = Layout::PLAIN;
+                }
+                if mends {
+                    rows(input).iter_mut().for_each(Row::mend);
+                }
+            }
             Self::Number { index, lower } => {
                 if let Some(number) = numbers(input).get_mut(index) {
                     **number = lower.of(**number);
@@ -183,14 +217,14 @@ impl Edit {
                 mends,
             } => {
                 let mut rows = rows(input);
-                let Some(Row { bytes, .. }) = rows.get_mut(row) else {
+                let Some(row) = rows.get_mut(row) else {
                     return;
                 };
-                if let Some(byte) = bytes.get_mut(offset) {
+                if let Some(byte) = row.bytes.get_mut(offset) {
                     *byte = lower.of((*byte).into()) as u8;
                 }
-                if let (true, Ok(image)) = (mends, bytes.as_mut_slice().try_into()) {
-                    lay_crcs(image);
+                if mends {
+                    row.mend();
                 }
             }
         }
@@ -241,25 +275,58 @@ fn numbers(input: &mut Input) -> Vec<&mut usize> {
         Input::Read { kinds, offsets, .. } => vec![kinds, offsets],
         Input::View { entry, .. } => vec![entry],
         Input::Walk(steps) => steps.iter_mut().map(|(_, times)| times).collect(),
-        Input::Write { length, .. } | Input::MakeSheet { length, .. } => vec![length],
+        Input::MakeSheet { length, .. } => vec![length],
         _ => Vec::new(),
+    }
+}
+
+fn layouts(input: &mut Input) -> Vec<&mut Layout> {
+    match input {
+        Input::SromCrc(_, layout)
+        | Input::Write { layout, .. }
+        | Input::MakeSheet { layout, .. } => vec![layout],
+        Input::Read { arguments, .. }
+        | Input::View { arguments, .. }
+        | Input::Levels { arguments, .. } => vec![&mut arguments.layout],
+        Input::Walk(steps) => {
+            let layouts = steps.iter_mut().filter_map(|(step, _)| match step {
+                Step::Load(_, arguments) => Some(&mut arguments.layout),
+                Step::Look(_) | Step::Clear => None,
+            });
+            layouts.collect()
+        }
+        Input::IdCrc(_) | Input::MagicCrc(_) | Input::ReadMagic(_) | Input::WriteMagic(..) => {
+            Vec::new()
+        }
     }
 }
 
 fn rows(input: &mut Input) -> Vec<Row<'_>> {
     match input {
-        Input::SromCrc(image) | Input::IdCrc(image) => vec![Row::new(image, Sort::Other)],
+        Input::SromCrc(image, _) | Input::IdCrc(image) | Input::MagicCrc(image) => {
+            vec![Row::new(image, Sort::Other)]
+        }
+        Input::ReadMagic(image) | Input::WriteMagic(_, image) => {
+            vec![Row::new(image, Sort::Block)]
+        }
         Input::Read {
             image, arguments, ..
         }
         | Input::View {
             image, arguments, ..
         } => vec![Row::new(image, Sort::Image(*arguments))],
-        Input::MakeSheet { image, chip, .. } => {
-            let arguments = Arguments::newest(*chip);
+        Input::MakeSheet {
+            image,
+            chip,
+            layout,
+            ..
+        } => {
+            let arguments = Arguments::newest(*chip).laid_out(*layout);
             vec![Row::new(image, Sort::Image(arguments))]
         }
-        Input::Write { sheet, .. } => vec![Row::new(sheet, Sort::Sheet)],
+        Input::Write { sheet, image, .. } => {
+            vec![Row::new(sheet, Sort::Sheet), Row::new(image, Sort::Block)]
+        }
         Input::Walk(steps) => {
             let rows = steps.iter_mut().filter_map(|(step, _)| match step {
                 Step::Load(image, arguments) => Some(Row::new(image, Sort::Image(*arguments))),
@@ -289,10 +356,12 @@ mod tests {
     use super::*;
     use crate::rounds::Rounds;
     use second::crc::IMAGE_LENGTH;
+    use second::images::{MagicBlock, Sample};
+    use second::magic::read_magic;
     use second::random::Random;
     use second::reader::read_all;
     use second::sheet::write;
-    use second::sheets::Sheet;
+    use second::sheets::{Sheet, output};
     use std::iter;
 
     const ARGUMENTS: Arguments = Arguments::newest(21143);
@@ -300,15 +369,52 @@ mod tests {
     /// A difference at one byte above 6: that byte alone is left, and it is 7.
     #[test]
     fn one_byte() {
-        let input = Input::SromCrc(Random::new(1).row(128));
+        let input = Input::SromCrc(Random::new(1).row(128), Layout::MAGIC);
         let is_high = |bytes: &[u8]| bytes.get(40).is_some_and(|&byte| byte > 6);
         let smallest = shrink(input, |input| match input {
-            Input::SromCrc(bytes) => is_high(bytes),
+            Input::SromCrc(bytes, _) => is_high(bytes),
             _ => false,
         });
         let mut expected = vec![0; 41];
         expected[40] = 7;
-        assert_eq!(smallest, Input::SromCrc(expected));
+        assert_eq!(smallest, Input::SromCrc(expected, Layout::PLAIN));
+    }
+
+    /// A difference at a right Magic Packet block: its CRC is mended, so that all else becomes 0.
+    #[test]
+    fn mended_block() {
+        let is_right = |input: &Input| match input {
+            Input::ReadMagic(image) => read_magic(image).number == 0,
+            _ => false,
+        };
+        let mut image = Random::new(4).bytes();
+        MagicBlock::valid(&mut Random::new(5)).lay(&mut image);
+        let smallest = shrink(Input::ReadMagic(image.to_vec()), is_right);
+        let mut expected = [0; IMAGE_LENGTH];
+        lay_magic_crc(&mut expected);
+        assert_eq!(smallest, Input::ReadMagic(expected.to_vec()));
+    }
+
+    /// A difference at accepted images of a layout with a Magic Packet block stays in that layout; one
+    /// at any accepted image becomes plain.
+    #[test]
+    fn plain_layout() {
+        let sample = Sample::valid_in(&mut Random::new(6), Layout::MAGIC);
+        let input = Input::View {
+            image: sample.card.image().to_vec(),
+            arguments: sample.arguments,
+            entry: 9,
+        };
+        let layout = |input: &Input| match input {
+            Input::View {
+                image, arguments, ..
+            } if read_all(image, *arguments).0.number == 0 => Some(arguments.layout),
+            _ => None,
+        };
+        let smallest = shrink(input.clone(), |input| layout(input).is_some());
+        assert_eq!(layout(&smallest), Some(Layout::PLAIN));
+        let smallest = shrink(input, |input| layout(input) == Some(Layout::MAGIC));
+        assert_eq!(layout(&smallest), Some(Layout::MAGIC));
     }
 
     /// A difference at a look with two links up after a load: both calls are left, and the report
@@ -376,20 +482,29 @@ mod tests {
     fn dropped_blocks() {
         let mut random = Random::new(2);
         let drawn = iter::repeat_with(|| Input::Write {
-            sheet: Sheet::valid(&mut random).bytes(),
-            length: IMAGE_LENGTH,
+            sheet: Sheet::valid(&mut random, Layout::MAGIC).bytes(),
+            layout: Layout::MAGIC,
+            image: output(&mut random, Layout::MAGIC).to_vec(),
         });
         let has_block = |input: &Input| match input {
-            Input::Write { sheet, length } => {
-                write(sheet, &mut vec![0; *length]) == 0 && sheet[COUNT] > 0
-            }
+            Input::Write {
+                sheet,
+                layout,
+                image,
+            } => write(sheet, *layout, &mut image.clone()) == 0 && sheet[COUNT] > 0,
             _ => false,
         };
         for input in drawn.filter(has_block).take(20) {
-            let Input::Write { sheet, length } = shrink(input, has_block) else {
+            let Input::Write {
+                sheet,
+                layout,
+                image,
+            } = shrink(input, has_block)
+            else {
                 panic!("another call");
             };
-            assert_eq!((sheet[COUNT], length), (1, IMAGE_LENGTH), "{sheet:02x?}");
+            assert_eq!((sheet[COUNT], layout), (1, Layout::PLAIN), "{sheet:02x?}");
+            assert_eq!(image, [0; IMAGE_LENGTH]);
         }
     }
 

@@ -2,15 +2,18 @@
 
 use second::reader::NEWEST_LEVEL;
 
-const HIGHEST_REFUSAL: usize = 27;
+const HIGHEST_REFUSAL: usize = 30;
 
 /// The exported calls.
 #[derive(Debug, Clone, Copy)]
 pub enum Name {
     SromCrc,
     IdCrc,
+    MagicCrc,
     Read,
     View,
+    ReadMagic,
+    WriteMagic,
     Fresh,
     Load,
     Look,
@@ -20,11 +23,14 @@ pub enum Name {
 }
 
 /// Their names without `srom_`, in the same order.
-const NAMES: [&str; 10] = [
+const NAMES: [&str; 13] = [
     "crc",
     "id_crc",
+    "magic_crc",
     "read",
     "view",
+    "read_magic",
+    "write_magic",
     "fresh",
     "load",
     "look",
@@ -112,6 +118,6 @@ fn cell(often: u64) -> String {
 }
 
 fn row<const CELLS: usize>(first: &str, cells: [String; CELLS]) -> String {
-    let cells = cells.map(|cell| format!("{cell:>11}")).concat();
+    let cells = cells.map(|cell| format!("{cell:>12}")).concat();
     format!("{first:<7}{cells}").trim_end().to_owned() + "\n"
 }

@@ -1,20 +1,26 @@
-//! The media table of an image's first controller: `media IMAGE CHIP`.
+//! The media table of an image's first controller: `media IMAGE CHIP [magic]`, with the last word
+//! where the image has a Magic Packet block.
 
-use library::{Arguments, read, view};
+use library::{Arguments, Layout, read, view};
 use second::reader::MOST_BLOCKS;
 use std::{env, fs, process::exit};
 
 fn main() {
     let words: Vec<_> = env::args().skip(1).collect();
-    let [name, chip] = words.as_slice() else {
-        eprintln!("usage: media IMAGE CHIP");
-        exit(2);
+    let words: Vec<_> = words.iter().map(String::as_str).collect();
+    let (name, chip, magic) = match words[..] {
+        [name, chip] => (name, chip, false),
+        [name, chip, "magic"] => (name, chip, true),
+        _ => {
+            eprintln!("usage: media IMAGE CHIP [magic]");
+            exit(2);
+        }
     };
     let (Ok(image), Ok(chip)) = (fs::read(name), chip.parse()) else {
         eprintln!("media: {name} cannot be read, or {chip} is no chip");
         exit(2);
     };
-    let arguments = Arguments::newest(chip);
+    let arguments = Arguments::newest(chip).laid_out(Layout { magic });
     let (mut kinds, mut offsets) = ([0; MOST_BLOCKS], [0; MOST_BLOCKS]);
     let answer = read(&image, arguments, &mut kinds, &mut offsets);
     if answer.number != 0 {

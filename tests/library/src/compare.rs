@@ -2,10 +2,10 @@
 //! stands between guards.
 
 use crate::lent::{Lent, hex};
-use crate::{Answer, Arguments, Made, Part, Walk, Walked};
+use crate::{Answer, Arguments, Checksum, Layout, Made, Magic, MagicAnswer, Part, Walk, Walked};
 use second::calls::{Call, Step};
 use second::walk::Autosense;
-use second::{crc, reader, sheet};
+use second::{crc, magic, reader, sheet};
 use std::fmt::{self, Debug, Display, Formatter};
 
 /// A call with two answers that differ.
@@ -37,25 +37,68 @@ pub fn agreed<A>(compared: Result<A, Difference>) -> A {
 }
 
 /// The number that both answered.
-pub fn srom_crc(image: &[u8]) -> Result<u8, Difference> {
+pub fn srom_crc(image: &[u8], layout: Layout) -> Result<u8, Difference> {
+    checksum(
+        || format!("srom_crc {layout:?}"),
+        |image| crate::srom_crc(image, layout),
+        |image| crc::srom_crc(image, layout),
+        image,
+    )
+}
+
+/// The number that both answered.
+pub fn id_crc(image: &[u8]) -> Result<u8, Difference> {
+    checksum(|| "srom_id_crc".into(), crate::id_crc, crc::id_crc, image)
+}
+
+/// The number that both answered.
+pub fn magic_crc(image: &[u8]) -> Result<u8, Difference> {
+    checksum(
+        || "srom_magic_crc".into(),
+        crate::magic_crc,
+        crc::magic_crc,
+        image,
+    )
+}
+
+/// The number that the library's CRC call and the second implementation's rule answered.
+fn checksum(
+    call: impl FnOnce() -> String,
+    library: impl Fn(&[u8]) -> Checksum,
+    second: impl Fn(&[u8]) -> Checksum,
+    image: &[u8],
+) -> Result<u8, Difference> {
     let lent = Lent::new(image);
     let answer = judge(
-        || format!("srom_crc\nimage   {}", hex(image)),
-        [crate::srom_crc(lent.elements()), crc::srom_crc(image)],
+        || format!("{}\nimage   {}", call(), hex(image)),
+        [library(lent.elements()), second(image)],
         [lent.fault("image", image)],
     );
     Ok(answer?.number)
 }
 
-/// The number that both answered.
-pub fn id_crc(image: &[u8]) -> Result<u8, Difference> {
+/// What both read of a Magic Packet block.
+pub fn read_magic(image: &[u8]) -> Result<MagicAnswer, Difference> {
     let lent = Lent::new(image);
-    let answer = judge(
-        || format!("srom_id_crc\nimage   {}", hex(image)),
-        [crate::id_crc(lent.elements()), crc::id_crc(image)],
+    judge(
+        || format!("srom_read_magic\nimage   {}", hex(image)),
+        [crate::read_magic(lent.elements()), magic::read_magic(image)],
         [lent.fault("image", image)],
-    );
-    Ok(answer?.number)
+    )
+}
+
+/// The number that both answered, and the image after the writing of a Magic Packet block to it.
+pub fn write_magic(magic: Magic, before: &[u8]) -> Result<(u8, Vec<u8>), Difference> {
+    let (mut lent, mut image) = (Lent::new(before), before.to_vec());
+    let number = judge(
+        || format!("srom_write_magic {magic:02x?}\nimage   {}", hex(before)),
+        [
+            crate::write_magic(magic, lent.elements_mut()),
+            magic::write_magic(magic, &mut image),
+        ],
+        [lent.fault("image", &image)],
+    )?;
+    Ok((number, image))
 }
 
 /// What a reading answered, and its arrays after it.
@@ -134,15 +177,18 @@ pub fn view(image: &[u8], arguments: Arguments, entry: usize) -> Result<Part, Di
     )
 }
 
-/// The number that both answered, and the image after the writing of a sheet to so many bytes.
-pub fn write(sheet: &[u8], length: usize) -> Result<(u8, Vec<u8>), Difference> {
-    let (lent, mut lent_image) = (Lent::new(sheet), Lent::pattern(length));
-    let mut image = lent_image.elements().to_vec();
+/// The number that both answered, and the image after the writing of a sheet to it.
+pub fn write(sheet: &[u8], layout: Layout, before: &[u8]) -> Result<(u8, Vec<u8>), Difference> {
+    let (lent, mut lent_image) = (Lent::new(sheet), Lent::new(before));
+    let mut image = before.to_vec();
     let number = judge(
-        || format!("srom_write to {length} bytes\nsheet   {}", hex(sheet)),
+        || {
+            let (sheet, before) = (hex(sheet), hex(before));
+            format!("srom_write {layout:?}\nsheet   {sheet}\nto      {before}")
+        },
         [
-            crate::write(lent.elements(), lent_image.elements_mut()),
-            sheet::write(sheet, &mut image),
+            crate::write(lent.elements(), layout, lent_image.elements_mut()),
+            sheet::write(sheet, layout, &mut image),
         ],
         [
             lent.fault("sheet", sheet),
@@ -153,17 +199,24 @@ pub fn write(sheet: &[u8], length: usize) -> Result<(u8, Vec<u8>), Difference> {
 }
 
 /// What both answered, and the buffer of so many bytes after the making of a sheet in it.
-pub fn make_sheet(image: &[u8], chip: u16, length: usize) -> Result<(Made, Vec<u8>), Difference> {
+pub fn make_sheet(
+    image: &[u8],
+    chip: u16,
+    layout: Layout,
+    length: usize,
+) -> Result<(Made, Vec<u8>), Difference> {
     let (lent, mut lent_buffer) = (Lent::new(image), Lent::pattern(length));
     let mut buffer = lent_buffer.elements().to_vec();
     let made = judge(
         || {
             let image = hex(image);
-            format!("srom_make_sheet for the {chip} in {length} bytes\nimage   {image}")
+            format!(
+                "srom_make_sheet for the {chip}, {layout:?}, in {length} bytes\nimage   {image}"
+            )
         },
         [
-            crate::make_sheet(lent.elements(), chip, lent_buffer.elements_mut()),
-            sheet::make(image, chip, &mut buffer),
+            crate::make_sheet(lent.elements(), chip, layout, lent_buffer.elements_mut()),
+            sheet::make(image, chip, layout, &mut buffer),
         ],
         [
             lent.fault("image", image),

@@ -6,6 +6,8 @@ pub mod lent;
 pub mod levels;
 
 pub use second::crc::Checksum;
+pub use second::layout::Layout;
+pub use second::magic::{Magic, MagicAnswer};
 pub use second::reader::{Answer, Arguments};
 pub use second::sheet::Made;
 pub use second::walk::{Walk, Walked};
@@ -19,11 +21,14 @@ pub struct Part {
 }
 
 mod archive {
-    use super::{Answer, Arguments, Checksum, Made, Part, Walk, Walked};
+    use super::{
+        Answer, Arguments, Checksum, Layout, Made, Magic, MagicAnswer, Part, Walk, Walked,
+    };
 
     unsafe extern "C" {
-        pub fn srom_crc(image: *const u8, length: usize) -> Checksum;
+        pub fn srom_crc(image: *const u8, length: usize, layout: Layout) -> Checksum;
         pub fn srom_id_crc(image: *const u8, length: usize) -> Checksum;
+        pub fn srom_magic_crc(image: *const u8, length: usize) -> Checksum;
         pub fn srom_read(
             image: *const u8,
             image_length: usize,
@@ -39,6 +44,8 @@ mod archive {
             arguments: Arguments,
             entry: usize,
         ) -> Part;
+        pub fn srom_read_magic(image: *const u8, length: usize) -> MagicAnswer;
+        pub fn srom_write_magic(magic: Magic, image: *mut u8, length: usize) -> u8;
         pub safe fn srom_fresh() -> Walk;
         pub fn srom_load(
             walk: Walk,
@@ -51,6 +58,7 @@ mod archive {
         pub fn srom_write(
             sheet: *const u8,
             sheet_length: usize,
+            layout: Layout,
             image: *mut u8,
             image_length: usize,
         ) -> u8;
@@ -58,17 +66,19 @@ mod archive {
             image: *const u8,
             image_length: usize,
             chip: u16,
+            layout: Layout,
             buffer: *mut u8,
             buffer_length: usize,
         ) -> Made;
     }
 }
 
-/// The SROM CRC of bytes 0 to 125, to be stored in bytes 126 and 127; refusal 1 for an image that
-/// has not exactly 128 bytes.
-pub fn srom_crc(image: &[u8]) -> Checksum {
+/// The SROM CRC of bytes 0 to 125, to be stored in bytes 126 and 127, or with a Magic Packet block of
+/// bytes 0 to 93, to be stored in bytes 94 and 95; refusal 1 for an image that has not exactly 128
+/// bytes.
+pub fn srom_crc(image: &[u8], layout: Layout) -> Checksum {
     // SAFETY: the call only reads the `length` bytes at `image`, which the slice lends it.
-    unsafe { archive::srom_crc(image.as_ptr(), image.len()) }
+    unsafe { archive::srom_crc(image.as_ptr(), image.len(), layout) }
 }
 
 /// The ID CRC of words 0 to 7 and byte 17, to be stored in byte 16; refusal 1 for an image that
@@ -76,6 +86,13 @@ pub fn srom_crc(image: &[u8]) -> Checksum {
 pub fn id_crc(image: &[u8]) -> Checksum {
     // SAFETY: the call only reads the `length` bytes at `image`, which the slice lends it.
     unsafe { archive::srom_id_crc(image.as_ptr(), image.len()) }
+}
+
+/// The CRC of a Magic Packet block, of words 48 to 62 and byte 127, to be stored in byte 126; refusal
+/// 1 for an image that has not exactly 128 bytes.
+pub fn magic_crc(image: &[u8]) -> Checksum {
+    // SAFETY: the call only reads the `length` bytes at `image`, which the slice lends it.
+    unsafe { archive::srom_magic_crc(image.as_ptr(), image.len()) }
 }
 
 /// Reads the leaf of one controller and lists its known blocks in the two arrays, the last block
@@ -109,6 +126,19 @@ pub fn view_part(image: &[u8], arguments: Arguments, entry: usize) -> Part {
     unsafe { archive::srom_view(image.as_ptr(), image.len(), arguments, entry) }
 }
 
+/// What the Magic Packet block of an image says, whatever stands before it.
+pub fn read_magic(image: &[u8]) -> MagicAnswer {
+    // SAFETY: the call only reads the `length` bytes at `image`, which the slice lends it.
+    unsafe { archive::srom_read_magic(image.as_ptr(), image.len()) }
+}
+
+/// Writes the Magic Packet block to bytes 96 to 127 of an image, and answers the number; a refusal
+/// leaves the image as it is.
+pub fn write_magic(magic: Magic, image: &mut [u8]) -> u8 {
+    // SAFETY: the call writes no more than the `length` bytes at `image`, which the slice lends it.
+    unsafe { archive::srom_write_magic(magic, image.as_mut_ptr(), image.len()) }
+}
+
 /// A walk that has read no image.
 pub fn fresh() -> Walk {
     archive::srom_fresh()
@@ -133,16 +163,24 @@ pub fn clear(walk: Walk) -> Walked {
 }
 
 /// Writes the image that a sheet describes, and answers the number; a refusal leaves the image as
-/// it is.
-pub fn write(sheet: &[u8], image: &mut [u8]) -> u8 {
+/// it is. Where the layout has a Magic Packet block, the image's own is kept.
+pub fn write(sheet: &[u8], layout: Layout, image: &mut [u8]) -> u8 {
     // SAFETY: the call only reads the bytes at `sheet`, and writes no more than those at `image`;
     // the two slices lend it all of these, apart from each other.
-    unsafe { archive::srom_write(sheet.as_ptr(), sheet.len(), image.as_mut_ptr(), image.len()) }
+    unsafe {
+        archive::srom_write(
+            sheet.as_ptr(),
+            sheet.len(),
+            layout,
+            image.as_mut_ptr(),
+            image.len(),
+        )
+    }
 }
 
 /// Makes the sheet of a tidy image, in the first bytes of the buffer; a refusal leaves the buffer
 /// as it is.
-pub fn make_sheet(image: &[u8], chip: u16, buffer: &mut [u8]) -> Made {
+pub fn make_sheet(image: &[u8], chip: u16, layout: Layout, buffer: &mut [u8]) -> Made {
     // SAFETY: the call only reads the bytes at `image`, and writes no more than those at `buffer`;
     // the two slices lend it all of these, apart from each other.
     unsafe {
@@ -150,6 +188,7 @@ pub fn make_sheet(image: &[u8], chip: u16, buffer: &mut [u8]) -> Made {
             image.as_ptr(),
             image.len(),
             chip,
+            layout,
             buffer.as_mut_ptr(),
             buffer.len(),
         )

@@ -2,9 +2,12 @@
 //! archive, and run. Needs `cc` and `c++`.
 
 use library::Part;
+use library::lent::hex;
 use second::calls;
-use second::crc::{self, Checksum, IMAGE_LENGTH};
+use second::crc::{self, Checksum, IMAGE_LENGTH, MAGIC_CRC_OFFSET};
 use second::images::{Card, Sample, block};
+use second::layout::{LAYOUTS, Layout};
+use second::magic::{self, Magic, MagicAnswer};
 use second::random::Random;
 use second::reader::{
     self, Answer, Arguments, CHIPS, COMPACT, MEDIA_21041, NEWEST_LEVEL, NO_DEFAULT,
@@ -61,8 +64,9 @@ fn lines(output: &Output) -> Vec<String> {
 /// What C and C++ make of each struct: name, field or `size`, number.
 fn layout_source() -> String {
     let structs = [
-        ("srom_checksum", &["number", "value"][..]),
-        ("srom_arguments", &["chip", "controller", "level"]),
+        ("srom_layout", &["magic"][..]),
+        ("srom_checksum", &["number", "value"]),
+        ("srom_arguments", &["chip", "controller", "level", "layout"]),
         (
             "srom_answer",
             &[
@@ -77,6 +81,8 @@ fn layout_source() -> String {
                 "default_number",
             ],
         ),
+        ("srom_magic", &["password", "address", "command"]),
+        ("srom_magic_answer", &["number", "magic"]),
         ("srom_rows", &["listed", "active_invalid"]),
         (
             "srom_walk",
@@ -124,8 +130,9 @@ fn layout_expected() -> Vec<String> {
         };
     }
     [
+        layout!("srom_layout", Layout, magic),
         layout!("srom_checksum", Checksum, number, value),
-        layout!("srom_arguments", Arguments, chip, controller, level),
+        layout!("srom_arguments", Arguments, chip, controller, level, layout),
         layout!(
             "srom_answer",
             Answer,
@@ -139,6 +146,8 @@ fn layout_expected() -> Vec<String> {
             skipped,
             default_number
         ),
+        layout!("srom_magic", Magic, password, address, command),
+        layout!("srom_magic_answer", MagicAnswer, number, magic),
         layout!("srom_rows", Rows, listed, active_invalid),
         layout!(
             "srom_walk",
@@ -178,8 +187,8 @@ fn header_is_cpp17() {
     header_in("c++", "-std=c++17", "cc");
 }
 
-/// The header's names for document 01's refusals, by their numbers.
-const REFUSALS: [&str; 28] = [
+/// The header's names for document 01's refusals, by their numbers, and document 02's from 29 on.
+const REFUSALS: [&str; 30] = [
     "ACCEPTED",
     "BAD_IMAGE_LENGTH",
     "BAD_VERSION",
@@ -208,9 +217,11 @@ const REFUSALS: [&str; 28] = [
     "BAD_SHEET_ENTRY",
     "LEAF_TOO_LONG",
     "NOT_TIDY",
+    "BAD_MAGIC_CRC",
+    "BAD_MAGIC_RESERVED",
 ];
 
-/// Each number that the header names is the second implementation's, or document 01's.
+/// Each number that the header names is the second implementation's, or the documents'.
 #[test]
 fn header_numbers() {
     let [autosense, once, nway] = SERVED;
@@ -226,7 +237,8 @@ fn header_numbers() {
         ("AUTOSENSE_NWAY".to_owned(), nway.into()),
     ];
     expected.extend(CHIPS.map(|chip| (chip.to_string(), chip.into())));
-    expected.extend(REFUSALS.map(str::to_owned).into_iter().zip(0..));
+    let numbers = (0..=27).chain(29..);
+    expected.extend(REFUSALS.map(str::to_owned).into_iter().zip(numbers));
     assert_eq!(NONE, NO_DEFAULT);
     let header = fs::read_to_string(root().join("include/srom.h")).unwrap();
     let named = header
@@ -248,21 +260,80 @@ fn header_numbers() {
     }
 }
 
+/// The cells of each row of the table that stands first in a section of the manual, but for its titles.
+fn header_table(section: &str) -> Vec<Vec<String>> {
+    let header = fs::read_to_string(root().join("include/srom.h")).unwrap();
+    let section = format!("/* ---- {section} ---- */");
+    let rows = header
+        .lines()
+        .skip_while(|line| *line != section)
+        .skip_while(|line| !line.starts_with(" *     "))
+        .skip(1)
+        .map_while(|line| line.strip_prefix(" *     "));
+    let cells = |row: &str| {
+        let cells = row.split("  ").map(str::trim);
+        cells
+            .filter(|cell| !cell.is_empty())
+            .map(str::to_owned)
+            .collect()
+    };
+    rows.map(cells).collect()
+}
+
+/// The first cell of each row, which says where a field stands.
+fn header_places(section: &str) -> Vec<String> {
+    let rows = header_table(section).into_iter();
+    rows.map(|row| row[0].replace(" * N", "N")).collect()
+}
+
+/// A field of two bytes.
+fn pair(first: usize) -> String {
+    format!("{first}, {}", first + 1)
+}
+
+/// A field of so many bytes.
+fn range(first: usize, size: usize) -> String {
+    format!("{first} to {}", first + size - 1)
+}
+
+/// Document 02, request 1: the manual says where the layout's parts stand as the second implementation has them.
+#[test]
+fn header_layouts() {
+    let cells = |name: &str, of: fn(Layout) -> String| {
+        let [without, with] = LAYOUTS.map(of);
+        vec![name.to_owned(), without, with]
+    };
+    let expected = [
+        cells("leaves end before", |it| it.leaf_limit().to_string()),
+        cells("the maker's bytes", |it| pair(it.leaf_limit())),
+        cells("SROM CRC", |it| pair(it.srom_crc_offset())),
+        cells("which covers", |it| range(0, it.srom_crc_offset())),
+        cells("controllers", |it| range(1, it.most_controllers())),
+        cells("the block", |it| match it.magic {
+            true => range(it.board_end(), IMAGE_LENGTH - it.board_end()),
+            false => "none".to_owned(),
+        }),
+    ];
+    assert_eq!(header_table("Layout"), expected);
+}
+
+/// Document 000, section 4, by the field sizes: the manual's table has a row for each field of the block.
+#[test]
+fn header_magic_block() {
+    let expected = [
+        range(magic::PASSWORD_OFFSET, 6),
+        range(magic::ADDRESS_OFFSET, 6),
+        pair(magic::COMMAND_OFFSET),
+        range(magic::RESERVED.start, 16),
+        MAGIC_CRC_OFFSET.to_string(),
+        magic::LAST_RESERVED.to_string(),
+    ];
+    assert_eq!(header_places("The Magic Packet block"), expected);
+}
+
 /// Document 01, 'The sheet': the manual's table has a row for each field, at the byte where the second implementation has it.
 #[test]
 fn header_sheet_layout() {
-    let header = fs::read_to_string(root().join("include/srom.h")).unwrap();
-    let table = header
-        .lines()
-        .skip_while(|line| !line.starts_with(" *     byte  "))
-        .skip(1)
-        .map_while(|line| line.strip_prefix(" *     "));
-    let places: Vec<_> = table
-        .map(|row| row.split("  ").next().unwrap().replace(" * N", "N"))
-        .collect();
-    let last = |first: usize, size: usize| first + size - 1;
-    let pair = |first: usize| format!("{first}, {}", last(first, 2));
-    let range = |first: usize, size: usize| format!("{first} to {}", last(first, size));
     let expected = [
         sheet::COUNT.to_string(),
         sheet::TOTAL.to_string(),
@@ -279,7 +350,7 @@ fn header_sheet_layout() {
         format!("{} + 2N", sheet::KINDS),
         format!("{} + 3N", sheet::KINDS),
     ];
-    assert_eq!(places, expected);
+    assert_eq!(header_places("Sheets"), expected);
 }
 
 /// What tests/fields.c prints of a walk.
@@ -302,22 +373,38 @@ fn walk_fields(walk: &Walk) -> String {
 
 /// What tests/fields.c prints for an image, from the second implementation.
 fn fields_expected(image: &[u8], arguments: Arguments) -> Vec<String> {
-    let short = &image[1..];
+    let Arguments { chip, layout, .. } = arguments;
     let (answer, _) = reader::read_all(image, arguments);
     let part = reader::view(image, arguments, 0);
     let start = part.as_ptr().addr() - image.as_ptr().addr();
-    let checksum = |crc: Checksum| format!("checksum {} {}", crc.number, crc.value);
-    let mut expected = vec![
-        checksum(crc::srom_crc(image)),
-        checksum(crc::id_crc(image)),
-        checksum(crc::srom_crc(short)),
-        checksum(crc::id_crc(short)),
-        format!(
-            "answer {}",
-            answer.values().map(|value| value.to_string()).join(" ")
-        ),
-        format!("part {start} {}", part.len()),
-    ];
+    let mut expected = Vec::new();
+    for image in [image, &image[1..]] {
+        let crcs = [
+            crc::srom_crc(image, layout),
+            crc::id_crc(image),
+            crc::magic_crc(image),
+        ];
+        expected.extend(crcs.map(|crc| format!("checksum {} {}", crc.number, crc.value)));
+    }
+    let values = answer.values().map(|value| value.to_string()).join(" ");
+    expected.push(format!("answer {values}"));
+    expected.push(format!("part {start} {}", part.len()));
+    let MagicAnswer { number, magic } = magic::read_magic(image);
+    let (password, address) = (hex(&magic.password), hex(&magic.address));
+    expected.push(format!(
+        "magic {number} {password} {address} {}",
+        magic.command
+    ));
+    let other = Magic {
+        password: [1, 2, 3, 4, 5, 6],
+        address: magic.password,
+        command: magic.command.wrapping_add(7),
+    };
+    for length in [IMAGE_LENGTH - 1, IMAGE_LENGTH] {
+        let mut copy = image.to_vec();
+        let number = magic::write_magic(other, &mut copy[..length]);
+        expected.push(format!("block {number} {}", hex(&copy)));
+    }
     let mut walk = Autosense::default();
     for call in ["load", "look", "look", "clear"] {
         let report = [u8::from(walk.walk().looks == 1); 128];
@@ -328,8 +415,13 @@ fn fields_expected(image: &[u8], arguments: Arguments) -> Vec<String> {
         };
         expected.push(format!("walked {number}{}", walk_fields(&walk.walk())));
     }
-    let made = sheet::make(image, arguments.chip, &mut [0; 1024]);
+    let mut buffer = [0; 1024];
+    let made = sheet::make(image, chip, layout, &mut buffer);
     expected.push(format!("made {} {}", made.number, made.length));
+    let mut copy = image.to_vec();
+    copy[30..90].fill(0xFF);
+    let number = sheet::write(&buffer[..made.length], layout, &mut copy);
+    expected.push(format!("written {number} {}", hex(&copy)));
     expected
 }
 
@@ -343,7 +435,7 @@ fn fields_in(compiler: &str, standard: &str, extension: &str) {
     let file = scratch(&format!("fields-{extension}.rom"));
     let mut random = Random::new(21143);
     let mut values: BTreeMap<(String, usize), BTreeSet<String>> = BTreeMap::new();
-    for _ in 0..60 {
+    for _ in 0..120 {
         let Sample { card, arguments } = calls::sample(&mut random);
         let image = card.image();
         fs::write(&file, image).unwrap();
@@ -636,6 +728,52 @@ fn probe_tells_every_step() {
     }
     // The last kind is the refusal under a fixed type.
     assert_eq!(told.len(), RefusedFixed as usize + 1, "met: {told:?}");
+}
+
+/// Document 02, request 1, on a wake-up card: its media table in that layout, and what its block says.
+#[test]
+fn probe_shows_a_magic_packet_block() {
+    let name = "samples/magic-21143.rom";
+    let image = fs::read(root().join(name)).unwrap();
+    let arguments = Arguments::newest(21143).laid_out(Layout::MAGIC);
+    let output = probe(&[name, "21143", "0", "magic", "10000"]);
+    let (answer, entries) = reader::read_all(&image, arguments);
+    let Magic {
+        password,
+        address,
+        command,
+    } = magic::read_magic(&image).magic;
+    let mut expected = vec![format!(
+        "address {:012x}, connection type 0x{:04x}",
+        answer.address, answer.connection
+    )];
+    for (entry, (kind, offset)) in entries.into_iter().enumerate() {
+        expected.push(entry_line(&image, arguments, entry, kind, offset));
+    }
+    expected.push("  1 resets, 0 blocks of unknown types stepped over".to_owned());
+    expected.push(format!(
+        "wakes by address {}, password {}, command 0x{command:04x}",
+        hex(&address),
+        hex(&password)
+    ));
+    let printed = lines(&output);
+    assert_eq!(printed[..printed.len() - 1], expected);
+    assert_eq!(output.status.code(), Some(0));
+}
+
+/// The caller says that the block is there: without the word its card is refused with 3, and with it one that has none.
+#[test]
+fn probe_goes_by_the_layout() {
+    for words in [
+        &["samples/magic-21143.rom", "21143", "0"][..],
+        &["samples/21143.rom", "21143", "0", "magic"],
+    ] {
+        let output = probe(words);
+        assert_eq!(lines(&output), ["refused 3"]);
+        assert_eq!(output.status.code(), Some(1));
+    }
+    let output = probe(&["samples/damaged-magic-crc.rom", "21143", "0", "magic"]);
+    assert_eq!(lines(&output), ["refused 29"]);
 }
 
 #[test]

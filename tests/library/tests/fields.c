@@ -5,12 +5,20 @@
 #include <srom.h>
 #include <stdio.h>
 #include <stdlib.h>
+#include <string.h>
 
 enum { ROOM = 1024, ROW = 128 };
 
 static void show_checksum(srom_checksum checksum)
 {
     printf("checksum %u %u\n", checksum.number, checksum.value);
+}
+
+static void show_bytes(const uint8_t *bytes, int count)
+{
+    printf(" ");
+    for (int k = 0; k < count; k++)
+        printf("%02x", bytes[k]);
 }
 
 static void show_row(const uint8_t *row)
@@ -35,11 +43,52 @@ static srom_walk show_walked(srom_walked walked)
     return walked.walk;
 }
 
+/* The CRCs of an image of so many bytes. */
+static void show_checksums(const uint8_t *image, size_t length, srom_layout layout)
+{
+    show_checksum(srom_crc(image, length, layout));
+    show_checksum(srom_id_crc(image, length));
+    show_checksum(srom_magic_crc(image, length));
+}
+
+/* The Magic Packet block, and another one written to a copy of the image, but for its last byte and whole. */
+static void show_magic(const uint8_t *image)
+{
+    srom_magic_answer answer = srom_read_magic(image, ROW);
+    printf("magic %u", answer.number);
+    show_bytes(answer.magic.password, sizeof answer.magic.password);
+    show_bytes(answer.magic.address, sizeof answer.magic.address);
+    printf(" %u\n", answer.magic.command);
+    srom_magic magic = {{1, 2, 3, 4, 5, 6}, {0}, (uint16_t)(answer.magic.command + 7)};
+    memcpy(magic.address, answer.magic.password, sizeof magic.address);
+    for (size_t length = ROW - 1; length <= ROW; length++) {
+        uint8_t copy[ROW];
+        memcpy(copy, image, ROW);
+        printf("block %u", srom_write_magic(magic, copy, length));
+        show_bytes(copy, ROW);
+        printf("\n");
+    }
+}
+
+/* The sheet, and its image, written over a copy of the one that it was made of. */
+static void show_sheet(const uint8_t *image, uint16_t chip, srom_layout layout)
+{
+    static uint8_t buffer[ROOM];
+    uint8_t copy[ROW];
+    srom_made made = srom_make_sheet(image, ROW, chip, layout, buffer, ROOM);
+    printf("made %u %zu\n", made.number, made.length);
+    memcpy(copy, image, ROW);
+    memset(copy + 30, 0xFF, 60);
+    printf("written %u", srom_write(buffer, made.length, layout, copy, ROW));
+    show_bytes(copy, ROW);
+    printf("\n");
+}
+
 int main(int count, char **words)
 {
-    static uint8_t image[ROW], buffer[ROOM], report[ROW];
+    static uint8_t image[ROW], report[ROW];
     static uint16_t kinds[255], offsets[255];
-    FILE *file = count == 5 ? fopen(words[1], "rb") : NULL;
+    FILE *file = count == 6 ? fopen(words[1], "rb") : NULL;
     if (file == NULL || fread(image, 1, ROW, file) != ROW)
         return 2;
     fclose(file);
@@ -47,24 +96,23 @@ int main(int count, char **words)
     arguments.chip = (uint16_t)atoi(words[2]);
     arguments.controller = (uint8_t)atoi(words[3]);
     arguments.level = (uint8_t)atoi(words[4]);
+    arguments.layout.magic = atoi(words[5]) == 1;
 
-    show_checksum(srom_crc(image, ROW));
-    show_checksum(srom_id_crc(image, ROW));
-    show_checksum(srom_crc(image + 1, ROW - 1));
-    show_checksum(srom_id_crc(image + 1, ROW - 1));
+    show_checksums(image, ROW, arguments.layout);
+    show_checksums(image + 1, ROW - 1, arguments.layout);
     srom_answer answer = srom_read(image, ROW, arguments, kinds, 255, offsets, 255);
     printf("answer %u %u %u %llu %u %u %u %u %u\n", answer.number, answer.connection, answer.control,
            (unsigned long long)answer.address, answer.blocks, answer.listed, answer.resets, answer.skipped,
            answer.default_number);
     srom_part part = srom_view(image, ROW, arguments, 0);
     printf("part %zu %zu\n", part.start, part.length);
+    show_magic(image);
     srom_walk walk = show_walked(srom_load(srom_fresh(), image, ROW, arguments));
     walk = show_walked(srom_look(walk, report, ROW));
     for (int k = 0; k < ROW; k++)
         report[k] = walk.looks == 1;
     walk = show_walked(srom_look(walk, report, ROW));
     show_walked(srom_clear(walk));
-    srom_made made = srom_make_sheet(image, ROW, arguments.chip, buffer, ROOM);
-    printf("made %u %zu\n", made.number, made.length);
+    show_sheet(image, arguments.chip, arguments.layout);
     return 0;
 }

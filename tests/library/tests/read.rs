@@ -2,18 +2,21 @@
 
 mod families;
 
-use families::{Family, show, tallies};
+use families::{Family, Numbers, numbers_table, row, show, tallies};
 use library::compare::{self, agreed};
 use second::calls::{block_count, near_lengths};
 use second::crc::{IMAGE_LENGTH, lay_crcs};
 use second::images::{Card, DAMAGES, Sample, random_image};
+use second::layout::LAYOUTS;
 use second::random::Random;
 use second::reader::{self, Arguments, CHIPS, NEWEST_LEVEL};
-use std::fmt::Write as _;
 
-const HIGHEST_REFUSAL: usize = 18;
-const LEAST_OFTEN: usize = 1_000;
 const LEAST_CALLS: usize = 1_000_000;
+
+/// The numbers that reading can answer.
+const READ_NUMBERS: [usize; 21] = [
+    0, 1, 2, 3, 4, 29, 30, 5, 6, 7, 8, 9, 10, 11, 12, 13, 14, 15, 16, 17, 18,
+];
 
 /// More elements than any block count, so that reading is never refused for the arrays.
 const ROOMY: usize = 300;
@@ -24,7 +27,7 @@ const LEVELS: [u8; 9] = [0, 1, 2, 3, 4, 5, 6, 7, 255];
 /// How often reading answered each number, and how many calls of the library were compared.
 #[derive(Default)]
 struct Tally {
-    numbers: [usize; HIGHEST_REFUSAL + 1],
+    numbers: Numbers,
     calls: usize,
 }
 
@@ -59,13 +62,15 @@ impl Tally {
     }
 }
 
-/// "accepts exactly the images": valid cards of every chip, with unknown types among their blocks,
-/// for each controller and one that is none, at every level, and for another chip.
+/// "accepts exactly the images": valid cards of every chip and layout, with unknown types among
+/// their blocks, for each controller and one that is none, at every level, for another chip, and in
+/// the other layout.
 fn valid_cards() -> Tally {
     let (mut tally, mut random) = (Tally::default(), Random::new(1));
     for round in 0..2_500 {
         let chip = CHIPS[round % CHIPS.len()];
-        let card = Card::valid(&mut random, chip);
+        let layout = random.pick(&LAYOUTS);
+        let card = Card::valid(&mut random, chip, layout);
         let image = card.image();
         for controller in 0..=card.count {
             for level in LEVELS {
@@ -73,6 +78,7 @@ fn valid_cards() -> Tally {
                     chip,
                     controller,
                     level,
+                    layout,
                 };
                 tally.compare(&mut random, &image, arguments);
             }
@@ -80,8 +86,12 @@ fn valid_cards() -> Tally {
                 chip: random.pick(&CHIPS),
                 controller,
                 level: NEWEST_LEVEL,
+                layout,
             };
             tally.compare(&mut random, &image, arguments);
+            for layout in LAYOUTS {
+                tally.compare_read(&image, arguments.laid_out(layout), (ROOMY, ROOMY));
+            }
             // Entries that are far past the table, though not in their low bits.
             for far in [1 << 8, 1 << 16, 1 << 32, usize::MAX] {
                 tally.compare_view(&image, arguments, far);
@@ -92,13 +102,11 @@ fn valid_cards() -> Tally {
 }
 
 /// "Elements after the listed ones": arrays of every length up to two past the block
-/// count, at every level; among the cards the longest leaf.
+/// count, at every level; among the cards the longest leaf of each layout.
 fn array_lengths() -> Tally {
     let (mut tally, mut random) = (Tally::default(), Random::new(2));
     let mut samples: Vec<_> = (0..150).map(|_| Sample::valid(&mut random)).collect();
-    samples[0].card = Card::longest(&mut random);
-    samples[0].arguments.chip = 21041;
-    samples[0].arguments.controller = 0;
+    samples.extend(LAYOUTS.map(|layout| Sample::longest(&mut random, layout)));
     for sample in samples {
         let image = sample.card.image();
         for level in LEVELS {
@@ -171,7 +179,7 @@ fn changed_bytes() -> Tally {
                 let mut changed = image;
                 changed[offset] = value;
                 tally.compare_read(&changed, sample.arguments, (ROOMY, ROOMY));
-                lay_crcs(&mut changed);
+                lay_crcs(&mut changed, sample.arguments.layout);
                 tally.compare_read(&changed, sample.arguments, (ROOMY, ROOMY));
                 tally.compare_view(&changed, sample.arguments, random.below(3));
             }
@@ -184,16 +192,16 @@ fn changed_bytes() -> Tally {
 /// CRCs mended.
 fn random_bytes() -> Tally {
     let (mut tally, mut random) = (Tally::default(), Random::new(6));
-    for round in 0..80_000 {
-        let chip = CHIPS[round % CHIPS.len()];
-        let mut image = Card::wild(&mut random, chip).image();
-        if random.one_in(4) {
-            image = random_image(&mut random);
-        }
+    for _ in 0..80_000 {
+        let Sample { card, arguments } = Sample::wild(&mut random);
+        let image = match random.one_in(4) {
+            true => random_image(&mut random, arguments.layout),
+            false => card.image(),
+        };
         let arguments = Arguments {
-            chip,
             controller: random.pick(&[0, 0, 0, 1]),
             level: random.pick(&[0, 1, 2, 3, 4, 5, 6, 6, 6]),
+            ..arguments
         };
         tally.compare(&mut random, &image, arguments);
     }
@@ -233,28 +241,13 @@ fn library_reads_as_second() {
     ];
     let tallies = tallies(families);
     let names = families.map(|(name, _)| name);
-    let totals: Vec<usize> = (0..=HIGHEST_REFUSAL)
-        .map(|number| tallies.iter().map(|tally| tally.numbers[number]).sum())
-        .collect();
-    let calls: usize = tallies.iter().map(|tally| tally.calls).sum();
-    let mut table = row("number", &names, "total");
-    for (number, total) in totals.iter().enumerate() {
-        let cells: Vec<_> = tallies.iter().map(|tally| tally.numbers[number]).collect();
-        table += &row(&number.to_string(), &cells, &total.to_string());
-    }
-    let cells: Vec<_> = tallies.iter().map(|tally| tally.calls).collect();
+    let mut wrong = Vec::new();
+    let numbers = tallies.each_ref().map(|tally| &tally.numbers);
+    let mut table = numbers_table("number", &names, numbers, &READ_NUMBERS, &mut wrong);
+    let cells = tallies.each_ref().map(|tally| tally.calls);
+    let calls: usize = cells.iter().sum();
     table += &row("calls", &cells, &calls.to_string());
     show(&table);
-    for (number, &total) in totals.iter().enumerate() {
-        assert!(total >= LEAST_OFTEN, "{number} was answered {total} times");
-    }
+    assert!(wrong.is_empty(), "{wrong:?}");
     assert!(calls >= LEAST_CALLS, "only {calls} calls were compared");
-}
-
-fn row(first: &str, cells: &[impl ToString], last: &str) -> String {
-    let mut line = format!("{first:<8}");
-    for cell in cells {
-        write!(line, "{:>9}", cell.to_string()).expect("a string takes all");
-    }
-    line + &format!("{last:>10}\n")
 }

@@ -3,29 +3,29 @@
 
 mod families;
 
-use families::{Family, show, tallies};
+use families::{Family, Numbers, numbers_table, row, show, tallies};
 use library::compare::{self, agreed};
 use library::lent::{Lent, hex};
 use second::crc::{IMAGE_LENGTH, lay_crcs};
-use second::images::Card;
+use second::images::{MAGIC_DAMAGES, MagicBlock, Sample};
+use second::layout::{LAYOUTS, Layout};
 use second::random::Random;
-use second::reader::CHIPS;
+use second::reader::Arguments;
 use second::sheet::{CHIP, LONGEST_SHEET, Made};
 use second::sheets::tidy::{TIDY_DAMAGES, damaged, tidy, untidy};
-use second::sheets::{SHEET_DAMAGES, Sheet};
-use std::fmt::Write as _;
+use second::sheets::{SHEET_DAMAGES, Sheet, output};
 
-const HIGHEST_REFUSAL: usize = 27;
-const LEAST_OFTEN: usize = 1_000;
 const LEAST_INPUTS: usize = 300_000;
 
-/// The numbers that the writer can answer. The image to be written has right CRCs, a right header
-/// and one controller, so the reader is left with few.
-const WRITE_NUMBERS: [usize; 13] = [0, 1, 2, 7, 11, 14, 15, 16, 17, 18, 24, 25, 26];
+/// The numbers that the writer can answer. The image to be written has right CRCs but for the Magic
+/// Packet block that it keeps, a right header and one controller, so the reader is left with few.
+const WRITE_NUMBERS: [usize; 15] = [0, 1, 2, 7, 11, 14, 15, 16, 17, 18, 24, 25, 26, 29, 30];
 
 /// The numbers that the maker can answer: controller 0 is below every count, and its address is the
 /// base.
-const MAKE_NUMBERS: [usize; 17] = [0, 1, 2, 3, 4, 5, 7, 10, 11, 12, 13, 14, 15, 16, 17, 18, 27];
+const MAKE_NUMBERS: [usize; 19] = [
+    0, 1, 2, 3, 4, 5, 7, 10, 11, 12, 13, 14, 15, 16, 17, 18, 27, 29, 30,
+];
 
 /// More bytes than any sheet of a tidy image has.
 const ROOMY: usize = LONGEST_SHEET + 40;
@@ -34,27 +34,28 @@ const ROOMY: usize = LONGEST_SHEET + 40;
 /// compared.
 #[derive(Default)]
 struct Tally {
-    writes: [usize; HIGHEST_REFUSAL + 1],
-    makes: [usize; HIGHEST_REFUSAL + 1],
+    writes: Numbers,
+    makes: Numbers,
     sheets: usize,
     images: usize,
 }
 
 impl Tally {
-    /// Compares the writing of a sheet to an image of so many bytes, which a refusal must leave as
-    /// it is; an accepted sheet is made again.
-    fn compare_write(&mut self, sheet: &[u8], length: usize) {
-        let (number, image) = agreed(compare::write(sheet, length));
+    /// Compares the writing of a sheet to an image, which a refusal must leave as it is; an accepted
+    /// sheet is made again, and what stands behind the board's part is kept.
+    fn compare_write(&mut self, sheet: &[u8], layout: Layout, before: &[u8]) {
+        let (number, image) = agreed(compare::write(sheet, layout, before));
         assert!(
-            number == 0 || image == Lent::pattern(length).elements(),
+            number == 0 || image == before,
             "refused with {number}, and changed the image\nsheet {}",
             hex(sheet)
         );
         self.writes[usize::from(number)] += 1;
         if number == 0 {
+            assert_eq!(image[layout.board_end()..], before[layout.board_end()..]);
             let chip = u16::from_le_bytes([sheet[CHIP], sheet[CHIP + 1]]);
             let mut again = vec![0; sheet.len()];
-            let made = library::make_sheet(&image, chip, &mut again);
+            let made = library::make_sheet(&image, chip, layout, &mut again);
             let expected = Made {
                 number: 0,
                 length: sheet.len(),
@@ -69,9 +70,11 @@ impl Tally {
     }
 
     /// Compares the making of a sheet in a buffer of so many bytes, of which a refusal must leave
-    /// all as they are and acceptance those past the sheet; an accepted sheet is written again.
-    fn compare_make(&mut self, image: &[u8], chip: u16, length: usize) -> Made {
-        let (made, buffer) = agreed(compare::make_sheet(image, chip, length));
+    /// all as they are and acceptance those past the sheet; an accepted sheet is written again, over
+    /// an image that has what stands behind the board's part.
+    fn compare_make(&mut self, image: &[u8], arguments: Arguments, length: usize) -> Made {
+        let Arguments { chip, layout, .. } = arguments;
+        let (made, buffer) = agreed(compare::make_sheet(image, chip, layout, length));
         assert_eq!(
             buffer[made.length..],
             Lent::pattern(length).elements()[made.length..],
@@ -81,7 +84,9 @@ impl Tally {
         self.makes[usize::from(made.number)] += 1;
         if made.number == 0 {
             let mut again = [0xA5; IMAGE_LENGTH];
-            let number = library::write(&buffer[..made.length], &mut again);
+            let kept = layout.board_end()..;
+            again[kept.clone()].copy_from_slice(&image[kept]);
+            let number = library::write(&buffer[..made.length], layout, &mut again);
             assert!(
                 number == 0 && again == image,
                 "{number}\nimage {}\nagain {}",
@@ -92,45 +97,59 @@ impl Tally {
         made
     }
 
-    /// Compares a sheet's writing, now and then to an image of another length too.
-    fn compare_sheet(&mut self, random: &mut Random, sheet: &[u8]) {
+    /// Compares a sheet's writing to an image with a right Magic Packet block, where the layout has
+    /// one, and now and then to one with any or of another length too.
+    fn compare_sheet(&mut self, random: &mut Random, sheet: &[u8], layout: Layout) {
         self.sheets += 1;
-        self.compare_write(sheet, IMAGE_LENGTH);
+        let mut image = output(random, layout);
+        self.compare_write(sheet, layout, &image);
         if random.one_in(16) {
+            MagicBlock::any(random).lay(&mut image);
+            self.compare_write(sheet, layout, &image);
             let length = random.pick(&[0, 1, 64, 127, 129, 256, 300]);
-            self.compare_write(sheet, length);
+            self.compare_write(sheet, layout, &random.row(length));
         }
     }
 
     /// Compares the making of an image's sheet in a roomy buffer, and then in one that is exact and
     /// in those that are too short and too long by one.
-    fn compare_image(&mut self, random: &mut Random, image: &[u8], chip: u16) {
+    fn compare_image(&mut self, random: &mut Random, image: &[u8], arguments: Arguments) {
         self.images += 1;
-        let made = self.compare_make(image, chip, ROOMY);
+        let made = self.compare_make(image, arguments, ROOMY);
         if made.number == 0 {
             for length in [made.length - 1, made.length, made.length + 1] {
-                self.compare_make(image, chip, length);
+                self.compare_make(image, arguments, length);
             }
         }
         if random.one_in(4) {
             let length = random.below(ROOMY);
-            self.compare_make(image, chip, length);
+            self.compare_make(image, arguments, length);
         }
     }
 }
 
-/// "Writing a sheet": valid sheets of every chip, and the image that the builder of images lays;
-/// then "making a sheet of a tidy image", of that image.
+/// "Writing a sheet": valid sheets of every chip and layout, and the image that the builder of images
+/// lays; then "making a sheet of a tidy image", of that image.
 fn valid_sheets() -> Tally {
     let (mut tally, mut random) = (Tally::default(), Random::new(1));
-    for _ in 0..40_000 {
-        let sheet = Sheet::valid(&mut random);
-        let (bytes, expected) = (sheet.bytes(), sheet.card().image());
-        tally.compare_sheet(&mut random, &bytes);
-        let mut image = [0xA5; IMAGE_LENGTH];
-        assert_eq!(library::write(&bytes, &mut image), 0, "{sheet:02x?}");
+    for round in 0..40_000 {
+        let layout = LAYOUTS[round % 2];
+        let sheet = Sheet::valid(&mut random, layout);
+        let magic = MagicBlock::of_layout(&mut random, layout);
+        let (bytes, expected) = (sheet.bytes(), sheet.card(magic).image());
+        tally.compare_sheet(&mut random, &bytes, layout);
+        let mut image = random.bytes();
+        if let Some(block) = magic {
+            block.lay(&mut image);
+        }
+        assert_eq!(
+            library::write(&bytes, layout, &mut image),
+            0,
+            "{sheet:02x?}"
+        );
         assert_eq!(image, expected, "{sheet:02x?}");
-        tally.compare_image(&mut random, &image, sheet.chip);
+        let arguments = Arguments::newest(sheet.chip).laid_out(layout);
+        tally.compare_image(&mut random, &image, arguments);
     }
     tally
 }
@@ -140,8 +159,9 @@ fn damaged_sheets() -> Tally {
     let (mut tally, mut random) = (Tally::default(), Random::new(2));
     for round in 0..66_000 {
         let number = SHEET_DAMAGES[round % SHEET_DAMAGES.len()];
-        let sheet = Sheet::damaged(&mut random, number);
-        tally.compare_sheet(&mut random, &sheet);
+        let layout = random.pick(&LAYOUTS);
+        let sheet = Sheet::damaged(&mut random, number, layout);
+        tally.compare_sheet(&mut random, &sheet, layout);
     }
     tally
 }
@@ -151,17 +171,40 @@ fn damaged_sheets() -> Tally {
 fn two_damaged_fields() -> Tally {
     let (mut tally, mut random) = (Tally::default(), Random::new(3));
     while tally.sheets < 20_000 {
-        let mut sheet = Sheet::valid(&mut random);
+        let layout = random.pick(&LAYOUTS);
+        let mut sheet = Sheet::valid(&mut random, layout);
         let later = 2 + random.below(SHEET_DAMAGES.len() - 2);
         let earlier = 1 + random.below(later - 1);
         for place in [later, earlier] {
-            sheet.damage(&mut random, SHEET_DAMAGES[place]);
+            sheet.damage(&mut random, SHEET_DAMAGES[place], layout);
         }
         let mut bytes = sheet.bytes();
         if random.one_in(8) {
             bytes.push(0);
         }
-        tally.compare_sheet(&mut random, &bytes);
+        tally.compare_sheet(&mut random, &bytes, layout);
+    }
+    tally
+}
+
+/// "keeps bytes 96 to 127, judged with the rest": images whose Magic Packet block is damaged, for
+/// sheets that are valid, and for damaged ones.
+fn damaged_blocks() -> Tally {
+    let (mut tally, mut random) = (Tally::default(), Random::new(10));
+    for round in 0..20_000 {
+        let layout = random.pick(&LAYOUTS);
+        let sheet = match round % 4 {
+            0 => {
+                let number = random.pick(&SHEET_DAMAGES);
+                Sheet::damaged(&mut random, number, layout)
+            }
+            _ => Sheet::valid(&mut random, layout).bytes(),
+        };
+        let mut image = random.bytes();
+        let number = random.pick(&MAGIC_DAMAGES);
+        MagicBlock::damaged(&mut random, number).lay(&mut image);
+        tally.sheets += 1;
+        tally.compare_write(&sheet, layout, &image);
     }
     tally
 }
@@ -170,12 +213,13 @@ fn two_damaged_fields() -> Tally {
 fn changed_sheet_bytes() -> Tally {
     let (mut tally, mut random) = (Tally::default(), Random::new(4));
     for round in 0..100 {
-        let sheet = Sheet::valid(&mut random).bytes();
+        let layout = LAYOUTS[round % 2];
+        let sheet = Sheet::valid(&mut random, layout).bytes();
         for offset in 0..sheet.len() {
             for value in values(&mut random, sheet[offset], round < 2) {
                 let mut changed = sheet.clone();
                 changed[offset] = value;
-                tally.compare_sheet(&mut random, &changed);
+                tally.compare_sheet(&mut random, &changed, layout);
             }
         }
     }
@@ -196,9 +240,9 @@ fn values(random: &mut Random, byte: u8, all: bool) -> Vec<u8> {
 /// mostly right.
 fn random_sheets() -> Tally {
     let (mut tally, mut random) = (Tally::default(), Random::new(5));
-    for _ in 0..40_000 {
+    for round in 0..40_000 {
         let bytes = Sheet::wild(&mut random);
-        tally.compare_sheet(&mut random, &bytes);
+        tally.compare_sheet(&mut random, &bytes, LAYOUTS[round % 2]);
     }
     tally
 }
@@ -207,23 +251,21 @@ fn random_sheets() -> Tally {
 /// bytes after it, and every length of an image, with those that are 128 in their low bits.
 fn lengths() -> Tally {
     let (mut tally, mut random) = (Tally::default(), Random::new(6));
-    for _ in 0..20 {
-        let sheet = Sheet::valid(&mut random).bytes();
+    for round in 0..20 {
+        let layout = LAYOUTS[round % 2];
+        let sheet = Sheet::valid(&mut random, layout).bytes();
         let longer = [sheet.as_slice(), &random.row(300)].concat();
         for length in 0..longer.len() {
-            tally.sheets += 1;
-            tally.compare_write(&longer[..length], IMAGE_LENGTH);
+            tally.compare_sheet(&mut random, &longer[..length], layout);
         }
         let far = [IMAGE_LENGTH + (1 << 8), IMAGE_LENGTH + (1 << 16)];
-        for length in (0..300).chain(far) {
-            tally.compare_write(&sheet, length);
-            tally.compare_write(&longer, length);
-        }
-        let (card, chip) = tidy(&mut random);
-        let mut image = card.image().to_vec();
+        let sample = tidy(&mut random);
+        let mut image = sample.card.image().to_vec();
         image.resize(far[1], 0);
         for length in (0..300).chain(far) {
-            tally.compare_image(&mut random, &image[..length], chip);
+            tally.compare_write(&sheet, layout, &image[..length]);
+            tally.compare_write(&longer, layout, &image[..length]);
+            tally.compare_image(&mut random, &image[..length], sample.arguments);
         }
     }
     tally
@@ -233,12 +275,11 @@ fn lengths() -> Tally {
 /// after the leaf, the leaf elsewhere, more controllers.
 fn damaged_images() -> Tally {
     let (mut tally, mut random) = (Tally::default(), Random::new(7));
-    for &number in TIDY_DAMAGES.iter().cycle().take(26_000) {
+    for &number in TIDY_DAMAGES.iter().cycle().take(30_000) {
         let sample = damaged(&mut random, number);
-        let image = sample.card.image();
-        tally.compare_image(&mut random, &image, sample.arguments.chip);
-        let (image, chip) = untidy(&mut random);
-        tally.compare_image(&mut random, &image, chip);
+        tally.compare_image(&mut random, &sample.card.image(), sample.arguments);
+        let (image, arguments) = untidy(&mut random);
+        tally.compare_image(&mut random, &image, arguments);
     }
     tally
 }
@@ -248,40 +289,39 @@ fn damaged_images() -> Tally {
 fn changed_image_bytes() -> Tally {
     let (mut tally, mut random) = (Tally::default(), Random::new(8));
     for round in 0..60 {
-        let (card, chip) = tidy(&mut random);
+        let Sample { card, arguments } = tidy(&mut random);
         let image = card.image();
         for offset in 0..IMAGE_LENGTH {
             for value in values(&mut random, image[offset], round < 2) {
                 let mut changed = image;
                 changed[offset] = value;
-                tally.compare_image(&mut random, &changed, chip);
-                lay_crcs(&mut changed);
-                tally.compare_image(&mut random, &changed, chip);
+                tally.compare_image(&mut random, &changed, arguments);
+                lay_crcs(&mut changed, arguments.layout);
+                tally.compare_image(&mut random, &changed, arguments);
             }
         }
     }
     for _ in 0..20_000 {
-        let chip = random.pick(&CHIPS);
-        let image = Card::wild(&mut random, chip).image();
-        tally.compare_image(&mut random, &image, chip);
+        let Sample { card, arguments } = Sample::wild(&mut random);
+        tally.compare_image(&mut random, &card.image(), arguments);
     }
     tally
 }
 
 /// "12 sheet buffer too short": buffers of every length up to some past the sheet's, among the
-/// images the one with the longest sheet.
+/// images those with the longest sheet of each layout.
 fn buffer_lengths() -> Tally {
     let (mut tally, mut random) = (Tally::default(), Random::new(9));
-    let mut cards: Vec<_> = (0..60).map(|_| tidy(&mut random)).collect();
-    cards[0] = (Card::longest(&mut random), 21041);
+    let mut samples: Vec<_> = (0..60).map(|_| tidy(&mut random)).collect();
+    samples.extend(LAYOUTS.map(|layout| Sample::longest(&mut random, layout)));
     let mut longest = 0;
-    for (card, chip) in cards {
+    for Sample { card, arguments } in samples {
         let image = card.image();
-        let made = tally.compare_make(&image, chip, ROOMY);
+        let made = tally.compare_make(&image, arguments, ROOMY);
         longest = longest.max(made.length);
         for length in 0..=made.length + 20 {
             let expected = if length < made.length { 12 } else { 0 };
-            let number = tally.compare_make(&image, chip, length).number;
+            let number = tally.compare_make(&image, arguments, length).number;
             assert_eq!(number, expected, "{length} of {}", made.length);
         }
         tally.images += 1;
@@ -296,10 +336,11 @@ fn buffer_lengths() -> Tally {
 /// standard error stream itself, so that a run that passes shows it too.
 #[test]
 fn library_writes_and_makes_as_second() {
-    let families: [Family<Tally>; 9] = [
+    let families: [Family<Tally>; 10] = [
         ("valid", valid_sheets),
         ("damaged", damaged_sheets),
         ("twice", two_damaged_fields),
+        ("blocks", damaged_blocks),
         ("bytes", changed_sheet_bytes),
         ("random", random_sheets),
         ("lengths", lengths),
@@ -309,30 +350,11 @@ fn library_writes_and_makes_as_second() {
     ];
     let tallies = tallies(families);
     let names = families.map(|(name, _)| name);
-    let mut table = String::new();
-    type Column = fn(&Tally) -> &[usize; HIGHEST_REFUSAL + 1];
-    let calls: [(&str, Column, &[usize]); 2] = [
-        ("write", |tally| &tally.writes, &WRITE_NUMBERS),
-        ("make", |tally| &tally.makes, &MAKE_NUMBERS),
-    ];
     let mut wrong = Vec::new();
-    for (call, column, numbers) in calls {
-        table += &row(call, &names, "total");
-        for number in 0..=HIGHEST_REFUSAL {
-            let cells: Vec<_> = tallies.iter().map(|tally| column(tally)[number]).collect();
-            let total: usize = cells.iter().sum();
-            let is_right = match numbers.contains(&number) {
-                true => total >= LEAST_OFTEN,
-                false => total == 0,
-            };
-            if !is_right {
-                wrong.push(format!("{call} answered {number} {total} times"));
-            }
-            if numbers.contains(&number) {
-                table += &row(&number.to_string(), &cells, &total.to_string());
-            }
-        }
-    }
+    let writes = tallies.each_ref().map(|tally| &tally.writes);
+    let makes = tallies.each_ref().map(|tally| &tally.makes);
+    let mut table = numbers_table("write", &names, writes, &WRITE_NUMBERS, &mut wrong);
+    table += &numbers_table("make", &names, makes, &MAKE_NUMBERS, &mut wrong);
     let mut inputs = 0;
     for (what, count) in [
         ("sheets", (|tally| tally.sheets) as fn(&Tally) -> usize),
@@ -346,12 +368,4 @@ fn library_writes_and_makes_as_second() {
     show(&table);
     assert!(wrong.is_empty(), "{wrong:?}");
     assert!(inputs >= LEAST_INPUTS, "only {inputs} sheets and images");
-}
-
-fn row(first: &str, cells: &[impl ToString], last: &str) -> String {
-    let mut line = format!("{first:<8}");
-    for cell in cells {
-        write!(line, "{:>8}", cell.to_string()).expect("a string takes all");
-    }
-    line + &format!("{last:>9}\n")
 }

@@ -146,3 +146,22 @@ fn promises_are_guarded() {
     let unnamed: Vec<_> = edits.difference(&named).collect();
     assert!(unnamed.is_empty(), "in no row: {unnamed:?}");
 }
+
+/// What a Magic Packet block moves, and where it stands, is named in `rom` alone: no other proof has the number.
+#[test]
+fn no_proof_but_roms_computes_with_the_geometry() {
+    let mut seen = 0;
+    for path in files(&root().join("crates"), &["antt"]) {
+        let is_proof = path.components().any(|part| part.as_os_str() == "proofs");
+        if !is_proof || path.starts_with(root().join("crates/rom")) {
+            continue;
+        }
+        let text = fs::read_to_string(&path).unwrap();
+        for word in text.split(|c: char| !c.is_alphanumeric()) {
+            let is_place = ["92", "94", "96", "124"].contains(&word);
+            assert!(!is_place, "{}: {word}", path.display());
+        }
+        seen += 1;
+    }
+    assert!(seen > 200, "only {seen} proofs were read");
+}

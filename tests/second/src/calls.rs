@@ -2,6 +2,7 @@
 
 use crate::images::damage::{command_offset, kind};
 use crate::images::{Card, DAMAGES, Sample};
+use crate::layout::{LAYOUTS, Layout};
 use crate::random::Random;
 use crate::reader::{
     ACTIVE_INVALID, Arguments, DEFAULT, HIGHEST_COUNT, controller_offset, header_size,
@@ -142,9 +143,10 @@ pub fn steps(random: &mut Random) -> Vec<Step> {
     (0..length).map(step).collect()
 }
 
-/// A sample that the newest reader accepts, mostly served, and marked in half of the cases.
-pub fn accepted(random: &mut Random) -> Sample {
-    let mut sample = Sample::valid(random);
+/// A sample that the newest reader of a layout accepts, mostly served, and marked in half of the
+/// cases.
+pub fn accepted(random: &mut Random, layout: Layout) -> Sample {
+    let mut sample = Sample::valid_in(random, layout);
     if !random.one_in(16) {
         serve(random, &mut sample.card);
     }
@@ -161,10 +163,10 @@ pub fn sample(random: &mut Random) -> Sample {
             let number = random.pick(&DAMAGES);
             return Sample::damaged(random, number);
         }
-        1 => Sample {
-            card: Card::longest(random),
-            arguments: Arguments::at_level(21041, random.below(7) as u8),
-        },
+        1 => {
+            let layout = random.pick(&LAYOUTS);
+            Sample::longest(random, layout)
+        }
         _ => Sample::valid(random),
     };
     if !random.one_in(16) {
@@ -236,7 +238,7 @@ mod tests {
     #[test]
     fn every_refusal() {
         let mut random = Random::new(1);
-        let (mut loads, mut looks) = ([0; 24], [0; 24]);
+        let (mut loads, mut looks) = ([0; 31], [0; 31]);
         for _ in 0..10_000 {
             let sample = sample(&mut random);
             let image = sample.card.image();
@@ -251,8 +253,9 @@ mod tests {
                 }
             }
         }
-        let met = |often: [usize; 24]| (0..24).filter(move |&number| often[number] > 10);
-        assert!(met(loads).eq((0..=11).chain(13..=18).chain([21]).filter(|&it| it != 1)));
+        let met = |often: [usize; 31]| (0..31).filter(move |&number| often[number] > 10);
+        let numbers = (2..=11).chain(13..=18).chain([21, 29, 30]);
+        assert!(met(loads).eq([0].into_iter().chain(numbers)));
         assert!(met(looks).eq([0, 19, 20, 22]));
         assert!(looks[0] > 50_000, "{looks:?}");
     }

@@ -1,6 +1,10 @@
-//! The two CRCs of an image, bit by bit (document 01, "SROM CRC" and "ID CRC").
+//! The CRCs of an image, bit by bit (document 01, "SROM CRC" and "ID CRC"; document 02, request 1,
+//! for the Magic Packet block's).
 
 pub mod fast;
+
+use crate::layout::{Layout, MAGIC_OFFSET};
+use std::ops::Range;
 
 /// An image is 1024 bits.
 pub const IMAGE_LENGTH: usize = 128;
@@ -11,8 +15,14 @@ pub const ID_CRC_OFFSET: usize = 16;
 /// The high byte of word 8, the last byte that the ID CRC covers.
 pub const ID_LAST_OFFSET: usize = 17;
 
-/// Where the SROM CRC is stored, low byte first; it covers the bytes before.
-pub const SROM_CRC_OFFSET: usize = 126;
+/// Where the Magic Packet block's CRC is stored: the low byte of word 63.
+pub const MAGIC_CRC_OFFSET: usize = 126;
+
+/// The words that the ID CRC covers, and then the high byte of word 8.
+const ID_WORDS: Range<usize> = 0..8;
+
+/// The words that the Magic Packet block's CRC covers, 48 to 62, and then the high byte of word 63.
+const MAGIC_WORDS: Range<usize> = MAGIC_OFFSET / 2..63;
 
 /// Refusal 1: the image has not exactly 128 bytes.
 pub const WRONG_IMAGE_LENGTH: u8 = 1;
@@ -40,25 +50,34 @@ impl Checksum {
     }
 }
 
-/// The SROM CRC: the low 16 bits of the CRC-32 of bytes 0 to 125.
-pub fn srom_crc(image: &[u8]) -> Checksum {
+/// The SROM CRC: the low 16 bits of the CRC-32 of the bytes before its place.
+pub fn srom_crc(image: &[u8], layout: Layout) -> Checksum {
     if image.len() != IMAGE_LENGTH {
         return Checksum::REFUSED;
     }
-    Checksum::accepted(crc32(&image[..SROM_CRC_OFFSET]) as u16)
+    Checksum::accepted(crc32(&image[..layout.srom_crc_offset()]) as u16)
 }
 
 /// The ID CRC: words 0 to 7 and then byte 17.
 pub fn id_crc(image: &[u8]) -> Checksum {
+    crc8(image, ID_WORDS)
+}
+
+/// The Magic Packet block's CRC: words 48 to 62 and then byte 127.
+pub fn magic_crc(image: &[u8]) -> Checksum {
+    crc8(image, MAGIC_WORDS)
+}
+
+/// The CRC-8 of these words, and then of the high byte of the next.
+fn crc8(image: &[u8], words: Range<usize>) -> Checksum {
     if image.len() != IMAGE_LENGTH {
         return Checksum::REFUSED;
     }
-    let mut register = u8::MAX;
-    for number in 0..8 {
-        register = feed_bits(register, word(image, number), 16);
-    }
-    register = feed_bits(register, image[ID_LAST_OFFSET].into(), 8);
-    Checksum::accepted(register.into())
+    let next = word(image, words.end);
+    let register = words.fold(u8::MAX, |register, number| {
+        feed_bits(register, word(image, number), 16)
+    });
+    Checksum::accepted(feed_bits(register, next >> 8, 8).into())
 }
 
 /// All 32 bits of the CRC whose low half is the SROM CRC. Each byte enters from its lowest bit.
@@ -77,16 +96,29 @@ pub fn crc32(bytes: &[u8]) -> u32 {
     !register.reverse_bits()
 }
 
+/// Lays all CRCs of the layout into an image.
+pub fn lay_crcs(image: &mut [u8; IMAGE_LENGTH], layout: Layout) {
+    lay_board_crcs(image, layout);
+    if layout.magic {
+        lay_magic_crc(image);
+    }
+}
+
 /// Lays the ID CRC and then the SROM CRC, which covers it, into an image.
-pub fn lay_crcs(image: &mut [u8; IMAGE_LENGTH]) {
+pub fn lay_board_crcs(image: &mut [u8; IMAGE_LENGTH], layout: Layout) {
     image[ID_CRC_OFFSET] = id_crc(image).value as u8;
-    lay_srom_crc(image);
+    lay_srom_crc(image, layout);
 }
 
 /// Lays the SROM CRC into an image.
-pub fn lay_srom_crc(image: &mut [u8; IMAGE_LENGTH]) {
-    let stored = srom_crc(image).value.to_le_bytes();
-    image[SROM_CRC_OFFSET..].copy_from_slice(&stored);
+pub fn lay_srom_crc(image: &mut [u8; IMAGE_LENGTH], layout: Layout) {
+    let stored = srom_crc(image, layout).value.to_le_bytes();
+    image[layout.srom_crc_offset()..layout.board_end()].copy_from_slice(&stored);
+}
+
+/// Lays the Magic Packet block's CRC into an image.
+pub fn lay_magic_crc(image: &mut [u8; IMAGE_LENGTH]) {
+    image[MAGIC_CRC_OFFSET] = magic_crc(image).value as u8;
 }
 
 /// The word of that number: the byte at twice the number is its low half.
@@ -109,6 +141,7 @@ fn feed_bits(mut register: u8, data: u16, width: u32) -> u8 {
 #[cfg(test)]
 mod tests {
     use super::*;
+    use crate::layout::LAYOUTS;
     use crate::random::Random;
 
     /// "32-bit register, all ones at first ... reversed and complemented": the check value that is
@@ -128,52 +161,108 @@ mod tests {
         assert_eq!(register, 0xF4);
     }
 
+    /// The CRC-8 of the bytes at these offsets, in this order.
+    fn fed(image: &[u8], offsets: impl IntoIterator<Item = usize>) -> Checksum {
+        let register = offsets.into_iter().fold(u8::MAX, |register, offset| {
+            feed_bits(register, image[offset].into(), 8)
+        });
+        Checksum::accepted(register.into())
+    }
+
     /// "So byte 1 comes before byte 0": a word is fed as its high byte and then its low byte.
     #[test]
     fn high_byte_first() {
         let image: [u8; IMAGE_LENGTH] = Random::new(1).bytes();
         let order = [1, 0, 3, 2, 5, 4, 7, 6, 9, 8, 11, 10, 13, 12, 15, 14, 17];
-        let register = order.iter().fold(u8::MAX, |register, &offset| {
-            feed_bits(register, image[offset].into(), 8)
-        });
-        assert_eq!(id_crc(&image), Checksum::accepted(register.into()));
+        assert_eq!(id_crc(&image), fed(&image, order));
     }
 
-    /// "The register is byte 16, uncomplemented": words 0 to 8 then leave the register at 0.
+    /// "over words 48 to 62 and byte 127": byte 97 comes before byte 96, and byte 127 last.
     #[test]
-    fn id_register_ends_at_zero() {
+    fn magic_words() {
+        let image: [u8; IMAGE_LENGTH] = Random::new(6).bytes();
+        let order = (48..=62).flat_map(|number| [2 * number + 1, 2 * number]);
+        assert_eq!(magic_crc(&image), fed(&image, order.chain([127])));
+    }
+
+    /// The bytes that a CRC covers: one changed bit of any of them changes it, and no other does.
+    #[test]
+    fn covered_bytes() {
+        type Rule = fn(&[u8]) -> Checksum;
+        let rules: [(Rule, Vec<usize>); 4] = [
+            (|image| srom_crc(image, Layout::PLAIN), (0..126).collect()),
+            (|image| srom_crc(image, Layout::MAGIC), (0..94).collect()),
+            (id_crc, (0..16).chain([17]).collect()),
+            (magic_crc, (96..126).chain([127]).collect()),
+        ];
+        let image: [u8; IMAGE_LENGTH] = Random::new(7).bytes();
+        for (number, (crc, covered)) in rules.into_iter().enumerate() {
+            for bit in 0..8 * IMAGE_LENGTH {
+                let mut changed = image;
+                changed[bit / 8] ^= 1 << (bit % 8);
+                let differs = crc(&changed) != crc(&image);
+                assert_eq!(
+                    differs,
+                    covered.contains(&(bit / 8)),
+                    "rule {number}, bit {bit}"
+                );
+            }
+        }
+    }
+
+    /// "The register is byte 16, uncomplemented": words 0 to 8 then leave the register at 0, and so
+    /// do words 48 to 63, of which byte 126 is the low byte of the last ("If the CRC result of these
+    /// 16 words is equal zero ... the data has been read correctly").
+    #[test]
+    fn register_ends_at_zero() {
         let mut random = Random::new(2);
         for _ in 0..1_000 {
             let mut image = random.bytes();
-            lay_crcs(&mut image);
-            let register = (0..9).fold(u8::MAX, |register, number| {
-                feed_bits(register, word(&image, number), 16)
-            });
-            assert_eq!(register, 0, "{image:02x?}");
+            lay_crcs(&mut image, Layout::MAGIC);
+            for words in [0..9, 48..64] {
+                let register = words.fold(u8::MAX, |register, number| {
+                    feed_bits(register, word(&image, number), 16)
+                });
+                assert_eq!(register, 0, "{image:02x?}");
+            }
         }
     }
 
-    /// "126 and 127 are the SROM CRC", of which "the low 16 are stored": the CRC covers neither
-    /// byte, and the low byte comes first.
+    /// "126 and 127 are the SROM CRC", of which "the low 16 are stored", or "the SROM CRC at 94": the
+    /// low byte comes first, and laying the CRCs changes no byte but theirs.
     #[test]
-    fn srom_crc_is_stored_last() {
+    fn laid_crcs() {
         let mut random = Random::new(3);
-        for _ in 0..1_000 {
-            let mut image = random.bytes();
-            lay_crcs(&mut image);
-            let stored = u16::from(image[126]) + 256 * u16::from(image[127]);
-            assert_eq!(srom_crc(&image), Checksum::accepted(stored), "{image:02x?}");
+        let places: [&[usize]; 2] = [&[16, 126, 127], &[16, 94, 95, 126]];
+        for (layout, places) in LAYOUTS.into_iter().zip(places) {
+            let mut changed = [false; IMAGE_LENGTH];
+            for _ in 0..1_000 {
+                let before: [u8; IMAGE_LENGTH] = random.bytes();
+                let mut image = before;
+                lay_crcs(&mut image, layout);
+                (0..IMAGE_LENGTH)
+                    .for_each(|offset| changed[offset] |= image[offset] != before[offset]);
+                let [low, high] = [image[places[1]], image[places[2]]].map(u16::from);
+                let stored = Checksum::accepted(low + 256 * high);
+                assert_eq!(srom_crc(&image, layout), stored, "{image:02x?}");
+            }
+            let changed = (0..IMAGE_LENGTH).filter(|&offset| changed[offset]);
+            assert!(changed.eq(places.iter().copied()), "{layout:?}");
         }
     }
 
-    /// "SROM CRC" and "ID CRC": the tables compute the same two rules.
+    /// "SROM CRC", "ID CRC" and Appendix B's rule: the tables compute the same.
     #[test]
     fn fast_equals_bitwise() {
         let mut random = Random::new(4);
         for _ in 0..10_000 {
             let image: [u8; IMAGE_LENGTH] = random.bytes();
-            assert_eq!(fast::srom_crc(&image), srom_crc(&image), "{image:02x?}");
+            for layout in LAYOUTS {
+                let srom_crc = srom_crc(&image, layout);
+                assert_eq!(fast::srom_crc(&image, layout), srom_crc, "{image:02x?}");
+            }
             assert_eq!(fast::id_crc(&image), id_crc(&image), "{image:02x?}");
+            assert_eq!(fast::magic_crc(&image), magic_crc(&image), "{image:02x?}");
         }
     }
 
@@ -186,8 +275,14 @@ mod tests {
         };
         let bytes: [u8; 300] = Random::new(5).bytes();
         for length in (0..=bytes.len()).filter(|&length| length != 128) {
-            for call in [srom_crc, id_crc, fast::srom_crc, fast::id_crc] {
-                assert_eq!(call(&bytes[..length]), refused, "length {length}");
+            let image = &bytes[..length];
+            for call in [id_crc, magic_crc, fast::id_crc, fast::magic_crc] {
+                assert_eq!(call(image), refused, "length {length}");
+            }
+            for layout in LAYOUTS {
+                for call in [srom_crc, fast::srom_crc] {
+                    assert_eq!(call(image, layout), refused, "length {length}");
+                }
             }
         }
     }

@@ -3,22 +3,28 @@
 
 pub mod block;
 pub(crate) mod damage;
+mod magic;
 
-use crate::crc::{ID_CRC_OFFSET, IMAGE_LENGTH, SROM_CRC_OFFSET, lay_crcs, lay_srom_crc};
+use crate::crc::{ID_CRC_OFFSET, IMAGE_LENGTH, lay_board_crcs, lay_crcs, lay_srom_crc};
+use crate::layout::{LAYOUTS, Layout};
+use crate::magic::{LAST_RESERVED, RESERVED};
 use crate::random::Random;
 use crate::reader::{
-    ADDRESS_OFFSET, Arguments, CHIPS, CONTROLLERS_OFFSET, COUNT_OFFSET, LEAF_LIMIT, MOST_BLOCKS,
-    NEWEST_LEVEL, VERSION_OFFSET, connections, controller_offset, first_leaf, header_size, leaf,
+    ADDRESS_OFFSET, Arguments, CHIPS, CONTROLLERS_OFFSET, COUNT_OFFSET, NEWEST_LEVEL,
+    VERSION_OFFSET, connections, controller_offset, first_leaf, header_size, leaf,
 };
 use block::Deck;
 
 pub use crate::sheet::TIDY_LEAF;
+pub use magic::{MAGIC_DAMAGES, MagicBlock};
 
 pub type Image = [u8; IMAGE_LENGTH];
 
-/// The refusals that one damaged field of an image or of its arguments can cause: all but those
-/// for the image's length and for the arrays.
-pub const DAMAGES: [u8; 16] = [2, 3, 4, 5, 6, 7, 8, 9, 10, 11, 13, 14, 15, 16, 17, 18];
+/// The refusals that one damaged field of an image or of its arguments can cause, in the reader's
+/// order: all but those for the image's length and for the arrays.
+pub const DAMAGES: [u8; 18] = [
+    2, 3, 4, 29, 30, 5, 6, 7, 8, 9, 10, 11, 13, 14, 15, 16, 17, 18,
+];
 
 /// What the header says of one controller.
 #[derive(Debug, Clone, Copy)]
@@ -88,6 +94,8 @@ pub struct Card {
     /// The bits by which the stored CRCs differ from the right ones.
     pub id_crc_fault: u8,
     pub srom_crc_fault: u16,
+    /// The Magic Packet block of a card whose layout has one.
+    pub magic: Option<MagicBlock>,
 }
 
 impl Card {
@@ -108,6 +116,7 @@ impl Card {
             maker: [0; 2],
             id_crc_fault: 0,
             srom_crc_fault: 0,
+            magic: None,
         }
     }
 
@@ -116,8 +125,15 @@ impl Card {
         Self::new(1, vec![Leaf::new(TIDY_LEAF, chip, connection, blocks)])
     }
 
-    /// The image, with both CRCs mended but for their faults.
+    pub fn layout(&self) -> Layout {
+        Layout {
+            magic: self.magic.is_some(),
+        }
+    }
+
+    /// The image, with its CRCs mended but for their faults.
     pub fn image(&self) -> Image {
+        let layout = self.layout();
         let mut image = self.private;
         image[VERSION_OFFSET] = self.version;
         image[COUNT_OFFSET] = self.count;
@@ -132,30 +148,34 @@ impl Card {
         }
         image[controller_offset(self.controllers.len())] = self.reserved;
         for leaf in &self.leaves {
-            let places = &mut image[leaf.offset..LEAF_LIMIT];
+            let places = &mut image[leaf.offset..layout.leaf_limit()];
             places
                 .iter_mut()
                 .zip(leaf.bytes())
                 .for_each(|(place, byte)| *place = byte);
         }
-        image[LEAF_LIMIT..SROM_CRC_OFFSET].copy_from_slice(&self.maker);
-        lay_crcs(&mut image);
+        image[layout.leaf_limit()..][..2].copy_from_slice(&self.maker);
+        lay_board_crcs(&mut image, layout);
         image[ID_CRC_OFFSET] ^= self.id_crc_fault;
-        lay_srom_crc(&mut image);
-        image[SROM_CRC_OFFSET] ^= self.srom_crc_fault as u8;
-        image[SROM_CRC_OFFSET + 1] ^= (self.srom_crc_fault >> 8) as u8;
+        lay_srom_crc(&mut image, layout);
+        let [low, high] = self.srom_crc_fault.to_le_bytes();
+        image[layout.srom_crc_offset()] ^= low;
+        image[layout.srom_crc_offset() + 1] ^= high;
+        if let Some(block) = &self.magic {
+            block.lay(&mut image);
+        }
         image
     }
 
     /// A random card of one chip that the newest reader accepts for every controller.
-    pub fn valid(random: &mut Random, chip: u16) -> Self {
-        let most = (LEAF_LIMIT - header_size(chip) - first_leaf(0)) / 3;
+    pub fn valid(random: &mut Random, chip: u16, layout: Layout) -> Self {
+        let most = (layout.leaf_limit() - header_size(chip) - first_leaf(0)) / 3;
         let controllers = match random.below(10) {
             0..5 => 1,
             5..9 => 2 + random.below(3),
             _ => 1 + random.below(most),
         };
-        let leaves = leaves(random, chip, controllers);
+        let leaves = leaves(random, chip, controllers, layout);
         let mut card = Self::new(controllers, leaves);
         for controller in &mut card.controllers {
             controller.device = random.byte();
@@ -169,18 +189,24 @@ impl Card {
             card.private = random.bytes();
             card.maker = random.bytes();
         }
+        card.magic = MagicBlock::of_layout(random, layout);
         card
     }
 
     /// The longest leaf: one-byte blocks from its first place to its last.
-    pub fn longest(random: &mut Random) -> Self {
-        let media = |_| block::media(random.pick(&[0, 1, 2, 4]), None);
-        Self::tidy(21041, 0x0800, (0..MOST_BLOCKS).map(media).collect())
+    pub fn longest(random: &mut Random, layout: Layout) -> Self {
+        let places = layout.leaf_limit() - TIDY_LEAF - header_size(21041);
+        let mut media = |_| block::media(random.pick(&[0, 1, 2, 4]), None);
+        let blocks = (0..places).map(&mut media).collect();
+        Self {
+            magic: MagicBlock::of_layout(random, layout),
+            ..Self::tidy(21041, 0x0800, blocks)
+        }
     }
 
     /// A card whose header is right and whose leaf holds any bytes, with the starts of blocks among
     /// them.
-    pub fn wild(random: &mut Random, chip: u16) -> Self {
+    pub fn wild(random: &mut Random, chip: u16, layout: Layout) -> Self {
         const STARTS: [&[u8]; 12] = [
             &[0x80],
             &[0x85, 0x00],
@@ -197,9 +223,10 @@ impl Card {
         ];
         let controllers = 1 + random.below(4);
         let first = first_leaf(controllers);
-        let offset = first + random.below(LEAF_LIMIT - header_size(chip) - first + 1);
+        let last = layout.leaf_limit() - header_size(chip);
+        let offset = first + random.below(last - first + 1);
         let mut bytes = Vec::new();
-        while bytes.len() < LEAF_LIMIT {
+        while bytes.len() < IMAGE_LENGTH {
             match random.below(6) {
                 0 => bytes.extend(random.pick(&STARTS)),
                 1 => bytes.push(random.byte()),
@@ -214,35 +241,42 @@ impl Card {
         leaf.count = random.below(8) as u8;
         let mut card = Self::new(controllers, vec![leaf]);
         card.address = address(random, controllers);
+        card.magic = MagicBlock::of_layout(random, layout);
         card
     }
 }
 
-/// Random bytes with both CRCs, and mostly with a version and a controller count.
-pub fn random_image(random: &mut Random) -> Image {
+/// Random bytes with the CRCs of a layout, and mostly with a version, a controller count and zeros
+/// in the reserved bytes of its Magic Packet block.
+pub fn random_image(random: &mut Random, layout: Layout) -> Image {
     let mut image = random.bytes();
     if !random.one_in(8) {
         image[VERSION_OFFSET] = random.pick(&[3, 4]);
     }
     if !random.one_in(8) {
-        let count = 1 + random.below(32);
+        let count = 1 + random.below(layout.most_controllers());
         image[COUNT_OFFSET] = count as u8;
         image[controller_offset(count)] = 0;
     }
-    lay_crcs(&mut image);
+    if layout.magic && !random.one_in(8) {
+        image[RESERVED].fill(0);
+        image[LAST_RESERVED] = 0;
+    }
+    lay_crcs(&mut image, layout);
     image
 }
 
-/// The image without one block of the leaf that the arguments name, both CRCs mended; none where
+/// The image without one block of the leaf that the arguments name, its CRCs mended; none where
 /// the reader refuses the image or there is no such block.
 pub fn without_block(image: &[u8], arguments: Arguments, number: usize) -> Option<Image> {
     let mut image: Image = image.try_into().ok()?;
     let (header, blocks) = leaf(&image, arguments, usize::MAX).ok()?;
     let block = blocks.get(number)?;
-    image.copy_within(block.start + block.size..LEAF_LIMIT, block.start);
-    image[LEAF_LIMIT - block.size..LEAF_LIMIT].fill(0);
+    let limit = arguments.layout.leaf_limit();
+    image.copy_within(block.start + block.size..limit, block.start);
+    image[limit - block.size..limit].fill(0);
     image[header.first_block - 1] -= 1;
-    lay_crcs(&mut image);
+    lay_crcs(&mut image, arguments.layout);
     Some(image)
 }
 
@@ -254,10 +288,16 @@ pub struct Sample {
 }
 
 impl Sample {
-    /// A card of any chip that the newest reader accepts, and such a reader.
+    /// A card of any chip and layout that the newest reader accepts, and such a reader.
     pub fn valid(random: &mut Random) -> Self {
+        let layout = random.pick(&LAYOUTS);
+        Self::valid_in(random, layout)
+    }
+
+    /// The same for one layout.
+    pub fn valid_in(random: &mut Random, layout: Layout) -> Self {
         let chip = random.pick(&CHIPS);
-        let card = Card::valid(random, chip);
+        let card = Card::valid(random, chip, layout);
         let controller = random.below(card.controllers.len()) as u8;
         Self {
             card,
@@ -265,7 +305,25 @@ impl Sample {
                 chip,
                 controller,
                 level: NEWEST_LEVEL,
+                layout,
             },
+        }
+    }
+
+    /// A card whose leaf holds any bytes, and the newest reader of it.
+    pub fn wild(random: &mut Random) -> Self {
+        let (chip, layout) = (random.pick(&CHIPS), random.pick(&LAYOUTS));
+        Self {
+            card: Card::wild(random, chip, layout),
+            arguments: Arguments::newest(chip).laid_out(layout),
+        }
+    }
+
+    /// The card with the longest leaf of a layout, and the newest reader of it.
+    pub fn longest(random: &mut Random, layout: Layout) -> Self {
+        Self {
+            card: Card::longest(random, layout),
+            arguments: Arguments::newest(21041).laid_out(layout),
         }
     }
 
@@ -285,9 +343,9 @@ impl Sample {
 }
 
 /// One shared leaf, or own leaves for up to four controllers, anywhere in the places there are.
-fn leaves(random: &mut Random, chip: u16, controllers: usize) -> Vec<Leaf> {
+fn leaves(random: &mut Random, chip: u16, controllers: usize, layout: Layout) -> Vec<Leaf> {
     let (first, header) = (first_leaf(controllers), header_size(chip));
-    let places = LEAF_LIMIT - first;
+    let places = layout.leaf_limit() - first;
     let most = controllers.min(4).min(places / header);
     let number = if random.one_in(2) { 1 } else { most };
     let share = places / number;
@@ -346,45 +404,52 @@ pub(crate) fn address(random: &mut Random, controllers: usize) -> u64 {
 #[cfg(test)]
 mod tests {
     use super::*;
-    use crate::reader::{Answer, MEDIA_21041, NO_DEFAULT, read, read_all};
+    use crate::reader::{Answer, MEDIA_21041, MOST_BLOCKS, NO_DEFAULT, read, read_all};
 
     fn answer(sample: &Sample) -> Answer {
         read_all(&sample.card.image(), sample.arguments).0
     }
 
     /// "Reading accepts exactly the images" that the format permits: so every valid card, for each
-    /// of its controllers, at each level; and each kind of block occurs in the table.
+    /// of its controllers, at each level; and in either layout each kind of block occurs in the
+    /// table.
     #[test]
     fn valid_cards_are_accepted() {
         let mut random = Random::new(1);
-        let (mut defaults, mut resets, mut skipped, mut last_places) = (0, 0, 0, 0);
+        let mut met = [[0; 5]; 2];
         for _ in 0..10_000 {
             let mut sample = Sample::valid(&mut random);
             let newest = answer(&sample);
             assert_eq!(newest.number, 0, "{sample:02x?}");
-            defaults += usize::from(newest.default_number != NO_DEFAULT);
-            resets += usize::from(newest.resets);
-            skipped += usize::from(newest.skipped);
-            last_places += usize::from(
-                sample
-                    .card
-                    .leaves
-                    .iter()
-                    .any(|leaf| leaf.end() == LEAF_LIMIT),
-            );
+            let layout = sample.arguments.layout;
+            let ends_last = |leaf: &Leaf| leaf.end() == layout.leaf_limit();
+            let often = [
+                1,
+                usize::from(newest.default_number != NO_DEFAULT),
+                newest.resets.into(),
+                newest.skipped.into(),
+                sample.card.leaves.iter().any(ends_last).into(),
+            ];
+            for (met, often) in met[usize::from(layout.magic)].iter_mut().zip(often) {
+                *met += often;
+            }
             for controller in 0..sample.card.count {
                 sample.arguments.controller = controller;
                 sample.arguments.level = random.below(7) as u8;
                 assert_eq!(answer(&sample).number, 0, "{sample:02x?}");
             }
         }
-        for (what, often) in [
-            ("defaults", defaults),
-            ("resets", resets),
-            ("unknown types", skipped),
-            ("leaves up to byte 123", last_places),
-        ] {
-            assert!(often > 500, "only {often} {what}");
+        let names = [
+            "cards",
+            "defaults",
+            "resets",
+            "unknown types",
+            "last places",
+        ];
+        for (layout, often) in LAYOUTS.into_iter().zip(met) {
+            for (name, often) in names.into_iter().zip(often) {
+                assert!(often > 400, "{layout:?}: only {often} {name}");
+            }
         }
     }
 
@@ -400,21 +465,23 @@ mod tests {
         }
     }
 
-    /// "reader in this order": of two damaged fields the lower number is answered.
+    /// "reader in this order", 29 "after 4" and 30 "after 29": of two damaged fields the one that
+    /// the reader meets first is answered.
     #[test]
-    fn lower_number_first() {
+    fn first_cause_first() {
         let mut random = Random::new(3);
-        for (place, &lower) in DAMAGES.iter().enumerate() {
-            for &higher in &DAMAGES[place + 1..] {
+        for (place, &first) in DAMAGES.iter().enumerate() {
+            for &later in &DAMAGES[place + 1..] {
                 // Between 13 and 17 the first block that is refused decides, not the number.
-                if lower >= 13 && higher < 18 {
+                let blocks = 13..18;
+                if blocks.contains(&first) && blocks.contains(&later) {
                     continue;
                 }
                 let mut met = 0;
                 while met < 30 {
-                    let mut sample = Sample::damaged(&mut random, higher);
-                    if sample.damage(&mut random, lower) {
-                        assert_eq!(answer(&sample).number, lower, "{higher}: {sample:02x?}");
+                    let mut sample = Sample::damaged(&mut random, later);
+                    if sample.damage(&mut random, first) {
+                        assert_eq!(answer(&sample).number, first, "{later}: {sample:02x?}");
                         met += 1;
                     }
                 }
@@ -431,32 +498,42 @@ mod tests {
             block::reset(&[3]),
             block::sia(1, Some([4; 6]), 5, 6),
         ];
-        let arguments = Arguments::newest(21143);
         let private = random.bytes::<18>();
-        let image = |blocks: &[Vec<u8>]| {
-            let mut card = Card::tidy(21143, 0x0800, blocks.to_vec());
-            card.private[..18].copy_from_slice(&private);
-            card.image()
-        };
-        for number in 0..3 {
-            let mut others = blocks.clone();
-            others.remove(number);
-            let lost = without_block(&image(&blocks), arguments, number);
-            assert_eq!(lost, Some(image(&others)));
+        for layout in LAYOUTS {
+            let magic = MagicBlock::of_layout(&mut random, layout);
+            let arguments = Arguments::newest(21143).laid_out(layout);
+            let image = |blocks: &[Vec<u8>]| {
+                let mut card = Card::tidy(21143, 0x0800, blocks.to_vec());
+                card.private[..18].copy_from_slice(&private);
+                card.magic = magic;
+                card.image()
+            };
+            for number in 0..3 {
+                let mut others = blocks.clone();
+                others.remove(number);
+                let lost = without_block(&image(&blocks), arguments, number);
+                assert_eq!(lost, Some(image(&others)));
+            }
+            assert_eq!(without_block(&image(&blocks), arguments, 3), None);
+            assert_eq!(without_block(&[0; 128], arguments, 0), None);
         }
-        assert_eq!(without_block(&image(&blocks), arguments, 3), None);
-        assert_eq!(without_block(&[0; 128], arguments, 0), None);
     }
 
-    /// "at most 91 blocks": the longest leaf is accepted, every place listed from the last.
+    /// "at most 91 blocks": the longest leaf is accepted, every place listed from the last. With a
+    /// Magic Packet block "leaves end before 92".
     #[test]
     fn longest_leaf() {
-        let image = Card::longest(&mut Random::new(4)).image();
-        let arguments = Arguments::at_level(21041, 0);
-        let (mut kinds, mut offsets) = ([0; MOST_BLOCKS], [0; MOST_BLOCKS]);
-        let answer = read(&image, arguments, &mut kinds, &mut offsets);
-        assert_eq!((answer.number, answer.listed), (0, 91));
-        assert_eq!(kinds, [MEDIA_21041; MOST_BLOCKS]);
-        assert!(offsets.iter().copied().eq((33..=123).rev()));
+        for (layout, last) in LAYOUTS.into_iter().zip([123, 91]) {
+            let mut sample = Sample::longest(&mut Random::new(4), layout);
+            sample.arguments.level = 0;
+            let (mut kinds, mut offsets) = ([0; MOST_BLOCKS], [0; MOST_BLOCKS]);
+            let image = sample.card.image();
+            let answer = read(&image, sample.arguments, &mut kinds, &mut offsets);
+            let listed = usize::from(answer.listed);
+            assert_eq!((answer.number, listed), (0, last - 32));
+            assert!(kinds[..listed].iter().all(|&kind| kind == MEDIA_21041));
+            let starts = offsets[..listed].iter().map(|&it| usize::from(it));
+            assert!(starts.eq((33..=last).rev()));
+        }
     }
 }

@@ -10,6 +10,8 @@ pub mod cases;
 pub mod crc;
 pub mod forms;
 pub mod images;
+pub mod layout;
+pub mod magic;
 pub mod random;
 pub mod reader;
 pub mod sheet;

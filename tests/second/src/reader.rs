@@ -1,9 +1,12 @@
 //! Reading an image: the header, the blocks of one leaf, the table and the block view (document 01,
-//! from "The image" to "Levels and the table").
+//! from "The image" to "Levels and the table"; document 02, request 1, for the layout with a Magic
+//! Packet block).
 
 pub mod fast;
 
-use crate::crc::{self, ID_CRC_OFFSET, IMAGE_LENGTH, SROM_CRC_OFFSET};
+use crate::crc::{self, ID_CRC_OFFSET, IMAGE_LENGTH};
+use crate::layout::Layout;
+use crate::magic;
 use std::fmt;
 
 /// The chips that a leaf can be for.
@@ -23,9 +26,6 @@ pub const MEDIA_21041: u16 = 257;
 
 /// The extended type of a reset sequence for the whole card.
 pub const RESET: u16 = 5;
-
-/// Leaves end before the maker's bytes, which start here.
-pub const LEAF_LIMIT: usize = 124;
 
 /// The most blocks that an accepted leaf can hold: one byte each, from the first place to the last.
 pub const MOST_BLOCKS: usize = 91;
@@ -65,36 +65,49 @@ const CONNECTIONS_21140: [u16; 19] = [
 /// 10Base5, which the 21142 and the later chips have beside the 21140's connection types.
 const AUI: u16 = 0x0002;
 
-/// Whose leaf is read, for which chip, and how many extended types the reader knows. The library's
-/// C interface has the same layout.
+/// Whose leaf is read, for which chip, how many extended types the reader knows, and how the image
+/// is laid out. The library's C interface has the same layout.
 #[repr(C)]
 #[derive(Debug, Clone, Copy, PartialEq, Eq)]
 pub struct Arguments {
     pub chip: u16,
     pub controller: u8,
     pub level: u8,
+    pub layout: Layout,
 }
 
 impl Arguments {
-    /// The newest reader, for the first controller.
+    /// The newest reader, for the first controller of an image without a Magic Packet block.
     pub const fn newest(chip: u16) -> Self {
         Self::at_level(chip, NEWEST_LEVEL)
     }
 
-    /// A reader of some level, for the first controller.
+    /// A reader of some level, for the same.
     pub const fn at_level(chip: u16, level: u8) -> Self {
         Self {
             chip,
             controller: 0,
             level,
+            layout: Layout::PLAIN,
         }
+    }
+
+    /// The same for another layout.
+    pub const fn laid_out(self, layout: Layout) -> Self {
+        Self { layout, ..self }
     }
 }
 
-/// Chip, controller and level, as the words of a command.
+/// Chip, controller, level and whether there is a Magic Packet block (0 or 1), as the words of a
+/// command.
 impl fmt::Display for Arguments {
     fn fmt(&self, to: &mut fmt::Formatter<'_>) -> fmt::Result {
-        write!(to, "{} {} {}", self.chip, self.controller, self.level)
+        let magic = u8::from(self.layout.magic);
+        write!(
+            to,
+            "{} {} {} {magic}",
+            self.chip, self.controller, self.level
+        )
     }
 }
 
@@ -138,7 +151,7 @@ impl Answer {
     }
 }
 
-/// Why a call is refused, by document 01's numbers.
+/// Why a call is refused, by the numbers of documents 01 and 02.
 #[derive(Debug, Clone, Copy, PartialEq, Eq)]
 pub(crate) enum Refusal {
     ImageLength = 1,
@@ -168,6 +181,8 @@ pub(crate) enum Refusal {
     KindOrBody = 25,
     LeafPastLimit = 26,
     NotTidy = 27,
+    MagicCrc = 29,
+    MagicReserved = 30,
 }
 
 impl Refusal {
@@ -323,7 +338,7 @@ pub(crate) fn leaf(
     arguments: Arguments,
     shorter: usize,
 ) -> Result<(Header, Vec<Block>), Refusal> {
-    frame(image)?;
+    frame(image, arguments.layout)?;
     let header = header(image, arguments)?;
     refuse_if(shorter < usize::from(header.count), Refusal::ShortArray)?;
     let mut blocks = Vec::new();
@@ -337,14 +352,19 @@ pub(crate) fn leaf(
     Ok((header, blocks))
 }
 
-/// Causes 1 to 4, which need no argument.
-fn frame(image: &[u8]) -> Result<(), Refusal> {
+/// Causes 1 to 4, and then those of the Magic Packet block, 29 and 30, where there is one.
+fn frame(image: &[u8], layout: Layout) -> Result<(), Refusal> {
     refuse_if(image.len() != IMAGE_LENGTH, Refusal::ImageLength)?;
     refuse_if(!is_version(image), Refusal::Version)?;
-    let srom_crc = crc::srom_crc(image).value;
-    refuse_if(srom_crc != word(image, SROM_CRC_OFFSET), Refusal::SromCrc)?;
+    let srom_crc = crc::srom_crc(image, layout).value;
+    let stored = word(image, layout.srom_crc_offset());
+    refuse_if(srom_crc != stored, Refusal::SromCrc)?;
     let id_crc = crc::id_crc(image).value;
-    refuse_if(id_crc != image[ID_CRC_OFFSET].into(), Refusal::IdCrc)
+    refuse_if(id_crc != image[ID_CRC_OFFSET].into(), Refusal::IdCrc)?;
+    if layout.magic {
+        magic::judge(image, crc::magic_crc(image))?;
+    }
+    Ok(())
 }
 
 pub(crate) fn is_version(image: &[u8]) -> bool {
@@ -357,10 +377,12 @@ fn header(image: &[u8], arguments: Arguments) -> Result<Header, Refusal> {
         chip,
         controller,
         level,
+        layout,
     } = arguments;
     let controllers = usize::from(image[COUNT_OFFSET]);
+    let is_count = (1..=layout.most_controllers()).contains(&controllers);
     refuse_if(
-        !(1..=32).contains(&controllers) || image[controller_offset(controllers)] != 0,
+        !is_count || image[controller_offset(controllers)] != 0,
         Refusal::CountOrReservedByte,
     )?;
     let index = usize::from(controller);
@@ -375,7 +397,7 @@ fn header(image: &[u8], arguments: Arguments) -> Result<Header, Refusal> {
     let start = usize::from(word(image, controller_offset(index) + 1));
     let first_block = start + header_size(chip);
     refuse_if(
-        start < first_leaf(controllers) || first_block > LEAF_LIMIT,
+        start < first_leaf(controllers) || first_block > layout.leaf_limit(),
         Refusal::LeafBounds,
     )?;
     let connection = word(image, start);
@@ -392,7 +414,8 @@ fn header(image: &[u8], arguments: Arguments) -> Result<Header, Refusal> {
 /// The block that starts at a place up to the limit, or the first of causes 13 to 17.
 fn block(image: &[u8], start: usize, arguments: Arguments) -> Result<Block, Refusal> {
     let Arguments { chip, level, .. } = arguments;
-    let bytes = first_block(&image[start..LEAF_LIMIT], chip).ok_or(Refusal::PastLeafLimit)?;
+    let rest = &image[start..arguments.layout.leaf_limit()];
+    let bytes = first_block(rest, chip).ok_or(Refusal::PastLeafLimit)?;
     let kind = kind(bytes, chip).ok_or(Refusal::NotPermitted)?;
     let mut block = Block {
         start,
@@ -557,7 +580,13 @@ pub(crate) fn refuse_if(cause: bool, refusal: Refusal) -> Result<(), Refusal> {
 
 /// The word whose low byte stands at the offset.
 pub(crate) fn word(bytes: &[u8], offset: usize) -> u16 {
-    u16::from_le_bytes([bytes[offset], bytes[offset + 1]])
+    u16::from_le_bytes(field(bytes, offset))
+}
+
+/// The bytes of a field that starts at the offset.
+pub(crate) fn field<const LENGTH: usize>(bytes: &[u8], offset: usize) -> [u8; LENGTH] {
+    let field = &bytes[offset..offset + LENGTH];
+    field.try_into().expect("the field has its length")
 }
 
 #[cfg(test)]

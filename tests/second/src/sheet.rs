@@ -1,13 +1,14 @@
-//! The sheet, its writer and its maker (document 01, "The sheet"), with a plain record between the
-//! sheet's bytes and the image's.
+//! The sheet, its writer and its maker (document 01, "The sheet"; document 02, request 1, for the
+//! layout with a Magic Packet block), with a plain record between the sheet's bytes and the image's.
 
 pub mod fast;
 
-use crate::crc::{ID_LAST_OFFSET, IMAGE_LENGTH, lay_crcs};
+use crate::crc::{ID_LAST_OFFSET, IMAGE_LENGTH, lay_board_crcs};
+use crate::layout::Layout;
 use crate::reader::{
     ADDRESS_OFFSET, Arguments, CHIPS, COMPACT, CONTROLLERS_OFFSET, COUNT_OFFSET, EXT, EXTENDED,
-    LEAF_LIMIT, MEDIA_21041, MOST_BLOCKS, Refusal, VERSION_OFFSET, first_block, header_size, kind,
-    leaf, refuse_if, word,
+    MEDIA_21041, MOST_BLOCKS, Refusal, VERSION_OFFSET, field, first_block, header_size, kind, leaf,
+    refuse_if, word,
 };
 
 /// Where the writer puts the leaf, and where a tidy image has it.
@@ -64,9 +65,9 @@ struct Body {
 }
 
 /// Writes the image that a sheet describes, and answers the number; a refusal leaves the image as
-/// it is.
-pub fn write(sheet: &[u8], image: &mut [u8]) -> u8 {
-    let written = try_write(sheet, image.len());
+/// it is. What stands behind the board's part in the image is kept, and judged with the rest.
+pub fn write(sheet: &[u8], layout: Layout, image: &mut [u8]) -> u8 {
+    let written = try_write(sheet, layout, image);
     if let Ok(written) = &written {
         image.copy_from_slice(written);
     }
@@ -75,8 +76,8 @@ pub fn write(sheet: &[u8], image: &mut [u8]) -> u8 {
 
 /// Makes the sheet of a tidy image, in the first bytes of the buffer; a refusal leaves the buffer
 /// as it is.
-pub fn make(image: &[u8], chip: u16, buffer: &mut [u8]) -> Made {
-    let made = try_make(image, chip, buffer.len());
+pub fn make(image: &[u8], chip: u16, layout: Layout, buffer: &mut [u8]) -> Made {
+    let made = try_make(image, chip, layout, buffer.len());
     if let Ok(sheet) = &made {
         buffer[..sheet.len()].copy_from_slice(sheet);
     }
@@ -86,32 +87,41 @@ pub fn make(image: &[u8], chip: u16, buffer: &mut [u8]) -> Made {
     }
 }
 
-fn try_write(sheet: &[u8], image_length: usize) -> Result<[u8; IMAGE_LENGTH], Refusal> {
+fn try_write(sheet: &[u8], layout: Layout, output: &[u8]) -> Result<[u8; IMAGE_LENGTH], Refusal> {
     let record = Record::of_sheet(sheet).ok_or(Refusal::SheetLengthOrSum)?;
-    refuse_if(image_length != IMAGE_LENGTH, Refusal::ImageLength)?;
+    let mut image = output.try_into().map_err(|_| Refusal::ImageLength)?;
     refuse_if(!CHIPS.contains(&record.chip), Refusal::Chip)?;
     refuse_if(record.has_wrong_form(), Refusal::KindOrBody)?;
     let leaf_bytes = record.leaf();
     refuse_if(
-        TIDY_LEAF + leaf_bytes.len() > LEAF_LIMIT,
+        TIDY_LEAF + leaf_bytes.len() > layout.leaf_limit(),
         Refusal::LeafPastLimit,
     )?;
-    let image = record.image(&leaf_bytes);
-    leaf(&image, Arguments::newest(record.chip), usize::MAX)?;
+    record.lay(&leaf_bytes, layout, &mut image);
+    let newest = Arguments::newest(record.chip).laid_out(layout);
+    leaf(&image, newest, usize::MAX)?;
     Ok(image)
 }
 
-fn try_make(image: &[u8], chip: u16, buffer_length: usize) -> Result<Vec<u8>, Refusal> {
-    let (header, blocks) = leaf(image, Arguments::newest(chip), usize::MAX)?;
+fn try_make(
+    image: &[u8],
+    chip: u16,
+    layout: Layout,
+    buffer_length: usize,
+) -> Result<Vec<u8>, Refusal> {
+    let newest = Arguments::newest(chip).laid_out(layout);
+    let (header, blocks) = leaf(image, newest, usize::MAX)?;
     let start = header.first_block - header_size(chip);
     let end = blocks
         .last()
         .map_or(header.first_block, |block| block.start + block.size);
     let is_tidy = image[COUNT_OFFSET] == 1
         && start == TIDY_LEAF
-        && image[end..LEAF_LIMIT].iter().all(|&byte| byte == 0);
+        && image[end..layout.leaf_limit()]
+            .iter()
+            .all(|&byte| byte == 0);
     refuse_if(!is_tidy, Refusal::NotTidy)?;
-    let sheet = Record::of_image(image, chip).sheet();
+    let sheet = Record::of_image(image, chip, layout).sheet();
     refuse_if(buffer_length < sheet.len(), Refusal::ShortArray)?;
     Ok(sheet)
 }
@@ -149,10 +159,10 @@ impl Record {
     }
 
     /// The record of a tidy image that the newest reader accepts.
-    fn of_image(image: &[u8], chip: u16) -> Self {
+    fn of_image(image: &[u8], chip: u16, layout: Layout) -> Self {
         let mut id = field(image, 0);
         id[16] = image[ID_LAST_OFFSET];
-        let mut rest = &image[TIDY_LEAF + header_size(chip)..LEAF_LIMIT];
+        let mut rest = &image[TIDY_LEAF + header_size(chip)..layout.leaf_limit()];
         let count = image[TIDY_LEAF + header_size(chip) - 1];
         let blocks = (0..count).map(|_| {
             let block = first_block(rest, chip).expect("an accepted block ends before the limit");
@@ -172,7 +182,7 @@ impl Record {
             } else {
                 0
             },
-            maker: field(image, LEAF_LIMIT),
+            maker: field(image, layout.leaf_limit()),
         }
     }
 
@@ -192,9 +202,10 @@ impl Record {
         leaf
     }
 
-    /// "The writer makes n = 1, the leaf at 30, both CRCs, and zeros elsewhere."
-    fn image(&self, leaf: &[u8]) -> [u8; IMAGE_LENGTH] {
-        let mut image = [0; IMAGE_LENGTH];
+    /// "The writer makes n = 1, the leaf at 30, both CRCs, and zeros elsewhere", which is the board's
+    /// part of the image.
+    fn lay(&self, leaf: &[u8], layout: Layout, image: &mut [u8; IMAGE_LENGTH]) {
+        image[..layout.board_end()].fill(0);
         image[..16].copy_from_slice(&self.id[..16]);
         image[ID_LAST_OFFSET] = self.id[16];
         image[VERSION_OFFSET] = self.version;
@@ -203,9 +214,8 @@ impl Record {
         image[CONTROLLERS_OFFSET] = self.device;
         image[CONTROLLERS_OFFSET + 1] = TIDY_LEAF as u8;
         image[TIDY_LEAF..][..leaf.len()].copy_from_slice(leaf);
-        image[LEAF_LIMIT..][..2].copy_from_slice(&self.maker);
-        lay_crcs(&mut image);
-        image
+        image[layout.leaf_limit()..][..2].copy_from_slice(&self.maker);
+        lay_board_crcs(image, layout);
     }
 
     /// The sheet's bytes, the sizes first.
@@ -263,12 +273,6 @@ impl Body {
             _ => true,
         }
     }
-}
-
-/// The bytes of a field that starts at the offset.
-fn field<const LENGTH: usize>(bytes: &[u8], offset: usize) -> [u8; LENGTH] {
-    let field = &bytes[offset..offset + LENGTH];
-    field.try_into().expect("the field has its length")
 }
 
 #[cfg(test)]

@@ -4,9 +4,10 @@
 mod damage;
 pub mod tidy;
 
-use crate::images::{self, Card, Controller, Leaf, TIDY_LEAF, block};
+use crate::images::{self, Card, Controller, Image, Leaf, MagicBlock, TIDY_LEAF, block};
+use crate::layout::Layout;
 use crate::random::Random;
-use crate::reader::{CHIPS, COMPACT, LEAF_LIMIT, header_size};
+use crate::reader::{CHIPS, COMPACT, header_size};
 
 /// The refusals that one damaged field of a sheet can cause, in the writer's order: all but the one
 /// for the image's length.
@@ -66,8 +67,8 @@ impl Sheet {
         bytes
     }
 
-    /// The card whose image the writer must write.
-    pub fn card(&self) -> Card {
+    /// The card whose image the writer must write, behind which this block is kept.
+    pub fn card(&self, magic: Option<MagicBlock>) -> Card {
         let mut leaf = Leaf::new(TIDY_LEAF, self.chip, self.connection, self.whole_blocks());
         leaf.control = self.control;
         let mut card = Card::new(1, vec![leaf]);
@@ -80,17 +81,18 @@ impl Sheet {
             leaf_offset: TIDY_LEAF as u16,
         }];
         card.maker = self.maker;
+        card.magic = magic;
         card
     }
 
-    /// A random sheet of any chip that the writer accepts, once in a while the one with the most
-    /// blocks.
-    pub fn valid(random: &mut Random) -> Self {
+    /// A random sheet of any chip that the writer accepts in a layout, once in a while the one with
+    /// the most blocks.
+    pub fn valid(random: &mut Random, layout: Layout) -> Self {
         let chip = random.pick(&CHIPS);
-        let room = LEAF_LIMIT - TIDY_LEAF - header_size(chip);
+        let room = layout.leaf_limit() - TIDY_LEAF - header_size(chip);
         let mut blocks = images::blocks(random, chip, room);
         if chip == 21041 && random.one_in(8) {
-            blocks = Card::longest(random).leaves.remove(0).blocks;
+            blocks = Card::longest(random, layout).leaves.remove(0).blocks;
         }
         let connection = images::connection(random, chip);
         Self {
@@ -105,16 +107,16 @@ impl Sheet {
     }
 
     /// The bytes of a sheet in which one field is damaged so that the writer refuses it with this
-    /// number, one of [`SHEET_DAMAGES`].
-    pub fn damaged(random: &mut Random, number: u8) -> Vec<u8> {
+    /// number, one of [`SHEET_DAMAGES`], in a layout.
+    pub fn damaged(random: &mut Random, number: u8, layout: Layout) -> Vec<u8> {
         loop {
-            let mut sheet = Self::valid(random);
+            let mut sheet = Self::valid(random, layout);
             if number == 24 {
                 let mut bytes = sheet.bytes();
                 damage::missum(random, &mut bytes, sheet.blocks.len());
                 return bytes;
             }
-            if sheet.damage(random, number) {
+            if sheet.damage(random, number, layout) {
                 return sheet.bytes();
             }
         }
@@ -123,7 +125,7 @@ impl Sheet {
     /// The bytes of a sheet with any kinds, sizes and bodies, and with sums that are mostly right.
     pub fn wild(random: &mut Random) -> Vec<u8> {
         let chip = random.pick(&CHIPS);
-        let mut sheet = Self::valid(random);
+        let mut sheet = Self::valid(random, Layout::PLAIN);
         sheet.chip = chip;
         sheet.control = if random.one_in(8) { random.byte() } else { 0 };
         let body = |_| {
@@ -178,6 +180,15 @@ impl Sheet {
     }
 }
 
+/// An image to write a sheet to: any bytes, and a right Magic Packet block where the layout has one.
+pub fn output(random: &mut Random, layout: Layout) -> Image {
+    let mut image = random.bytes();
+    if let Some(block) = MagicBlock::of_layout(random, layout) {
+        block.lay(&mut image);
+    }
+    image
+}
+
 /// Kind and body of a whole block.
 fn body(block: &[u8], chip: u16) -> (u16, Vec<u8>) {
     let kind = images::damage::kind(block, chip);
@@ -188,27 +199,33 @@ fn body(block: &[u8], chip: u16) -> (u16, Vec<u8>) {
 #[cfg(test)]
 mod tests {
     use super::*;
+    use crate::images::MAGIC_DAMAGES;
+    use crate::layout::LAYOUTS;
     use crate::sheet::write;
 
-    const PATTERN: [u8; 128] = [0xA5; 128];
-
     /// "Writing a sheet": each valid sheet is accepted, with the image that the builder of images
-    /// lays.
+    /// lays, and behind it the block that the output held.
     #[test]
     fn valid_sheets_are_accepted() {
         let mut random = Random::new(1);
-        let mut last_places = 0;
-        for _ in 0..10_000 {
-            let sheet = Sheet::valid(&mut random);
-            let mut image = PATTERN;
-            assert_eq!(write(&sheet.bytes(), &mut image), 0, "{sheet:02x?}");
-            assert_eq!(image, sheet.card().image(), "{sheet:02x?}");
-            last_places += usize::from(sheet.leaf_end() == LEAF_LIMIT);
+        for layout in LAYOUTS {
+            let mut last_places = 0;
+            for _ in 0..10_000 {
+                let sheet = Sheet::valid(&mut random, layout);
+                let magic = MagicBlock::of_layout(&mut random, layout);
+                let mut image = random.bytes();
+                if let Some(block) = magic {
+                    block.lay(&mut image);
+                }
+                assert_eq!(write(&sheet.bytes(), layout, &mut image), 0, "{sheet:02x?}");
+                assert_eq!(image, sheet.card(magic).image(), "{sheet:02x?}");
+                last_places += usize::from(sheet.leaf_end() == layout.leaf_limit());
+            }
+            assert!(
+                last_places > 500,
+                "only {last_places} leaves up to the limit"
+            );
         }
-        assert!(
-            last_places > 500,
-            "only {last_places} leaves up to byte 123"
-        );
     }
 
     /// "its cause met and no earlier cause ... image unchanged": each damage is refused with its
@@ -217,11 +234,13 @@ mod tests {
     fn damages_are_refused() {
         let mut random = Random::new(2);
         for number in SHEET_DAMAGES {
-            for _ in 0..500 {
-                let sheet = Sheet::damaged(&mut random, number);
-                let mut image = PATTERN;
-                assert_eq!(write(&sheet, &mut image), number, "{sheet:02x?}");
-                assert_eq!(image, PATTERN, "{sheet:02x?}");
+            for round in 0..1_000 {
+                let layout = LAYOUTS[round % 2];
+                let sheet = Sheet::damaged(&mut random, number, layout);
+                let before = output(&mut random, layout);
+                let mut image = before;
+                assert_eq!(write(&sheet, layout, &mut image), number, "{sheet:02x?}");
+                assert_eq!(image, before, "{sheet:02x?}");
             }
         }
     }
@@ -230,24 +249,60 @@ mod tests {
     #[test]
     fn first_cause_first() {
         let mut random = Random::new(3);
-        // From 14 to 17 the first block that is refused decides, not the number.
-        let singles = SHEET_DAMAGES[1..].iter().enumerate();
-        for (place, &first) in singles {
+        for (place, &first) in SHEET_DAMAGES[1..].iter().enumerate() {
             for &later in &SHEET_DAMAGES[2 + place..] {
+                // From 14 to 17 the first block that is refused decides, not the number.
                 if first >= 14 && first != 25 && first != 26 && later < 18 {
                     continue;
                 }
-                let (mut met, mut tries) = (0, 0);
-                while met < 20 && tries < 100_000 {
-                    tries += 1;
-                    let mut sheet = Sheet::valid(&mut random);
-                    if sheet.damage(&mut random, later) && sheet.damage(&mut random, first) {
-                        let number = write(&sheet.bytes(), &mut PATTERN.clone());
-                        assert_eq!(number, first, "{later}: {sheet:02x?}");
-                        met += 1;
-                    }
+                for layout in LAYOUTS {
+                    meets_first(&mut random, first, later, layout);
                 }
-                assert_eq!(met, 20, "{first} and {later}");
+            }
+        }
+    }
+
+    /// Two damages to each of some sheets.
+    fn meets_first(random: &mut Random, first: u8, later: u8, layout: Layout) {
+        let (mut met, mut tries) = (0, 0);
+        while met < 20 && tries < 100_000 {
+            tries += 1;
+            let mut sheet = Sheet::valid(random, layout);
+            if sheet.damage(random, later, layout) && sheet.damage(random, first, layout) {
+                let mut image = output(random, layout);
+                let number = write(&sheet.bytes(), layout, &mut image);
+                assert_eq!(number, first, "{later}: {sheet:02x?}");
+                met += 1;
+            }
+        }
+        assert_eq!(met, 20, "{first} and {later}");
+    }
+
+    /// "keeps bytes 96 to 127, judged with the rest": a damaged block of the output is refused with
+    /// its own number, where the writer meets no cause before: 24 to 26, and the reader's 2.
+    #[test]
+    fn blocks_of_the_output() {
+        let mut random = Random::new(4);
+        let before = [24, 7, 25, 26, 2];
+        for block in MAGIC_DAMAGES {
+            for number in [0].into_iter().chain(SHEET_DAMAGES) {
+                for _ in 0..200 {
+                    let sheet = match number {
+                        0 => Sheet::valid(&mut random, Layout::MAGIC).bytes(),
+                        _ => Sheet::damaged(&mut random, number, Layout::MAGIC),
+                    };
+                    let mut output = random.bytes();
+                    MagicBlock::damaged(&mut random, block).lay(&mut output);
+                    let expected = if before.contains(&number) {
+                        number
+                    } else {
+                        block
+                    };
+                    let mut image = output;
+                    let answered = write(&sheet, Layout::MAGIC, &mut image);
+                    assert_eq!(answered, expected, "{block} and {number}: {sheet:02x?}");
+                    assert_eq!(image, output);
+                }
             }
         }
     }

@@ -68,3 +68,11 @@ pub fn bytes(list: &str) -> Vec<u8> {
     }
     bytes
 }
+
+/// A list, with each of these names in it replaced by what the text defines under it.
+pub fn opened(list: &str, text: &str, names: &[&str]) -> String {
+    names.iter().fold(list.to_string(), |list, name| {
+        let (_, behind) = text.split_once(&format!("\n{name} = ")).unwrap();
+        list.replace(name, behind.split_once('\n').unwrap().0)
+    })
+}

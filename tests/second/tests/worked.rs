@@ -1,9 +1,22 @@
-//! The sheets and images that crates/worked computes with (specs/Sheets.antt) are the second
-//! implementation's: each sheet is written to its image, and made of it again.
+//! What crates/worked and crates/magic compute with is the second implementation's: each sheet of
+//! specs/Sheets.antt is written to its image, and made of it again; each Magic Packet block of
+//! specs/Cases.antt is read as it says, and boards before one are refused as they say.
 
-use second::crc::IMAGE_LENGTH;
+use second::cases::cases;
+use second::crc::{IMAGE_LENGTH, lay_srom_crc};
+use second::layout::{Layout, MAGIC_OFFSET};
+use second::magic::read_magic;
+use second::reader::{Arguments, read_all};
 use second::sheet;
-use second::specification::{bytes, text};
+use second::specification::{self, bytes, number, opened, text};
+
+/// The names of crates/magic/specs/Cases.antt that lists use, each before those that it is made of.
+const BLOCKS: [&str; 4] = ["wholeBlock", "otherCrc", "strayLast", "fields"];
+
+/// The bytes of a list that may name blocks.
+fn block(list: &str) -> Vec<u8> {
+    bytes(&opened(list, &text("magic/specs/Cases.antt"), &BLOCKS))
+}
 
 /// A field of a case's record: what stands behind its name, up to the semicolon.
 fn field<'a>(case: &'a str, name: &str) -> &'a str {
@@ -24,20 +37,67 @@ fn sheets_are_as_second_has_them() {
         4,
         "a case for each chip's form, and one without a block"
     );
-    for case in cases {
-        let chip: u16 = case.split_once(';').unwrap().0.parse().unwrap();
-        let (wanted_sheet, wanted_image) =
-            (bytes(field(case, "sheet")), bytes(field(case, "image")));
-        let mut image = [0; IMAGE_LENGTH];
-        assert_eq!(sheet::write(&wanted_sheet, &mut image), 0, "{chip}");
-        assert_eq!(image[..], wanted_image, "{chip}");
-        let mut buffer = vec![0; wanted_sheet.len()];
-        let made = sheet::make(&image, chip, &mut buffer);
-        assert_eq!(
-            (made.number, made.length),
-            (0, wanted_sheet.len()),
-            "{chip}"
-        );
-        assert_eq!(buffer, wanted_sheet, "{chip}");
+    for case in &cases {
+        let chip = case.split_once(';').unwrap().0.parse().unwrap();
+        let (sheet, image) = (bytes(field(case, "sheet")), bytes(field(case, "image")));
+        both_ways(chip, Layout::PLAIN, &sheet, &image, [0; IMAGE_LENGTH]);
+    }
+    let (_, magic) = text.split_once("caseMagic = record {\n").unwrap();
+    let image = block(field(magic, "image"));
+    let mut output = [0; IMAGE_LENGTH];
+    output[MAGIC_OFFSET..].copy_from_slice(&image[MAGIC_OFFSET..]);
+    let sheet = bytes(field(cases[0], "sheet"));
+    both_ways(21143, Layout::MAGIC, &sheet, &image, output);
+}
+
+/// The sheet, written over an output, is the image, and the image is made that sheet.
+fn both_ways(
+    chip: u16,
+    layout: Layout,
+    sheet: &[u8],
+    image: &[u8],
+    mut output: [u8; IMAGE_LENGTH],
+) {
+    assert_eq!(sheet::write(sheet, layout, &mut output), 0, "{chip}");
+    assert_eq!(output[..], *image, "{chip}");
+    let mut buffer = vec![0; sheet.len()];
+    let made = sheet::make(&output, chip, layout, &mut buffer);
+    assert_eq!((made.number, made.length), (0, sheet.len()), "{chip}");
+    assert_eq!(buffer, sheet, "{chip}");
+}
+
+#[test]
+fn blocks_are_as_second_has_them() {
+    let text = text("magic/specs/Cases.antt");
+    let cases = specification::cases(&text, "magicCases");
+    assert_eq!(cases.len(), 10, "accepted blocks, and 29, 30 and 1");
+    for (kind, words) in cases {
+        let image = [vec![0; MAGIC_OFFSET], block(words[0])].concat();
+        let answer = read_magic(&image);
+        if kind == "refusedWith" {
+            assert_eq!(usize::from(answer.number), number(words[1]), "{words:?}");
+            continue;
+        }
+        let magic = answer.magic;
+        assert_eq!(answer.number, 0, "{words:?}");
+        assert_eq!(magic.password[..], bytes(words[1]));
+        assert_eq!(magic.address[..], bytes(words[2]));
+        assert_eq!(usize::from(magic.command), number(words[3]));
+    }
+}
+
+#[test]
+fn boards_are_refused_as_second_refuses_them() {
+    let text = text("worked/specs/Cases.antt");
+    let boards = specification::cases(&text, "orderCases");
+    assert_eq!(boards.len(), 9, "2, 4, 29, 30, 5 and what passes them");
+    let arguments = Arguments::newest(21143).laid_out(Layout::MAGIC);
+    for (_, words) in boards {
+        let mut image = cases()[0].image;
+        image[number(words[0])] = number(words[1]) as u8;
+        lay_srom_crc(&mut image, Layout::MAGIC);
+        image[MAGIC_OFFSET..].copy_from_slice(&block(words[2]));
+        let (answer, _) = read_all(&image, arguments);
+        assert_eq!(usize::from(answer.number), number(words[3]), "{words:?}");
     }
 }

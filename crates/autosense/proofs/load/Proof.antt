@@ -1,5 +1,5 @@
 -- The reader's answer decides, and an accepted leaf has at most 91 blocks, which the rows hold. Assumes nothing.
-use Rattle.reader.proofs.Readings.{accepted-judged, reading-start, reading-end, reading-blocks}
+use Rattle.reader.proofs.Readings.{accepted-judged, reading-blocks}
 use Rattle.walk.proofs.Loads.{reading-few-blocks, load-loaded, load-refused, load-done}
 use borrow.Author.Needs.{needs}
 use Rattle.autosense.proofs.load.Statement.{statement}
@@ -16,47 +16,24 @@ returns-2 c =
     let read = c .before .before .assess in
     load-refused _ _ _ (c .before .before .before .if1 .left) (read .result) (read .ensures) (c .if2 .taken)
 
-sub-rows-of : tie.Need-sub-rows-of
-sub-rows-of c =
-    let read = c .before .before .assess in
-    let a = c .before .before .before .before .before .args in
-    reading-start (accepted-judged (a .image .now) (a .arguments) (read .result) (read .ensures) (c .if2 .left))
-
-part-rows-of-start : tie.Need-part-rows-of-start
-part-rows-of-start c =
-    let read = c .before .before .assess in
-    let a = c .before .before .before .before .before .args in
-    reading-start (accepted-judged (a .image .now) (a .arguments) (read .result) (read .ensures) (c .if2 .left))
-
-part-rows-of-end : tie.Need-part-rows-of-end
-part-rows-of-end c =
-    let read = c .before .before .assess in
-    let a = c .before .before .before .before .before .args in
-    reading-end (accepted-judged (a .image .now) (a .arguments) (read .result) (read .ensures) (c .if2 .left))
+rest-from-requires : tie.Need-rest-from-requires
+rest-from-requires c κs = search needs
 
 rows-of-requires : tie.Need-rows-of-requires
 rows-of-requires c κs =
     let read = c .before .before .before .assess in
     let a = c .before .before .before .before .before .before .args in
     let k = accepted-judged (a .image .now) (a .arguments) (read .result) (read .ensures) (c .before .if2 .left) in
-    (reading-blocks k, reading-few-blocks k)
+    rw (c .rest-from .ensures) (reading-blocks k, reading-few-blocks k)
 
 returns-3 : tie.Need-returns-3
 returns-3 c =
     let tested = c .before .before in
     let read = tested .before .before .assess in
-    load-done _ _ _ (tested .before .before .before .if1 .left) (read .result) (read .ensures) (tested .if2 .left) (c .rows-of .result)
-    (c .rows-of .ensures)
+    load-done _ _ _ (tested .before .before .before .if1 .left) (read .result) (read .ensures) (tested .if2 .left) _
+    (c .before .rest-from .ensures) (c .rows-of .result) (c .rows-of .ensures)
 
 pub load-spec : {M : Type 1} → statement M
 load-spec =
     tie.close
-    (tie.spec
-    returns
-    assess-requires
-    returns-2
-    sub-rows-of
-    part-rows-of-start
-    part-rows-of-end
-    rows-of-requires
-    returns-3)
+    (tie.spec returns assess-requires returns-2 rest-from-requires rows-of-requires returns-3)

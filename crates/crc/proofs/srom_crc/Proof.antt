@@ -1,23 +1,33 @@
 -- Refused for its length, or answered with the CRC. Assumes nothing.
+use native.Mathlib.Omega.{arith}
 use borrow.Author.Needs.{needs}
+use Rattle.rom.proofs.Layouts.{geometry}
 use Rattle.crc.specs.Crc.{sromCrc}
 use Rattle.crc.specs.Answer.{sromAnswer}
 use Rattle.crc.proofs.Answers.{refused, accepted}
 use Rattle.crc.proofs.srom_crc.Statement.{statement}
 use Rattle.crc.proofs.srom_crc.Tie as tie
 
+image-length-requires : tie.Need-image-length-requires
+image-length-requires c κs = search needs
+
 returns : tie.Need-returns
 unfolding sromAnswer
-returns c = let image = c .before .before .args .image .now in refused image (sromCrc image) (c .if1 .taken)
+returns c =
+    let e = c .before .before .before in
+    let image = e .args .image .now in
+    refused (e .args .layout) image _ (sromCrc (e .args .layout) image) (c .before .image-length .ensures) (c .if1 .taken)
 
 of-requires : tie.Need-of-requires
-of-requires c κs = search needs
+of-requires c κs = let g = geometry (c .before .before .before .args .layout) in omega arith
 
 returns-2 : tie.Need-returns-2
 unfolding sromAnswer
 returns-2 c =
-    let image = c .before .before .before .args .image .now in
-    rw (c .of .ensures) (accepted image (sromCrc image) (c .before .if1 .left))
+    let e = c .before .before .before .before in
+    let image = e .args .image .now in
+    rw (c .of .ensures)
+    (accepted (e .args .layout) image _ (sromCrc (e .args .layout) image) (c .before .before .image-length .ensures) (c .before .if1 .left))
 
 pub srom-crc-spec : {M : Type 1} → statement M
-srom-crc-spec = tie.close (tie.spec returns of-requires returns-2)
+srom-crc-spec = tie.close (tie.spec image-length-requires returns of-requires returns-2)

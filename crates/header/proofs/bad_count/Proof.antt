@@ -9,10 +9,16 @@ controller-count-requires : tie.Need-controller-count-requires
 controller-count-requires c κs = search needs
 
 returns : tie.Need-returns
-returns c = count-zero (c .before .before .before .args .image .now) (omega arith)
+returns c =
+    let a = c .before .before .before .args in count-zero (a .layout) (a .image .now) (omega arith)
+
+most-controllers-requires : tie.Need-most-controllers-requires
+most-controllers-requires c κs = search needs
 
 returns-2 : tie.Need-returns-2
-returns-2 c = count-more (c .before .before .before .before .args .image .now) (λ z. c .before .if1 .left (omega arith)) (omega arith)
+returns-2 c =
+    let a = c .before .before .before .before .before .args in
+    count-more (a .layout) (a .image .now) (λ z. c .before .before .if1 .left (omega arith)) (omega arith)
 
 reserved-at-requires : tie.Need-reserved-at-requires
 reserved-at-requires c κs = search needs
@@ -21,9 +27,10 @@ byte-at-requires : tie.Need-byte-at-requires
 byte-at-requires c κs = search needs
 
 returns-3 : tie.Need-returns-3
-returns-3 c = let image = c .before .before .before .before .before .before .args .image .now in
+returns-3 c =
+    let a = c .before .before .before .before .before .before .before .args in
     rw (c .byte-at .ensures, c .before .reserved-at .ensures .0)
-    (count-fine image (λ z. c .before .before .before .if1 .left (omega arith)) (omega arith))
+    (count-fine (a .layout) (a .image .now) (λ z. c .before .before .before .before .if1 .left (omega arith)) (omega arith))
 
 pub bad-count-spec : {M : Type 1} → statement M
 bad-count-spec =
@@ -31,6 +38,7 @@ bad-count-spec =
     (tie.spec
     controller-count-requires
     returns
+    most-controllers-requires
     returns-2
     reserved-at-requires
     byte-at-requires

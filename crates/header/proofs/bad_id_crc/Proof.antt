@@ -1,5 +1,8 @@
 -- The CRC call answers the CRC, since the length is right. Assumes nothing.
-use Rattle.header.proofs.Headers.{id-value}
+use Rattle.rom.specs.Geometry.{withoutMagic}
+use Rattle.crc.specs.Crc.{idCrc}
+use Rattle.crc.specs.Answer.{idAnswer}
+use Rattle.crc.proofs.Answers.{answered}
 use borrow.Author.Needs.{needs}
 use Rattle.header.proofs.bad_id_crc.Statement.{statement}
 use Rattle.header.proofs.bad_id_crc.Tie as tie
@@ -14,10 +17,13 @@ id-crc-requires : tie.Need-id-crc-requires
 id-crc-requires c κs = search needs
 
 returns : tie.Need-returns
-returns c = let e = c .before .before .before .before in
+unfolding idAnswer
+returns c =
+    let e = c .before .before .before .before in
+    let image = e .args .image .now in
     rw (
       c .before .before .byte-at .ensures,
-      id-value (e .args .image .now) (e .pre) (c .before .id-crc .result) (c .before .id-crc .ensures),
+      answered withoutMagic image (idCrc image) (c .before .id-crc .result) (e .pre) (c .before .id-crc .ensures),
     )
 
 pub bad-id-crc-spec : {M : Type 1} → statement M

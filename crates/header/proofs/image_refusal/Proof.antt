@@ -1,15 +1,24 @@
 -- The causes in their order, each as its test found it. Assumes nothing.
-use Rattle.header.specs.Image.{imageCauses}
-use Rattle.header.proofs.Headers.{measured, not-measured}
 use mathlib.Core.Path.{sym, _∙_}
-use Rattle.rom.proofs.Reached.{reached, stop, skip, end}
+use Rattle.rom.specs.Geometry.{withoutMagic}
+use Rattle.rom.proofs.Layouts.{one-length}
+use Rattle.rom.proofs.Reached.{reached, stop, skip, among, past, end}
+use Rattle.header.specs.Image.{magicCauses, imageCauses}
+use Rattle.header.proofs.Headers.{measured, not-measured, magic-numbered}
 use borrow.Author.Needs.{needs}
 use Rattle.header.proofs.image_refusal.Statement.{statement}
 use Rattle.header.proofs.image_refusal.Tie as tie
 
+image-length-requires : tie.Need-image-length-requires
+image-length-requires c κs = search needs
+
 returns : tie.Need-returns
 unfolding imageCauses
-returns c = reached (stop (not-measured (c .before .before .args .image .now) (c .if1 .taken)))
+returns c =
+    let e = c .before .before .before in
+    let image = e .args .image .now in
+    reached
+    (stop (not-measured image _ (c .before .image-length .ensures) (c .if1 .taken)))
 
 bad-version-requires : tie.Need-bad-version-requires
 bad-version-requires c κs = search needs
@@ -17,8 +26,10 @@ bad-version-requires c κs = search needs
 returns-2 : tie.Need-returns-2
 unfolding imageCauses
 returns-2 c =
+    let e = c .before .before .before .before .before in
+    let image = e .args .image .now in
     reached
-    (skip (measured (c .before .before .before .before .args .image .now) (c .before .before .if1 .left))
+    (skip (measured image _ (c .before .before .before .image-length .ensures) (c .before .before .if1 .left))
     (stop (sym (c .before .bad-version .ensures) ∙ c .if2 .taken)))
 
 bad-srom-crc-requires : tie.Need-bad-srom-crc-requires
@@ -27,60 +38,100 @@ bad-srom-crc-requires c κs = search needs
 returns-3 : tie.Need-returns-3
 unfolding imageCauses
 returns-3 c =
+    let bad-version = c .before .before .before in
+    let image-length = bad-version .before .before in
+    let e = image-length .before .before in
+    let image = e .args .image .now in
     reached
-    (skip (measured (c .before .before .before .before .before .before .args .image .now) (c .before .before .before .before .if1 .left))
-    (skip (sym (c .before .before .before .bad-version .ensures) ∙ c .before .before .if2 .left)
+    (skip (measured image _ (image-length .image-length .ensures) (bad-version .before .if1 .left))
+    (skip (sym (bad-version .bad-version .ensures) ∙ c .before .before .if2 .left)
     (stop (sym (c .before .bad-srom-crc .ensures) ∙ c .if3 .taken))))
 
 bad-id-crc-requires : tie.Need-bad-id-crc-requires
-bad-id-crc-requires c κs = search needs
+bad-id-crc-requires c κs =
+    let image-length = c .before .before .before .before .before in
+    let start = image-length .before .before in
+    c .before .before .before .before .if1 .left ∙ image-length .image-length .ensures ∙ one-length (start .args .layout) withoutMagic
 
 returns-4 : tie.Need-returns-4
 unfolding imageCauses
 returns-4 c =
+    let bad-srom-crc = c .before .before .before in
+    let bad-version = bad-srom-crc .before .before in
+    let image-length = bad-version .before .before in
+    let e = image-length .before .before in
+    let image = e .args .image .now in
     reached
-    (skip
-    (measured (c .before .before .before .before .before .before .before .before .args .image .now)
-    (c .before .before .before .before .before .before .if1 .left))
-    (skip (sym (c .before .before .before .before .before .bad-version .ensures) ∙ c .before .before .before .before .if2 .left)
-    (skip (sym (c .before .before .before .bad-srom-crc .ensures) ∙ c .before .before .if3 .left)
+    (skip (measured image _ (image-length .image-length .ensures) (bad-version .before .if1 .left))
+    (skip (sym (bad-version .bad-version .ensures) ∙ bad-srom-crc .before .if2 .left)
+    (skip (sym (bad-srom-crc .bad-srom-crc .ensures) ∙ c .before .before .if3 .left)
     (stop (sym (c .before .bad-id-crc .ensures) ∙ c .if4 .taken)))))
 
-bad-count-requires : tie.Need-bad-count-requires
-bad-count-requires c κs = search needs
+magic-refusal-requires : tie.Need-magic-refusal-requires
+magic-refusal-requires c κs = search needs
 
 returns-5 : tie.Need-returns-5
 unfolding imageCauses
 returns-5 c =
+    let bad-id-crc = c .before .before .before in
+    let bad-srom-crc = bad-id-crc .before .before in
+    let bad-version = bad-srom-crc .before .before in
+    let image-length = bad-version .before .before in
+    let e = image-length .before .before in
+    let image = e .args .image .now in
     reached
-    (skip
-    (measured (c .before .before .before .before .before .before .before .before .before .before .args .image .now)
-    (c .before .before .before .before .before .before .before .before .if1 .left))
-    (skip
-    (sym (c .before .before .before .before .before .before .before .bad-version .ensures)
-    ∙ c .before .before .before .before .before .before .if2 .left)
-    (skip (sym (c .before .before .before .before .before .bad-srom-crc .ensures) ∙ c .before .before .before .before .if3 .left)
-    (skip (sym (c .before .before .before .bad-id-crc .ensures) ∙ c .before .before .if4 .left)
-    (stop (sym (c .before .bad-count .ensures) ∙ c .if5 .taken))))))
+    (skip (measured image _ (image-length .image-length .ensures) (bad-version .before .if1 .left))
+    (skip (sym (bad-version .bad-version .ensures) ∙ bad-srom-crc .before .if2 .left)
+    (skip (sym (bad-srom-crc .bad-srom-crc .ensures) ∙ bad-id-crc .before .if3 .left)
+    (skip (sym (bad-id-crc .bad-id-crc .ensures) ∙ c .before .before .if4 .left)
+    (among (magicCauses (e .args .layout) image) _ (c .if5 .taken) (sym (c .before .magic-refusal .ensures)))))))
+
+bad-count-requires : tie.Need-bad-count-requires
+bad-count-requires c κs = search needs
 
 returns-6 : tie.Need-returns-6
 unfolding imageCauses
 returns-6 c =
+    let magic-refusal = c .before .before .before in
+    let bad-id-crc = magic-refusal .before .before in
+    let bad-srom-crc = bad-id-crc .before .before in
+    let bad-version = bad-srom-crc .before .before in
+    let image-length = bad-version .before .before in
+    let e = image-length .before .before in
+    let image = e .args .image .now in
     reached
-    (skip
-    (measured (c .before .before .before .before .before .before .before .before .before .before .args .image .now)
-    (c .before .before .before .before .before .before .before .before .if1 .left))
-    (skip
-    (sym (c .before .before .before .before .before .before .before .bad-version .ensures)
-    ∙ c .before .before .before .before .before .before .if2 .left)
-    (skip (sym (c .before .before .before .before .before .bad-srom-crc .ensures) ∙ c .before .before .before .before .if3 .left)
-    (skip (sym (c .before .before .before .bad-id-crc .ensures) ∙ c .before .before .if4 .left)
-    (skip (sym (c .before .bad-count .ensures) ∙ c .if5 .left) end)))))
+    (skip (measured image _ (image-length .image-length .ensures) (bad-version .before .if1 .left))
+    (skip (sym (bad-version .bad-version .ensures) ∙ bad-srom-crc .before .if2 .left)
+    (skip (sym (bad-srom-crc .bad-srom-crc .ensures) ∙ bad-id-crc .before .if3 .left)
+    (skip (sym (bad-id-crc .bad-id-crc .ensures) ∙ magic-refusal .before .if4 .left)
+    (past (magicCauses (e .args .layout) image) (magic-numbered (e .args .layout) image)
+    (sym (magic-refusal .magic-refusal .ensures) ∙ c .before .before .if5 .left)
+    (stop (sym (c .before .bad-count .ensures) ∙ c .if6 .taken)))))))
+
+returns-7 : tie.Need-returns-7
+unfolding imageCauses
+returns-7 c =
+    let magic-refusal = c .before .before .before in
+    let bad-id-crc = magic-refusal .before .before in
+    let bad-srom-crc = bad-id-crc .before .before in
+    let bad-version = bad-srom-crc .before .before in
+    let image-length = bad-version .before .before in
+    let e = image-length .before .before in
+    let image = e .args .image .now in
+    reached
+    (skip (measured image _ (image-length .image-length .ensures) (bad-version .before .if1 .left))
+    (skip (sym (bad-version .bad-version .ensures) ∙ bad-srom-crc .before .if2 .left)
+    (skip (sym (bad-srom-crc .bad-srom-crc .ensures) ∙ bad-id-crc .before .if3 .left)
+    (skip (sym (bad-id-crc .bad-id-crc .ensures) ∙ magic-refusal .before .if4 .left)
+    (past (magicCauses (e .args .layout) image) (magic-numbered (e .args .layout) image)
+    (sym (magic-refusal .magic-refusal .ensures) ∙ c .before .before .if5 .left)
+    (skip (sym (c .before .bad-count .ensures) ∙ c .if6 .left) end))))))
 
 pub image-refusal-spec : {M : Type 1} → statement M
 image-refusal-spec =
     tie.close
     (tie.spec
+    image-length-requires
     returns
     bad-version-requires
     returns-2
@@ -88,6 +139,8 @@ image-refusal-spec =
     returns-3
     bad-id-crc-requires
     returns-4
-    bad-count-requires
+    magic-refusal-requires
     returns-5
-    returns-6)
+    bad-count-requires
+    returns-6
+    returns-7)

@@ -1,5 +1,6 @@
 -- The causes in their order, each as its test found it. Assumes nothing.
 use Rattle.rom.proofs.Reached.{reached, stop, skip, end}
+use Rattle.rom.specs.Geometry.{leavesEnd}
 use Rattle.header.specs.Image.{reservedAt, blocksAt, leafHeaderCauses}
 use Rattle.header.proofs.Headers.{too-early, too-late, in-bounds}
 use native.Mathlib.Omega.{arith}
@@ -16,10 +17,11 @@ reserved-at-requires c κs = search needs
 returns : tie.Need-returns
 unfolding leafHeaderCauses
 returns c =
-    reached
-    (stop
-    (too-early (c .before .before .before .args .leaf) (reservedAt (c .before .before .before .args .image .now))
-    (c .before .before .before .args .row) (omega arith)))
+    let a = c .before .before .before .args in
+    reached (stop (too-early (leavesEnd (a .layout)) (a .leaf) (reservedAt (a .image .now)) (a .row) (omega arith)))
+
+leaves-end-requires : tie.Need-leaves-end-requires
+leaves-end-requires c κs = search needs
 
 header-length-requires : tie.Need-header-length-requires
 header-length-requires c κs = search needs
@@ -30,11 +32,8 @@ add-if2 c = search needs
 returns-2 : tie.Need-returns-2
 unfolding leafHeaderCauses blocksAt
 returns-2 c =
-    reached
-    (stop
-    (too-late (c .before .before .before .before .before .args .leaf)
-    (reservedAt (c .before .before .before .before .before .args .image .now)) (c .before .before .before .before .before .args .row)
-    (omega arith) (omega arith)))
+    let a = c .before .before .before .before .before .before .args in
+    reached (stop (too-late (leavesEnd (a .layout)) (a .leaf) (reservedAt (a .image .now)) (a .row) (omega arith) (omega arith)))
 
 word-at-requires : tie.Need-word-at-requires
 word-at-requires c κs = search needs
@@ -45,32 +44,20 @@ is-connection-requires c κs = search needs
 returns-3 : tie.Need-returns-3
 unfolding leafHeaderCauses blocksAt
 returns-3 c =
+    let a = c .before .before .before .before .before .before .before .before .before .args in
     reached
-    (skip
-    (in-bounds (c .before .before .before .before .before .before .before .before .args .leaf)
-    (reservedAt (c .before .before .before .before .before .before .before .before .args .image .now))
-    (c .before .before .before .before .before .before .before .before .args .row) (omega arith) (omega arith))
-    (stop
-    (ap not
-    (sym
-    (c .before .is-connection .ensures
-    ∙ ap (isConnection (c .before .before .before .before .before .before .before .before .args .row))
-    (c .before .before .word-at .ensures))) ∙ c .if3 .taken)))
+    (skip (in-bounds (leavesEnd (a .layout)) (a .leaf) (reservedAt (a .image .now)) (a .row) (omega arith) (omega arith))
+    (stop (ap not
+    (sym (c .before .is-connection .ensures ∙ ap (isConnection (a .row)) (c .before .before .word-at .ensures))) ∙ c .if3 .taken)))
 
 returns-4 : tie.Need-returns-4
 unfolding leafHeaderCauses blocksAt
 returns-4 c =
+    let a = c .before .before .before .before .before .before .before .before .before .args in
     reached
-    (skip
-    (in-bounds (c .before .before .before .before .before .before .before .before .args .leaf)
-    (reservedAt (c .before .before .before .before .before .before .before .before .args .image .now))
-    (c .before .before .before .before .before .before .before .before .args .row) (omega arith) (omega arith))
-    (skip
-    (ap not
-    (sym
-    (c .before .is-connection .ensures
-    ∙ ap (isConnection (c .before .before .before .before .before .before .before .before .args .row))
-    (c .before .before .word-at .ensures))) ∙ c .if3 .left) end))
+    (skip (in-bounds (leavesEnd (a .layout)) (a .leaf) (reservedAt (a .image .now)) (a .row) (omega arith) (omega arith))
+    (skip (ap not
+    (sym (c .before .is-connection .ensures ∙ ap (isConnection (a .row)) (c .before .before .word-at .ensures))) ∙ c .if3 .left) end))
 
 pub leaf-refusal-spec : {M : Type 1} → statement M
 leaf-refusal-spec =
@@ -78,6 +65,7 @@ leaf-refusal-spec =
     (tie.spec
     reserved-at-requires
     returns
+    leaves-end-requires
     header-length-requires
     add-if2
     returns-2

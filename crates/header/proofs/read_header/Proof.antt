@@ -16,7 +16,8 @@ refused-requires : tie.Need-refused-requires
 refused-requires c κs = search needs
 
 returns : tie.Need-returns
-returns c = let a = c .before .before .before .before .args in
+returns c =
+    let a = c .before .before .before .before .before .args in
     c .refused .ensures ∙ by-image (a .image .now) (a .arguments) _ (c .before .if1 .taken) (c .before .before .image-refusal .ensures)
 
 argument-refusal-requires : tie.Need-argument-refusal-requires
@@ -26,10 +27,13 @@ refused-requires-2 : tie.Need-refused-requires-2
 refused-requires-2 c κs = search needs
 
 returns-2 : tie.Need-returns-2
-returns-2 c = let a = c .before .before .before .before .before .before .args in
+returns-2 c =
+    let image-refusal = c .before .before .before .before in
+    let start = image-refusal .before .before .before in
+    let a = start .args in
     c .refused2 .ensures
-    ∙ by-arguments (a .image .now) (a .arguments)
-    (sym (c .before .before .before .if1 .left) ∙ c .before .before .before .before .image-refusal .ensures) _ (c .before .if2 .taken)
+    ∙ by-arguments (a .image .now) (a .arguments) (sym (c .before .before .before .if1 .left) ∙ image-refusal .image-refusal .ensures) _
+    (c .before .if2 .taken)
     (c .before .before .argument-refusal .ensures)
 
 row-of-requires : tie.Need-row-of-requires
@@ -38,14 +42,14 @@ row-of-requires c κs = search needs
 cast-controller : tie.Need-cast-controller
 cast-controller c = search needs
 
-mul-t11 : tie.Need-mul-t11
-mul-t11 c = search needs
-
-add-t12 : tie.Need-add-t12
-add-t12 c = search needs
+mul-t12 : tie.Need-mul-t12
+mul-t12 c = search needs
 
 add-t13 : tie.Need-add-t13
 add-t13 c = search needs
+
+add-t14 : tie.Need-add-t14
+add-t14 c = search needs
 
 word-at-requires : tie.Need-word-at-requires
 word-at-requires c κs = search needs
@@ -61,34 +65,40 @@ refused-requires-3 c κs = search needs
 
 returns-3 : tie.Need-returns-3
 unfolding leafAt
-returns-3 c = let a = c .before .before .before .before .before .before .before .before .before .before .before .args in
+returns-3 c =
+    let word-at = c .before .before .before in
+    let row-of = word-at .before .before in
+    let argument-refusal = row-of .before .before in
+    let image-refusal = argument-refusal .before .before in
+    let start = image-refusal .before .before .before in
+    let a = start .args in
     c .refused3 .ensures
-    ∙ by-leaf (a .image .now) (a .arguments)
-    (sym (c .before .before .before .before .before .before .before .before .if1 .left)
-    ∙ c .before .before .before .before .before .before .before .before .before .image-refusal .ensures)
-    (sym (c .before .before .before .before .before .before .if2 .left)
-    ∙ c .before .before .before .before .before .before .before .argument-refusal .ensures) _ (c .before .if3 .taken)
+    ∙ by-leaf (a .image .now) (a .arguments) (sym (argument-refusal .before .if1 .left) ∙ image-refusal .image-refusal .ensures)
+    (sym (row-of .before .if2 .left) ∙ argument-refusal .argument-refusal .ensures) _ (c .before .if3 .taken)
     (c .before .before .leaf-refusal .ensures
-    ∙ ap₂ (λ (r l : ℕ). firstMet (leafHeaderCauses (a .image .now) r l)) (c .before .before .before .before .before .row-of .ensures)
-    (c .before .before .before .word-at .ensures))
+    ∙ ap₂ (λ (r l : ℕ). firstMet (leafHeaderCauses (a .arguments .layout) (a .image .now) r l)) (row-of .row-of .ensures)
+    (word-at .word-at .ensures))
 
 header-at-requires : tie.Need-header-at-requires
 unfolding leafAt
-header-at-requires c κs = (c .before .before .before .before .row-of .ensures, c .before .before .word-at .ensures, omega arith)
+header-at-requires c κs =
+    (c .before .before .before .before .row-of .ensures, c .before .before .word-at .ensures, omega arith)
 
 returns-4 : tie.Need-returns-4
 unfolding leafAt
-returns-4 c = let a = c .before .before .before .before .before .before .before .before .before .before .before .args in
+returns-4 c =
+    let word-at = c .before .before .before in
+    let row-of = word-at .before .before in
+    let argument-refusal = row-of .before .before in
+    let image-refusal = argument-refusal .before .before in
+    let start = image-refusal .before .before .before in
+    let a = start .args in
     c .header-at .ensures
-    ∙ header-found (a .image .now) (a .arguments)
-    (sym (c .before .before .before .before .before .before .before .before .if1 .left)
-    ∙ c .before .before .before .before .before .before .before .before .before .image-refusal .ensures)
-    (sym (c .before .before .before .before .before .before .if2 .left)
-    ∙ c .before .before .before .before .before .before .before .argument-refusal .ensures)
-    (sym (c .before .if3 .left)
-    ∙ (c .before .before .leaf-refusal .ensures
-    ∙ ap₂ (λ (r l : ℕ). firstMet (leafHeaderCauses (a .image .now) r l)) (c .before .before .before .before .before .row-of .ensures)
-    (c .before .before .before .word-at .ensures)))
+    ∙ header-found (a .image .now) (a .arguments) (sym (argument-refusal .before .if1 .left) ∙ image-refusal .image-refusal .ensures)
+    (sym (row-of .before .if2 .left) ∙ argument-refusal .argument-refusal .ensures)
+    (sym (c .before .if3 .left) ∙ (c .before .before .leaf-refusal .ensures
+    ∙ ap₂ (λ (r l : ℕ). firstMet (leafHeaderCauses (a .arguments .layout) (a .image .now) r l)) (row-of .row-of .ensures)
+    (word-at .word-at .ensures)))
 
 pub read-header-spec : {M : Type 1} → statement M
 read-header-spec =
@@ -102,9 +112,9 @@ read-header-spec =
     returns-2
     row-of-requires
     cast-controller
-    mul-t11
-    add-t12
+    mul-t12
     add-t13
+    add-t14
     word-at-requires
     cast-leaf
     leaf-refusal-requires

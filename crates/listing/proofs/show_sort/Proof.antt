@@ -19,6 +19,9 @@ block-place-requires c κs = search needs
 block-at-requires : tie.Need-block-at-requires Inv-loop μ-loop
 block-at-requires c κs = search needs
 
+block-bytes-requires : tie.Need-block-bytes-requires Inv-loop μ-loop
+block-bytes-requires c κs = search needs
+
 show-if-requires : tie.Need-show-if-requires Inv-loop μ-loop
 show-if-requires c κs = search needs
 
@@ -43,6 +46,7 @@ show-sort-spec =
     loop-holds
     block-place-requires
     block-at-requires
+    block-bytes-requires
     show-if-requires
     add-k
     loop-less

@@ -1,4 +1,6 @@
 -- One condition after another. Assumes nothing.
+use mathlib.Core.Path.{ap, _∙_}
+use Rattle.rom.specs.Bytes.{allZero}
 use Rattle.maker.proofs.Making.{tidy-count, tidy-leaf, tidy-zeros}
 use borrow.Author.Needs.{needs}
 use Rattle.maker.proofs.is_tidy.Statement.{statement}
@@ -8,7 +10,7 @@ byte-at-requires : tie.Need-byte-at-requires
 byte-at-requires c κs = search needs
 
 returns : tie.Need-returns
-returns c = tidy-count _ _ (c .before .byte-at .ensures) (c .if1 .taken)
+returns c = tidy-count _ _ _ (c .before .byte-at .ensures) (c .if1 .taken)
 
 word-at-requires : tie.Need-word-at-requires
 word-at-requires c κs = search needs
@@ -18,24 +20,20 @@ cast-if2 c = search needs
 
 returns-2 : tie.Need-returns-2
 returns-2 c =
-    tidy-leaf _ _ (c .before .before .before .byte-at .ensures) (c .before .before .if1 .left) (c .before .word-at .ensures) (c .if2 .taken)
+    tidy-leaf _ _ _ (c .before .before .before .byte-at .ensures) (c .before .before .if1 .left) (c .before .word-at .ensures)
+    (c .if2 .taken)
 
-sub-all-zero : tie.Need-sub-all-zero
-sub-all-zero c = search needs
-
-part-all-zero-start : tie.Need-part-all-zero-start
-part-all-zero-start c = search needs
-
-part-all-zero-end : tie.Need-part-all-zero-end
-part-all-zero-end c = search needs
+rest-from-requires : tie.Need-rest-from-requires
+rest-from-requires c κs = search needs
 
 all-zero-requires : tie.Need-all-zero-requires
 all-zero-requires c κs = search needs
 
 returns-3 : tie.Need-returns-3
 returns-3 c =
-    tidy-zeros _ _ (c .before .before .before .before .before .byte-at .ensures) (c .before .before .before .before .if1 .left)
-    (c .before .before .before .word-at .ensures) (c .before .before .if2 .left) (c .all-zero .ensures)
+    tidy-zeros _ _ _ (c .before .before .before .before .before .byte-at .ensures) (c .before .before .before .before .if1 .left)
+    (c .before .before .before .word-at .ensures) (c .before .before .if2 .left)
+    (c .all-zero .ensures ∙ ap allZero (c .before .rest-from .ensures))
 
 pub is-tidy-spec : {M : Type 1} → statement M
 is-tidy-spec =
@@ -46,8 +44,6 @@ is-tidy-spec =
     word-at-requires
     cast-if2
     returns-2
-    sub-all-zero
-    part-all-zero-start
-    part-all-zero-end
+    rest-from-requires
     all-zero-requires
     returns-3)

@@ -2,9 +2,8 @@
 use native.Mathlib.Omega.{arith}
 use mathlib.Core.Path.{refl}
 use borrow.Author.Tests.{not-true, not-false}
-use Rattle.reader.proofs.Readings.{reading-start, reading-end}
 use Rattle.sheet.specs.Image.{newest}
-use Rattle.maker.proofs.Making.{refused-done, make-refused, is-read, blocks-read, end-fits, make-untidy, make-short, make-room}
+use Rattle.maker.proofs.Making.{refused-done, make-refused, blocks-read, end-fits, make-untidy, make-short, make-room}
 use Rattle.maker.proofs.Making.{make-done}
 use borrow.Author.Needs.{needs}
 use Rattle.maker.proofs.make.Statement.{statement}
@@ -19,43 +18,40 @@ refused-requires c κs = search needs
 returns : tie.Need-returns
 unfolding newest
 returns c =
-    refused-done _ _ _ (c .refused .ensures) (c .before .if1 .taken)
-    (make-refused _ _ _ (c .before .before .before .before .assess .ensures) _ (c .before .if1 .taken))
+    refused-done _ _ _ _ (c .refused .ensures) (c .before .if1 .taken)
+    (make-refused _ _ _ _ (c .before .before .before .before .assess .ensures) _ (c .before .if1 .taken))
 
-sub-measure : tie.Need-sub-measure
-unfolding newest
-sub-measure c = reading-start (is-read _ _ _ (c .before .before .before .assess .ensures) (c .if1 .left))
-
-part-measure-start : tie.Need-part-measure-start
-unfolding newest
-part-measure-start c = sub-measure c
-
-part-measure-end : tie.Need-part-measure-end
-unfolding newest
-part-measure-end c = reading-end (is-read _ _ _ (c .before .before .before .assess .ensures) (c .if1 .left))
+rest-from-requires : tie.Need-rest-from-requires
+rest-from-requires c κs = search needs
 
 measure-requires : tie.Need-measure-requires
 unfolding newest
-measure-requires c κs = blocks-read _ _ _ (c .before .before .before .before .assess .ensures) (c .before .if1 .left)
+measure-requires c κs =
+    blocks-read _ _ _ _ (c .before .before .before .before .assess .ensures) (c .before .if1 .left) _ (c .rest-from .ensures)
 
 add-is-tidy : tie.Need-add-is-tidy
-add-is-tidy c = search needs
+unfolding newest
+add-is-tidy c =
+    let assess = c .before .before .before .before .before .before in
+    let h = end-fits _ _ _ _ (assess .assess .ensures) (c .before .before .before .if1 .left) _ (c .before .before .rest-from .ensures) _
+    (c .before .measure .ensures .0) (c .before .measure .ensures .1 .0) in
+    omega arith
 
 is-tidy-requires : tie.Need-is-tidy-requires
-unfolding newest
-is-tidy-requires c κs =
-    end-fits _ _ _ (c .before .before .before .before .before .before .assess .ensures) (c .before .before .before .if1 .left) _
-    (c .before .measure .ensures .0) (c .before .measure .ensures .1 .0)
+is-tidy-requires c κs = search needs
 
 refused-requires-2 : tie.Need-refused-requires-2
 refused-requires-2 c κs = search needs
 
 returns-2 : tie.Need-returns-2
 unfolding newest
-returns-2 c = let r = c .before .before .before .before .before .before .before .before .before .assess in
-    let m = c .before .before .before .before .measure in
-    refused-done _ _ _ (c .refused2 .ensures) (λ e. omega arith)
-    (make-untidy _ _ _ (r .ensures) (c .before .before .before .before .before .before .if1 .left) _ (m .ensures .0) _
+returns-2 c =
+    let measure = c .before .before .before .before in
+    let rest-from = measure .before in
+    let assess = rest-from .before .before .before .before in
+    refused-done _ _ _ _ (c .refused2 .ensures) (λ e. omega arith)
+    (make-untidy _ _ _ _ (assess .assess .ensures) (rest-from .before .if1 .left) _ (rest-from .rest-from .ensures) _
+    (measure .measure .ensures .0) _
     (c .before .before .is-tidy .ensures) (not-true _ (c .before .if2 .taken)))
 
 cast-length : tie.Need-cast-length
@@ -75,24 +71,37 @@ refused-requires-3 c κs = search needs
 
 returns-3 : tie.Need-returns-3
 unfolding newest
-returns-3 c = let r = c .before .before .before .before .before .before .before .before .before .before .before .before .assess in
-    let m = c .before .before .before .before .before .before .before .measure in
-    refused-done _ _ _ (c .refused3 .ensures) (λ e. omega arith)
-    (make-short _ _ _ (r .ensures) (c .before .before .before .before .before .before .before .before .before .if1 .left) _
-    (m .ensures .0) _ (c .before .before .before .before .before .is-tidy .ensures)
-    (not-false _ (c .before .before .before .before .if2 .left)) (c .before .if3 .taken))
+returns-3 c =
+    let is-tidy = c .before .before .before .before .before in
+    let measure = is-tidy .before .before in
+    let rest-from = measure .before in
+    let assess = rest-from .before .before .before .before in
+    refused-done _ _ _ _ (c .refused3 .ensures) (λ e. omega arith)
+    (make-short _ _ _ _ (assess .assess .ensures) (rest-from .before .if1 .left) _ (rest-from .rest-from .ensures) _
+    (measure .measure .ensures .0) _
+    (is-tidy .is-tidy .ensures) (not-false _ (c .before .before .before .before .if2 .left)) (c .before .if3 .taken))
 
 cast-put-sheet : tie.Need-cast-put-sheet
-cast-put-sheet c = search needs
+unfolding newest
+cast-put-sheet c =
+    let measure = c .before .before .before .before .before .before .before .before in
+    let rest-from = measure .before in
+    let assess = rest-from .before .before .before .before in
+    let m = measure .measure in
+    let h = end-fits _ _ _ _ (assess .assess .ensures) (rest-from .before .if1 .left) _ (rest-from .rest-from .ensures) _
+    (measure .measure .ensures .0) (m .ensures .1 .0) in
+    omega (arith, m .ensures .1 .1)
 
 put-sheet-requires : tie.Need-put-sheet-requires
 unfolding newest
 put-sheet-requires c κs =
-    let r = c .before .before .before .before .before .before .before .before .before .before .before .before .before .assess in
-    let m = c .before .before .before .before .before .before .before .before .measure in
-    make-room _ _ _ (r .ensures) (c .before .before .before .before .before .before .before .before .before .before .if1 .left) _
-    (m .ensures .0) _ (c .before .before .before .before .before .before .is-tidy .ensures)
-    (not-false _ (c .before .before .before .before .before .if2 .left)) (c .before .before .if3 .left) _ refl
+    let is-tidy = c .before .before .before .before .before .before in
+    let measure = is-tidy .before .before in
+    let rest-from = measure .before in
+    let assess = rest-from .before .before .before .before in
+    make-room _ _ _ _ (assess .assess .ensures) (rest-from .before .if1 .left) _ (rest-from .rest-from .ensures) _
+    (measure .measure .ensures .0) _
+    (is-tidy .is-tidy .ensures) (not-false _ (c .before .before .before .before .before .if2 .left)) (c .before .before .if3 .left) _ refl
 
 same-length : tie.Need-same-length
 same-length c = search needs
@@ -100,12 +109,15 @@ same-length c = search needs
 returns-4 : tie.Need-returns-4
 unfolding newest
 returns-4 c =
-    let long = c .before .before .before .before .before in
-    let tidy = long .before .before .before in
-    let measured = tidy .before .before .before in
-    let accepted = measured .before .before in
-    make-done _ _ _ (accepted .before .before .before .assess .ensures) (accepted .if1 .left) _ (measured .measure .ensures .0) _
-    (tidy .before .is-tidy .ensures) (not-false _ (tidy .if2 .left)) (long .if3 .left) _ refl (c .before .before .put-sheet .ensures)
+    let is-tidy = c .before .before .before .before .before .before .before .before .before in
+    let measure = is-tidy .before .before in
+    let rest-from = measure .before in
+    let assess = rest-from .before .before .before .before in
+    make-done _ _ _ _ (assess .assess .ensures) (rest-from .before .if1 .left) _ (rest-from .rest-from .ensures) _
+    (measure .measure .ensures .0) _
+    (is-tidy .is-tidy .ensures) (not-false _ (c .before .before .before .before .before .before .before .before .if2 .left))
+    (c .before .before .before .before .before .if3 .left) _ refl
+    (c .before .before .put-sheet .ensures)
 
 pub make-spec : {M : Type 1} → statement M
 make-spec =
@@ -114,9 +126,7 @@ make-spec =
     assess-requires
     refused-requires
     returns
-    sub-measure
-    part-measure-start
-    part-measure-end
+    rest-from-requires
     measure-requires
     add-is-tidy
     is-tidy-requires

@@ -51,13 +51,12 @@ same-length c = search needs
 
 returns : tie.Need-returns
 returns c =
-    let address = c .before .before in
-    let last = address .before .before .before .before .before in
-    let id = last .before .before .before .before .before in
-    let counts = id .before .before .before .before .before in
-    let start = counts .before .before .before .before .before in
-    front-put _ (start .pre .0) _ (start .pre .1) _ _ (counts .put-bytes .ensures) (id .put-bytes2 .ensures) (last .put-bytes3 .ensures)
-    (address .put-bytes4 .ensures)
+    let put-bytes = c .before .before .before .before .before .before .before in
+    let put-bytes′ = put-bytes .before .before .before .before .before in
+    let put-bytes′′ = put-bytes′ .before .before .before .before .before in
+    let start = put-bytes′′ .before .before .before .before .before in
+    front-put _ (start .pre .0) _ (start .pre .1) _ _ (put-bytes′′ .put-bytes .ensures) (put-bytes′ .put-bytes2 .ensures)
+    (put-bytes .put-bytes3 .ensures) (c .before .before .put-bytes4 .ensures)
 
 pub put-front-spec : {M : Type 1} → statement M
 put-front-spec =

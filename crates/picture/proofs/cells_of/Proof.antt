@@ -4,10 +4,10 @@ use Rattle.picture.proofs.cells_of.Statement.{statement}
 use Rattle.picture.proofs.cells_of.Tie as tie
 
 abbrev Inv-loop : tie.InvT-loop
-Inv-loop image chip level count cells₀ left₀ cells left = Unit
+Inv-loop image arguments count cells₀ left₀ cells left = Unit
 
 abbrev μ-loop : tie.MeasureT-loop
-μ-loop image chip level count cells₀ left₀ cells left = left
+μ-loop image arguments count cells₀ left₀ cells left = left
 
 byte-at-requires : tie.Need-byte-at-requires Inv-loop μ-loop
 byte-at-requires c κs = search needs
@@ -18,6 +18,12 @@ none-requires c κs = search needs
 framed-requires : tie.Need-framed-requires Inv-loop μ-loop
 framed-requires c κs = search needs
 
+with-magic-requires : tie.Need-with-magic-requires Inv-loop μ-loop
+with-magic-requires c κs = search needs
+
+most-controllers-requires : tie.Need-most-controllers-requires Inv-loop μ-loop
+most-controllers-requires c κs = search needs
+
 returns : tie.Need-returns Inv-loop μ-loop
 returns c = search needs
 
@@ -26,6 +32,9 @@ loop-holds c = search needs
 
 sub-left : tie.Need-sub-left Inv-loop μ-loop
 sub-left c = search needs
+
+for-controller-requires : tie.Need-for-controller-requires Inv-loop μ-loop
+for-controller-requires c κs = search needs
 
 with-controller-requires : tie.Need-with-controller-requires Inv-loop μ-loop
 with-controller-requires c κs = search needs
@@ -60,9 +69,12 @@ cells-of-spec =
     byte-at-requires
     none-requires
     framed-requires
+    with-magic-requires
+    most-controllers-requires
     returns
     loop-holds
     sub-left
+    for-controller-requires
     with-controller-requires
     loop-less
     loop-again

@@ -1,6 +1,5 @@
 -- The first refusal of the header, of the room or of the leaf, or the answer. Assumes nothing.
 use mathlib.Core.Path.{_∙_}
-use Rattle.header.proofs.Headers.{read-start, read-end}
 use Rattle.reader.proofs.Readings.{assess-header, assess-kinds, assess-offsets, assess-leaf, assess-done}
 use borrow.Author.Needs.{needs}
 use Rattle.reader.proofs.assess_for.Statement.{statement}
@@ -13,10 +12,11 @@ refused-requires : tie.Need-refused-requires
 refused-requires c κs = search needs
 
 returns : tie.Need-returns
-returns c = let a = c .before .before .before .before .args in
+returns c =
+    let a = c .before .before .before .before .args in
     let h = c .before .before .read-header in
-    c .refused .ensures
-    ∙ assess-header (a .image .now) (a .arguments) (a .kinds) (a .offsets) (h .result) (h .ensures) (c .before .if1 .taken)
+    c .refused .ensures ∙ assess-header (a .image .now) (a .arguments) (a .kinds) (a .offsets) (h .result) (h .ensures)
+    (c .before .if1 .taken)
 
 cast-if2 : tie.Need-cast-if2
 cast-if2 c = search needs
@@ -25,11 +25,13 @@ refused-requires-2 : tie.Need-refused-requires-2
 refused-requires-2 c κs = search needs
 
 returns-2 : tie.Need-returns-2
-returns-2 c = let a = c .before .before .before .before .before .args in
-    let h = c .before .before .before .read-header in
-    c .refused2 .ensures
-    ∙ assess-kinds (a .image .now) (a .arguments) (a .kinds) (a .offsets) (h .result) (h .ensures) (c .before .before .if1 .left)
-    (c .before .if2 .taken)
+returns-2 c =
+    let read-header = c .before .before .before in
+    let start = read-header .before .before in
+    let a = start .args in
+    let h = read-header .read-header in
+    c .refused2 .ensures ∙ assess-kinds (a .image .now) (a .arguments) (a .kinds) (a .offsets) (h .result) (h .ensures)
+    (c .before .before .if1 .left) (c .before .if2 .taken)
 
 cast-if3 : tie.Need-cast-if3
 cast-if3 c = search needs
@@ -38,26 +40,18 @@ refused-requires-3 : tie.Need-refused-requires-3
 refused-requires-3 c κs = search needs
 
 returns-3 : tie.Need-returns-3
-returns-3 c = let a = c .before .before .before .before .before .before .args in
-    let h = c .before .before .before .before .read-header in
+returns-3 c =
+    let read-header = c .before .before .before .before in
+    let start = read-header .before .before in
+    let a = start .args in
+    let h = read-header .read-header in
     c .refused3 .ensures
     ∙ assess-offsets (a .image .now) (a .arguments) (a .kinds) (a .offsets) (h .result) (h .ensures)
-    (c .before .before .before .if1 .left) (c .before .before .if2 .left) (c .before .if3 .taken)
+    (c .before .before .before .if1 .left) (c .before .before .if2 .left)
+    (c .before .if3 .taken)
 
-sub-judge : tie.Need-sub-judge
-sub-judge c = let a = c .before .before .before .before .before .args in
-    let h = c .before .before .before .read-header in
-    read-start (a .image .now) (a .arguments) (h .result) (h .ensures) (c .before .before .if1 .left)
-
-part-judge-start : tie.Need-part-judge-start
-part-judge-start c = let a = c .before .before .before .before .before .args in
-    let h = c .before .before .before .read-header in
-    read-start (a .image .now) (a .arguments) (h .result) (h .ensures) (c .before .before .if1 .left)
-
-part-judge-end : tie.Need-part-judge-end
-part-judge-end c = let a = c .before .before .before .before .before .args in
-    let h = c .before .before .before .read-header in
-    read-end (a .image .now) (a .arguments) (h .result) (h .ensures) (c .before .before .if1 .left)
+rest-from-requires : tie.Need-rest-from-requires
+rest-from-requires c κs = search needs
 
 judge-requires : tie.Need-judge-requires
 judge-requires c κs = search needs
@@ -66,23 +60,31 @@ refused-requires-4 : tie.Need-refused-requires-4
 refused-requires-4 c κs = search needs
 
 returns-4 : tie.Need-returns-4
-returns-4 c = let a = c .before .before .before .before .before .before .before .before .before .args in
-    let h = c .before .before .before .before .before .before .before .read-header in
+returns-4 c =
+    let rest-from = c .before .before .before in
+    let read-header = rest-from .before .before .before .before in
+    let start = read-header .before .before in
+    let a = start .args in
+    let h = read-header .read-header in
     c .refused4 .ensures
     ∙ assess-leaf (a .image .now) (a .arguments) (a .kinds) (a .offsets) (h .result) (h .ensures)
-    (c .before .before .before .before .before .before .if1 .left) (c .before .before .before .before .before .if2 .left)
-    (c .before .before .before .before .if3 .left) (c .before .before .judge .result) (c .before .before .judge .ensures)
+    (rest-from .before .before .before .if1 .left) (rest-from .before .before .if2 .left)
+    (rest-from .before .if3 .left) _ (rest-from .rest-from .ensures) (c .before .before .judge .result) (c .before .before .judge .ensures)
     (c .before .if4 .taken)
 
 answer-of-requires : tie.Need-answer-of-requires
 answer-of-requires c κs = search needs
 
 returns-5 : tie.Need-returns-5
-returns-5 c = let a = c .before .before .before .before .before .before .before .before .before .args in
-    let h = c .before .before .before .before .before .before .before .read-header in
+returns-5 c =
+    let rest-from = c .before .before .before in
+    let read-header = rest-from .before .before .before .before in
+    let start = read-header .before .before in
+    let a = start .args in
+    let h = read-header .read-header in
     assess-done (a .image .now) (a .arguments) (a .kinds) (a .offsets) (h .result) (h .ensures)
-    (c .before .before .before .before .before .before .if1 .left) (c .before .before .before .before .before .if2 .left)
-    (c .before .before .before .before .if3 .left) (c .before .before .judge .result) (c .before .before .judge .ensures)
+    (rest-from .before .before .before .if1 .left) (rest-from .before .before .if2 .left)
+    (rest-from .before .if3 .left) _ (rest-from .rest-from .ensures) (c .before .before .judge .result) (c .before .before .judge .ensures)
     (c .before .if4 .left) (c .answer-of .result) (c .answer-of .ensures)
 
 pub assess-for-spec : {M : Type 1} → statement M
@@ -98,9 +100,7 @@ assess-for-spec =
     cast-if3
     refused-requires-3
     returns-3
-    sub-judge
-    part-judge-start
-    part-judge-end
+    rest-from-requires
     judge-requires
     refused-requires-4
     returns-4

@@ -1,12 +1,11 @@
 -- The reading is assessed before anything is written; accepted, it has room for its table. Assumes nothing.
 use Prim.Native.Nat.{ℕ}
 use lib.ListN.{length}
-use denote.Ref.{now}
 use Rattle.header.specs.Header.{rowFor}
 use Rattle.leaf.specs.Leaf.{kindAt, startAt}
 use Rattle.reader.specs.Reading.{readKinds, readOffsets}
-use Rattle.reader.proofs.Readings.{answer-read, unchanged, accepted-read, reading-start, reading-end, reading-blocks, reading-listed}
-use Rattle.reader.proofs.Readings.{reading-short, room-kinds, room-offsets, filled-in}
+use Rattle.reader.proofs.Readings.{answer-read, unchanged, accepted-read, reading-blocks, reading-listed, reading-short}
+use Rattle.reader.proofs.Readings.{room-kinds, room-offsets, filled-in}
 use mathlib.Core.Path.{_∙_}
 use borrow.Author.Needs.{needs}
 use Rattle.reader.proofs.read.Statement.{statement}
@@ -17,7 +16,8 @@ assess-for-requires c κs = search needs
 
 returns : tie.Need-returns
 unfolding readKinds readOffsets
-returns c = let a = c .before .before .before .before .before .before .before .args in
+returns c =
+    let a = c .before .before .before .before .before .before .before .args in
     let r = c .before .before .before .assess-for in (
       answer-read (a .image .now) (a .arguments) (length (a .kinds .now)) (length (a .offsets .now)) (r .result) (r .ensures),
       (
@@ -28,35 +28,19 @@ returns c = let a = c .before .before .before .before .before .before .before .a
       ),
     )
 
-sub-fill : tie.Need-sub-fill
-sub-fill c = let a = c .before .before .before .before .before .before .before .args in
-    let r = c .before .before .before .assess-for in
-    reading-start
-    (accepted-read (a .image .now) (a .arguments) (length (a .kinds .now)) (length (a .offsets .now)) (r .result) (r .ensures)
-    (c .if1 .left))
-
-part-fill-start : tie.Need-part-fill-start
-part-fill-start c = let a = c .before .before .before .before .before .before .before .args in
-    let r = c .before .before .before .assess-for in
-    reading-start
-    (accepted-read (a .image .now) (a .arguments) (length (a .kinds .now)) (length (a .offsets .now)) (r .result) (r .ensures)
-    (c .if1 .left))
-
-part-fill-end : tie.Need-part-fill-end
-part-fill-end c = let a = c .before .before .before .before .before .before .before .args in
-    let r = c .before .before .before .assess-for in
-    reading-end
-    (accepted-read (a .image .now) (a .arguments) (length (a .kinds .now)) (length (a .offsets .now)) (r .result) (r .ensures)
-    (c .if1 .left))
+rest-from-requires : tie.Need-rest-from-requires
+rest-from-requires c κs = search needs
 
 cast-fill : tie.Need-cast-fill
 cast-fill c = search needs
 
 fill-requires : tie.Need-fill-requires
-fill-requires c κs = let a = c .before .before .before .before .before .before .before .before .before .before .before .args in
+fill-requires c κs =
+    let a = c .before .before .before .before .before .before .before .before .before .before .before .args in
     let r = c .before .before .before .before .before .before .before .assess-for in
     let z = c .before .before .before .before .if1 .left in
-    let k = accepted-read (a .image .now) (a .arguments) (length (a .kinds .now)) (length (a .offsets .now)) (r .result) (r .ensures) z in (
+    let k = accepted-read (a .image .now) (a .arguments) (length (a .kinds .now)) (length (a .offsets .now)) (r .result) (r .ensures) z in
+    rw (c .before .before .before .rest-from .ensures) (
       reading-blocks k,
       (
         reading-listed k,
@@ -83,14 +67,16 @@ returns-2 c =
     let a = read .before .before .before .before .args in
     let r = read .assess-for in
     let z = tested .if1 .left in
+    let rest = filled .before .before .before .before .rest-from .ensures in
     let e = filled .fill .ensures in (
       answer-read (a .image .now) (a .arguments) (length (a .kinds .now)) (length (a .offsets .now)) (r .result) (r .ensures),
       (
         e .0
-            ∙ filled-in (a .image .now) (a .arguments) (length (a .kinds .now)) (length (a .offsets .now)) (r .result) (r .ensures) z kindAt
+            ∙ filled-in (a .image .now) (a .arguments) (length (a .kinds .now)) (length (a .offsets .now)) (r .result) (r .ensures) z _
+            rest kindAt
             (a .kinds .now),
         e .1
-            ∙ filled-in (a .image .now) (a .arguments) (length (a .kinds .now)) (length (a .offsets .now)) (r .result) (r .ensures) z
+            ∙ filled-in (a .image .now) (a .arguments) (length (a .kinds .now)) (length (a .offsets .now)) (r .result) (r .ensures) z _ rest
             (λ (row : ℕ). startAt) (a .offsets .now),
       ),
     )
@@ -101,9 +87,7 @@ read-spec =
     (tie.spec
     assess-for-requires
     returns
-    sub-fill
-    part-fill-start
-    part-fill-end
+    rest-from-requires
     cast-fill
     fill-requires
     same-length

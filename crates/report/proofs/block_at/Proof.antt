@@ -1,17 +1,14 @@
 -- The block is judged from the rest that the definition names. Assumes nothing.
-use borrow.Author.Needs.{needs}
 use Rattle.report.specs.Blocks.{blockFrom}
+use borrow.Author.Needs.{needs}
 use Rattle.report.proofs.block_at.Statement.{statement}
 use Rattle.report.proofs.block_at.Tie as tie
 
 row-of-requires : tie.Need-row-of-requires
 row-of-requires c κs = search needs
 
-part-requires : tie.Need-part-requires
-part-requires c κs = search needs
-
-from-requires : tie.Need-from-requires
-from-requires c κs = search needs
+rest-from-requires : tie.Need-rest-from-requires
+rest-from-requires c κs = search needs
 
 judge-block-requires : tie.Need-judge-block-requires
 judge-block-requires c κs = search needs
@@ -22,4 +19,4 @@ returns c = cc
 
 pub block-at-spec : {M : Type 1} → statement M
 block-at-spec =
-    tie.close (tie.spec row-of-requires part-requires from-requires judge-block-requires returns)
+    tie.close (tie.spec row-of-requires rest-from-requires judge-block-requires returns)

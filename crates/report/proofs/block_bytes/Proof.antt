@@ -1,24 +1,25 @@
--- A part of the part that leaves may have. Assumes nothing.
-use borrow.Author.Needs.{needs}
+-- The front of the leaf's rest from the block on. Assumes nothing.
 use Rattle.report.specs.Blocks.{bytesAt}
+use borrow.Author.Needs.{needs}
 use Rattle.report.proofs.block_bytes.Statement.{statement}
 use Rattle.report.proofs.block_bytes.Tie as tie
 
-part-requires : tie.Need-part-requires
-part-requires c κs = search needs
+cast-rest-from : tie.Need-cast-rest-from
+cast-rest-from c = search needs
+
+rest-from-requires : tie.Need-rest-from-requires
+rest-from-requires c κs = search needs
 
 cast-part : tie.Need-cast-part
 cast-part c = search needs
 
-cast-part-2 : tie.Need-cast-part-2
-cast-part-2 c = search needs
-
-part-requires-2 : tie.Need-part-requires-2
-part-requires-2 c κs = search needs
+part-requires : tie.Need-part-requires
+part-requires c κs = search needs
 
 returns : tie.Need-returns
 unfolding bytesAt
 returns c = cc
 
 pub block-bytes-spec : {M : Type 1} → statement M
-block-bytes-spec = tie.close (tie.spec part-requires cast-part cast-part-2 part-requires-2 returns)
+block-bytes-spec =
+    tie.close (tie.spec cast-rest-from rest-from-requires cast-part part-requires returns)

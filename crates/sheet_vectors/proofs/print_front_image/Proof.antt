@@ -11,7 +11,7 @@ returns c = search needs
 
 slice-aggregate-print-image : tie.Need-slice-aggregate-print-image
 slice-aggregate-print-image c =
-    let s = c .before .before .before in sym (length-take-le (s .args .length) (s .args .room .now) (omega arith))
+    let s = c .before .before .before .before in sym (length-take-le (s .args .length) (s .args .room .now) (omega arith))
 
 print-image-requires : tie.Need-print-image-requires
 print-image-requires c κs = search needs

@@ -13,7 +13,7 @@ use Rattle.survey.proofs.find.Tie as tie
 
 abbrev Inv-loop : tie.InvT-loop
 Inv-loop blocks start row number rest₀ at₀ k₀ rest at k =
-    (placeFrom row at (number - k) rest ≡ placeFrom row start number blocks) × (k ≤ number) × (at ≤ 124 + 128 * k)
+    (placeFrom row at (number - k) rest ≡ placeFrom row start number blocks) × (k ≤ number) × (at ≤ 1024 + 128 * k)
 
 abbrev μ-loop : tie.MeasureT-loop
 μ-loop blocks start row number rest₀ at₀ k₀ rest at k = number - k

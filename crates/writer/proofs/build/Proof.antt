@@ -1,49 +1,53 @@
--- Frame, ID CRC, leaf and SROM CRC are the image. Assumes nothing.
+-- The board, and what the output has behind it. Assumes nothing.
 use native.Mathlib.Omega.{arith}
-use lib.ListN.{length-take, length-drop}
-use Rattle.writer.proofs.Sheets.{has-head}
+use Rattle.rom.proofs.Layouts.{geometry}
 use Rattle.writer.proofs.Images.{built-is}
 use borrow.Author.Needs.{needs}
 use Rattle.writer.proofs.build.Statement.{statement}
 use Rattle.writer.proofs.build.Tie as tie
 
-frame-requires : tie.Need-frame-requires
-frame-requires c κs = has-head _ (c .before .pre .is)
+board-requires : tie.Need-board-requires
+board-requires c κs = search needs
 
-identify-requires : tie.Need-identify-requires
-identify-requires c κs = search needs
+board-length-requires : tie.Need-board-length-requires
+board-length-requires c κs = search needs
 
-sub-put-leaf : tie.Need-sub-put-leaf
-sub-put-leaf c = search needs
+slice-aggregate-put-bytes : tie.Need-slice-aggregate-put-bytes
+slice-aggregate-put-bytes c = search needs
 
-part-image-start : tie.Need-part-image-start
-part-image-start c = search needs
+sub-put-bytes : tie.Need-sub-put-bytes
+sub-put-bytes c =
+    let start = c .before .before .before .before .before in
+    let g = geometry (start .args .layout) in omega (arith, start .pre .1)
 
-part-image-end : tie.Need-part-image-end
-part-image-end c = search needs
+part-put-bytes-start : tie.Need-part-put-bytes-start
+part-put-bytes-start c =
+    let start = c .before .before .before .before .before in
+    let g = geometry (start .args .layout) in omega (arith, start .pre .1)
 
-put-leaf-requires : tie.Need-put-leaf-requires
-put-leaf-requires c κs = (c .before .before .before .before .pre, simp (length-take, length-drop) (omega arith))
+part-put-bytes-end : tie.Need-part-put-bytes-end
+part-put-bytes-end c = search needs
 
-seal-requires : tie.Need-seal-requires
-seal-requires c κs = search needs
+put-bytes-requires : tie.Need-put-bytes-requires
+put-bytes-requires c κs = search needs
 
 returns : tie.Need-returns
 returns c =
-    let start = c .before .before .before .before .before .before .before in
-    let past = c .before .before .before .before in
-    built-is (start .args .sheet .now) (start .pre) _ _ _ _ (past .before .frame .ensures) (past .identify .ensures)
-    (c .before .before .put-leaf .ensures) (c .seal .ensures)
+    let board-length = c .before .before .before .before in
+    let board = board-length .before in
+    let start = board .before .before .before in
+    built-is (start .args .layout) (start .args .sheet .now) (start .pre .0) (start .args .output .now) _ _ _ (start .pre .1)
+    (board .board .ensures) (board-length .board-length .ensures) (c .before .put-bytes .ensures)
 
 pub build-spec : {M : Type 1} → statement M
 build-spec =
     tie.close
     (tie.spec
-    frame-requires
-    identify-requires
-    sub-put-leaf
-    part-image-start
-    part-image-end
-    put-leaf-requires
-    seal-requires
+    board-requires
+    board-length-requires
+    slice-aggregate-put-bytes
+    sub-put-bytes
+    part-put-bytes-start
+    part-put-bytes-end
+    put-bytes-requires
     returns)

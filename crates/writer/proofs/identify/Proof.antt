@@ -3,9 +3,13 @@ use native.Mathlib.Omega.{arith}
 use Prim.Native.Nat.{ℕ}
 use mathlib.Core.Path.{ap}
 use lib.ListN.{set}
-use Rattle.crc.proofs.Identity.{idCrc-lt}
+use Rattle.rom.specs.Geometry.{withoutMagic}
+use Rattle.rom.proofs.Layouts.{image-length}
+use Rattle.crc.specs.Crc.{idCrc}
+use Rattle.crc.specs.Answer.{idAnswer}
+use Rattle.crc.proofs.Answers.{answered}
+use Rattle.crc.proofs.Eight.{crc8-lt}
 use Rattle.writer.specs.Inside.{withIdCrc}
-use Rattle.writer.proofs.Checksums.{id-value}
 use borrow.Author.Needs.{needs}
 use Rattle.writer.proofs.identify.Statement.{statement}
 use Rattle.writer.proofs.identify.Tie as tie
@@ -17,17 +21,23 @@ id-crc-requires : tie.Need-id-crc-requires
 id-crc-requires c κs = search needs
 
 cast-whole : tie.Need-cast-whole
+unfolding idAnswer idCrc
 cast-whole c =
-    let e = id-value (c .before .before .args .t1) _ (omega arith) (c .id-crc .ensures) in
-    let l = idCrc-lt (c .before .before .args .t1) in omega arith
+    let image = c .before .before .args .t1 in
+    let n = image-length withoutMagic in
+    let e = answered withoutMagic image (idCrc image) _ (omega arith) (c .id-crc .ensures) in
+    let l = crc8-lt 8 0 image in
+    omega arith
 
 array-write-whole : tie.Need-array-write-whole
 array-write-whole c = search needs
 
 returns : tie.Need-returns
-unfolding withIdCrc
+unfolding withIdCrc idAnswer
 returns c =
-    ap (λ (v : ℕ). set (c .before .before .args .t1) 16 v) (id-value (c .before .before .args .t1) _ (omega arith) (c .id-crc .ensures))
+    let image = c .before .before .args .t1 in
+    let n = image-length withoutMagic in
+    ap (λ (v : ℕ). set image 16 v) (answered withoutMagic image (idCrc image) _ (omega arith) (c .id-crc .ensures))
 
 pub identify-spec : {M : Type 1} → statement M
 identify-spec =

@@ -1,13 +1,14 @@
 -- 7, a stray control byte, and then the entries decide. Assumes nothing.
 use native.Mathlib.Omega.{arith}
-use Prim.Native.Nat.{_+_}
+use Prim.Native.Nat.{ℕ, _+_}
 use mathlib.Core.List.{List}
-use mathlib.Core.Path.{ap, _∙_}
+use mathlib.Core.Path.{ap, ap₂, _∙_}
 use Rattle.rom.specs.Refusal.{firstMet}
 use Rattle.format.specs.Chips.{rowOf}
 use Rattle.sheet.specs.Record.{Entry}
 use Rattle.sheet.specs.Sheet.{sheetFrom}
 use Rattle.sheet.specs.Write.{strayControl}
+use Rattle.sheet.specs.Image.{leafStart}
 use Rattle.writer.specs.Inside.{entryCauses}
 use Rattle.writer.proofs.Sheets.{has-head, cut-fits, cut-parts, cut-entries}
 use Rattle.writer.proofs.Numbers.{record-7, record-25, record-entries}
@@ -24,8 +25,9 @@ row-of-requires c κs = search needs
 returns : tie.Need-returns
 unfolding sheetFrom
 returns c =
-    record-7 (sheetFrom (c .before .before .before .before .args .sheet .now)) _
-    (c .before .row-of .ensures ∙ ap rowOf (c .before .before .word-at .ensures)) (c .if1 .taken)
+    let a = c .before .before .before .before .args in
+    record-7 (a .layout) (sheetFrom (a .sheet .now)) _ (c .before .row-of .ensures ∙ ap rowOf (c .before .before .word-at .ensures))
+    (c .if1 .taken)
 
 byte-at-requires : tie.Need-byte-at-requires
 byte-at-requires c κs = search needs
@@ -37,8 +39,8 @@ returns-2 : tie.Need-returns-2
 unfolding sheetFrom
 returns-2 c =
     let seen = c .before .before .before .before in
-    let start = seen .before .before .before in
-    record-25 (sheetFrom (start .args .sheet .now)) _ (seen .row-of .ensures ∙ ap rowOf (seen .before .word-at .ensures))
+    let a = seen .before .before .before .args in
+    record-25 (a .layout) (sheetFrom (a .sheet .now)) _ (seen .row-of .ensures ∙ ap rowOf (seen .before .word-at .ensures))
     (c .before .before .before .if1 .left) _ (c .before .stray-control .ensures
     ∙ ap (strayControl (seen .row-of .result)) (c .before .before .byte-at .ensures)) (c .if2 .taken)
 
@@ -63,61 +65,67 @@ header-length-requires c κs = search needs
 add-start : tie.Need-add-start
 add-start c = search needs
 
+leaves-end-requires : tie.Need-leaves-end-requires
+leaves-end-requires c κs = search needs
+
 sub-refusal-of : tie.Need-sub-refusal-of
-sub-refusal-of c = has-head _ (c .before .before .before .before .before .before .before .before .before .pre)
+sub-refusal-of c =
+    has-head _ (c .before .before .before .before .before .before .before .before .before .before .pre)
 
 part-refusal-of-start : tie.Need-part-refusal-of-start
-part-refusal-of-start c = has-head _ (c .before .before .before .before .before .before .before .before .before .pre)
+part-refusal-of-start c = sub-refusal-of c
 
 part-refusal-of-end : tie.Need-part-refusal-of-end
 part-refusal-of-end c = search needs
 
 sub-refusal-of-2 : tie.Need-sub-refusal-of-2
 sub-refusal-of-2 c =
-    let l = cut-fits _ (c .before .before .before .before .before .before .before .before .before .before .pre) _
-    (c .before .before .count-at .ensures .0) in omega arith
+    let count-at = c .before .before .before in
+    let start = count-at .before .before .before .before .before .before .before .before in
+    let l = cut-fits _ (start .pre) _ (count-at .count-at .ensures .0) in omega arith
 
 part-refusal-of-start-2 : tie.Need-part-refusal-of-start-2
-part-refusal-of-start-2 c =
-    let l = cut-fits _ (c .before .before .before .before .before .before .before .before .before .before .pre) _
-    (c .before .before .count-at .ensures .0) in omega arith
+part-refusal-of-start-2 c = sub-refusal-of-2 c
 
 part-refusal-of-end-2 : tie.Need-part-refusal-of-end-2
 part-refusal-of-end-2 c = search needs
 
 sub-refusal-of-3 : tie.Need-sub-refusal-of-3
 sub-refusal-of-3 c =
-    cut-fits _ (c .before .before .before .before .before .before .before .before .before .before .before .pre) _
-    (c .before .before .before .count-at .ensures .0)
+    let count-at = c .before .before .before .before in
+    let start = count-at .before .before .before .before .before .before .before .before in
+    cut-fits _ (start .pre) _ (count-at .count-at .ensures .0)
 
 part-refusal-of-start-3 : tie.Need-part-refusal-of-start-3
-part-refusal-of-start-3 c =
-    cut-fits _ (c .before .before .before .before .before .before .before .before .before .before .before .pre) _
-    (c .before .before .before .count-at .ensures .0)
+part-refusal-of-start-3 c = sub-refusal-of-3 c
 
 part-refusal-of-end-3 : tie.Need-part-refusal-of-end-3
 part-refusal-of-end-3 c = search needs
 
 refusal-of-requires : tie.Need-refusal-of-requires
-refusal-of-requires c κs = (
-  cut-parts _ (c .before .before .before .before .before .before .before .before .before .before .before .before .pre) _
-      (c .before .before .before .before .count-at .ensures .0),
-  (c .before .before .before .before .count-at .ensures .1, omega arith),
-)
+refusal-of-requires c κs =
+    let count-at = c .before .before .before .before .before in
+    let start = count-at .before .before .before .before .before .before .before .before in (
+      cut-parts _ (start .pre) _ (count-at .count-at .ensures .0),
+      (count-at .count-at .ensures .1, omega arith),
+    )
 
 returns-3 : tie.Need-returns-3
 unfolding sheetFrom
 returns-3 c =
-    let counted = c .before .before .before .before .before in
+    let counted = c .before .before .before .before .before .before in
     let seen = counted .before .before .before .before .before in
     let start = seen .before .before .before in
-    let head = c .before .before .before .before .header-length in
+    let a = start .args in
+    let head = c .before .before .before .before .before .header-length in
     let stray = counted .before .before .stray-control .ensures
     ∙ ap (strayControl (seen .row-of .result)) (counted .before .before .before .byte-at .ensures) in
     let entries = cut-entries _ (start .pre) _ (counted .count-at .ensures .0) in
-    record-entries (sheetFrom (start .args .sheet .now)) _ (seen .row-of .ensures ∙ ap rowOf (seen .before .word-at .ensures))
+    record-entries (a .layout) (sheetFrom (a .sheet .now)) _ (seen .row-of .ensures ∙ ap rowOf (seen .before .word-at .ensures))
     (counted .before .before .before .before .if1 .left) _ stray _ _ (counted .before .if2 .left) (head .ensures .0)
-    (c .refusal-of .ensures ∙ ap (λ (l : List Entry). firstMet (entryCauses (seen .row-of .result) (30 + head .result) l)) entries)
+    (c .refusal-of .ensures
+    ∙ ap₂ (λ (n : ℕ) (es : List Entry). firstMet (entryCauses n (seen .row-of .result) (leafStart + head .result) es))
+    (c .before .before .before .before .leaves-end .ensures) entries)
 
 pub record-refusal-spec : {M : Type 1} → statement M
 record-refusal-spec =
@@ -136,6 +144,7 @@ record-refusal-spec =
     add-bodies
     header-length-requires
     add-start
+    leaves-end-requires
     sub-refusal-of
     part-refusal-of-start
     part-refusal-of-end

@@ -1,16 +1,20 @@
 //! Writes 400 records, each an image and the arguments to read it with, and a piece that is too
 //! short to one file, and to another what reading each must answer: `image_vectors INPUT OUTPUT`.
 //!
-//! A record has 132 bytes: the chip (a word, low byte first), the controller, the level, the image.
+//! A record has 133 bytes: the chip (a word, low byte first), the controller, the level, the layout
+//! (1 with a Magic Packet block, 0 without), the image.
 
 use second::cases::cases;
-use second::images::{Card, DAMAGES, Image, Sample};
+use second::crc::IMAGE_LENGTH;
+use second::images::{DAMAGES, Image, Sample};
+use second::layout::{LAYOUTS, Layout};
 use second::random::Random;
 use second::reader::{Arguments, read_all, view};
 use std::{env, fs, io, process};
 
 const RECORD_COUNT: usize = 400;
-const RECORD_LENGTH: usize = 132;
+const ARGUMENTS_LENGTH: usize = 5;
+const RECORD_LENGTH: usize = ARGUMENTS_LENGTH + IMAGE_LENGTH;
 const SHORT_LENGTH: usize = 57;
 const DAMAGED_COUNT: usize = 10;
 const VALID_COUNT: usize = 160;
@@ -35,8 +39,11 @@ fn records() -> Vec<u8> {
     for case in cases() {
         records.push(record(case.arguments, &case.image));
     }
-    let oldest = Arguments::at_level(21041, 0);
-    records.push(record(oldest, &Card::longest(&mut random).image()));
+    for layout in LAYOUTS {
+        let mut sample = Sample::longest(&mut random, layout);
+        sample.arguments.level = 0;
+        records.push(record(sample.arguments, &sample.card.image()));
+    }
     for number in DAMAGES {
         for _ in 0..DAMAGED_COUNT {
             let sample = Sample::damaged(&mut random, number);
@@ -49,10 +56,8 @@ fn records() -> Vec<u8> {
         records.push(record(sample.arguments, &sample.card.image()));
     }
     while records.len() < RECORD_COUNT {
-        let mut sample = Sample::valid(&mut random);
-        sample.arguments.controller = 0;
-        let card = Card::wild(&mut random, sample.arguments.chip);
-        records.push(record(sample.arguments, &card.image()));
+        let sample = Sample::wild(&mut random);
+        records.push(record(sample.arguments, &sample.card.image()));
     }
     let short = records[0][..SHORT_LENGTH].to_vec();
     records.push(short);
@@ -61,18 +66,22 @@ fn records() -> Vec<u8> {
 
 fn record(arguments: Arguments, image: &Image) -> Vec<u8> {
     let [low, high] = arguments.chip.to_le_bytes();
-    let first = [low, high, arguments.controller, arguments.level];
+    let magic = arguments.layout.magic.into();
+    let first = [low, high, arguments.controller, arguments.level, magic];
     [first.as_slice(), image].concat()
 }
 
 /// The answer, its numbers up to the address in hex, and the table, each entry with its view's bytes
 /// in hex; or the refusal's number.
 fn line(record: &[u8]) -> String {
-    let (first, image) = record.split_at(4);
+    let (first, image) = record.split_at(ARGUMENTS_LENGTH);
     let arguments = Arguments {
         chip: u16::from_le_bytes([first[0], first[1]]),
         controller: first[2],
         level: first[3],
+        layout: Layout {
+            magic: first[4] == 1,
+        },
     };
     let (answer, entries) = read_all(image, arguments);
     if answer.number != 0 {
@@ -95,17 +104,23 @@ fn line(record: &[u8]) -> String {
 mod tests {
     use super::*;
 
-    /// "Why a call is refused": the records meet 1 to 18, but for 12, and acceptance.
+    /// "Why a call is refused": the records meet 1 to 18, but for 12, 29, 30 and acceptance in both
+    /// layouts.
     #[test]
     fn every_refusal() {
         let bytes = records();
         assert_eq!(bytes.len(), RECORD_COUNT * RECORD_LENGTH + SHORT_LENGTH);
         let lines: Vec<_> = bytes.chunks(RECORD_LENGTH).map(line).collect();
-        for number in (1..=18).filter(|&number| number != 12) {
+        for number in (1..=18).filter(|&number| number != 12).chain([29, 30]) {
             assert!(lines.contains(&format!("refused {number}\n")), "{number}");
         }
-        let accepted = lines.iter().filter(|line| line.starts_with("accepted"));
-        assert!(accepted.count() > VALID_COUNT);
+        for magic in [0, 1] {
+            let records = bytes.chunks(RECORD_LENGTH).zip(&lines);
+            let accepted =
+                records.filter(|(record, line)| record[4] == magic && line.starts_with("accepted"));
+            let often = accepted.count();
+            assert!(often > VALID_COUNT / 3, "{magic}: {often}");
+        }
         assert_eq!(lines.last().map(String::as_str), Some("refused 1\n"));
     }
 

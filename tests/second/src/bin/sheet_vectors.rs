@@ -1,17 +1,28 @@
-//! Writes 300 records, each a sheet, to one file, and to another the image that each must give and
-//! the sheet made of it again: `sheet_vectors INPUT OUTPUT`.
+//! Writes 400 records, each a sheet with the layout and the output to write it to, to one file, and
+//! to another the image that each must give and the sheet made of it again:
+//! `sheet_vectors INPUT OUTPUT`.
 //!
-//! A record has the sheet's length (a word, low byte first) and the sheet.
+//! A record has the sheet's length (a word, low byte first), the layout (1 with a Magic Packet block,
+//! 0 without), the 32 bytes that the output holds from byte 96 on, and the sheet. The output's bytes
+//! before are 0.
 
 use second::crc::IMAGE_LENGTH;
-use second::images::Card;
+use second::images::{Card, Image, MAGIC_DAMAGES, MagicBlock};
+use second::layout::{LAYOUTS, Layout, MAGIC_OFFSET};
 use second::random::Random;
 use second::sheet::{CHIP, LONGEST_SHEET, make, write};
 use second::sheets::{SHEET_DAMAGES, Sheet};
 use std::{env, fs, io, process};
 
-const RECORD_COUNT: usize = 300;
+const RECORD_COUNT: usize = 400;
 const DAMAGED_COUNT: usize = 12;
+
+/// A sheet and what it is written with.
+struct Record {
+    layout: Layout,
+    output: Image,
+    sheet: Vec<u8>,
+}
 
 fn main() -> io::Result<()> {
     let arguments: Vec<_> = env::args_os().skip(1).collect();
@@ -19,55 +30,89 @@ fn main() -> io::Result<()> {
         eprintln!("usage: sheet_vectors INPUT OUTPUT");
         process::exit(2);
     };
-    let sheets = sheets();
-    let bytes: Vec<_> = sheets.iter().flat_map(|sheet| record(sheet)).collect();
-    let lines: String = sheets.iter().map(|sheet| lines(sheet)).collect();
+    let records = records();
+    let bytes: Vec<_> = records.iter().flat_map(Record::bytes).collect();
+    let lines: String = records.iter().map(Record::lines).collect();
     fs::write(input, bytes)?;
     fs::write(output, lines)
 }
 
-/// Sheets without blocks and with the most, no bytes at all, each field damaged, and valid sheets.
-fn sheets() -> Vec<Vec<u8>> {
+/// In both layouts sheets without blocks and with the most, no bytes at all, each field damaged, and
+/// valid sheets; and valid ones for an output whose block is damaged.
+fn records() -> Vec<Record> {
     let mut random = Random::new(1);
-    let longest = &Card::longest(&mut random).leaves[0];
-    let mut sheets = vec![
-        Sheet::new(21143, 0x0800, &[]).bytes(),
-        Sheet::new(21041, 0x0900, &longest.blocks).bytes(),
-        vec![],
-    ];
-    for number in SHEET_DAMAGES {
-        sheets.extend((0..DAMAGED_COUNT).map(|_| Sheet::damaged(&mut random, number)));
-    }
-    while sheets.len() < RECORD_COUNT {
-        sheets.push(Sheet::valid(&mut random).bytes());
-    }
-    sheets
-}
-
-fn record(sheet: &[u8]) -> Vec<u8> {
-    let length = (sheet.len() as u16).to_le_bytes();
-    [length.as_slice(), sheet].concat()
-}
-
-/// The image in hex and, on a line of its own, the sheet made of it; for either, the refusal's
-/// number where it is refused.
-fn lines(sheet: &[u8]) -> String {
-    let mut image = [0; IMAGE_LENGTH];
-    match write(sheet, &mut image) {
-        0 => {
-            let chip = u16::from_le_bytes([sheet[CHIP], sheet[CHIP + 1]]);
-            hex(&image) + &line_of_sheet(&image, chip)
+    let mut records = Vec::new();
+    for layout in LAYOUTS {
+        let longest = &Card::longest(&mut random, layout).leaves[0];
+        for sheet in [
+            Sheet::new(21143, 0x0800, &[]).bytes(),
+            Sheet::new(21041, 0x0900, &longest.blocks).bytes(),
+            vec![],
+        ] {
+            records.push(Record::new(&mut random, layout, sheet));
         }
-        number => refused(number),
     }
+    for number in SHEET_DAMAGES {
+        for round in 0..DAMAGED_COUNT {
+            let layout = LAYOUTS[round % 2];
+            let sheet = Sheet::damaged(&mut random, number, layout);
+            records.push(Record::new(&mut random, layout, sheet));
+        }
+    }
+    for number in MAGIC_DAMAGES {
+        for _ in 0..DAMAGED_COUNT {
+            let sheet = Sheet::valid(&mut random, Layout::MAGIC).bytes();
+            let mut record = Record::new(&mut random, Layout::MAGIC, sheet);
+            MagicBlock::damaged(&mut random, number).lay(&mut record.output);
+            records.push(record);
+        }
+    }
+    while records.len() < RECORD_COUNT {
+        let layout = random.pick(&LAYOUTS);
+        let sheet = Sheet::valid(&mut random, layout).bytes();
+        records.push(Record::new(&mut random, layout, sheet));
+    }
+    records
 }
 
-fn line_of_sheet(image: &[u8], chip: u16) -> String {
-    let mut buffer = [0; LONGEST_SHEET];
-    let made = make(image, chip, &mut buffer);
-    match made.number {
-        0 => hex(&buffer[..made.length]),
-        number => refused(number),
+impl Record {
+    /// With an output that has a right block, whether the layout does or not.
+    fn new(random: &mut Random, layout: Layout, sheet: Vec<u8>) -> Self {
+        let mut output = [0; IMAGE_LENGTH];
+        MagicBlock::valid(random).lay(&mut output);
+        Self {
+            layout,
+            output,
+            sheet,
+        }
+    }
+
+    fn bytes(&self) -> Vec<u8> {
+        let mut bytes = (self.sheet.len() as u16).to_le_bytes().to_vec();
+        bytes.push(self.layout.magic.into());
+        bytes.extend(&self.output[MAGIC_OFFSET..]);
+        bytes.extend(&self.sheet);
+        bytes
+    }
+
+    /// The image in hex and, on a line of its own, the sheet made of it; for either, the refusal's
+    /// number where it is refused.
+    fn lines(&self) -> String {
+        let mut image = self.output;
+        match write(&self.sheet, self.layout, &mut image) {
+            0 => hex(&image) + &self.line_of_sheet(&image),
+            number => refused(number),
+        }
+    }
+
+    fn line_of_sheet(&self, image: &Image) -> String {
+        let chip = u16::from_le_bytes([self.sheet[CHIP], self.sheet[CHIP + 1]]);
+        let mut buffer = [0; LONGEST_SHEET];
+        let made = make(image, chip, self.layout, &mut buffer);
+        match made.number {
+            0 => hex(&buffer[..made.length]),
+            number => refused(number),
+        }
     }
 }
 
@@ -86,30 +131,35 @@ mod tests {
     use super::*;
 
     /// "Writer: 24 ... then the newest reader's number": the records meet all that a sheet can
-    /// cause.
+    /// cause, and what the output's block can.
     #[test]
     fn every_refusal() {
-        let sheets = sheets();
-        assert_eq!(sheets.len(), RECORD_COUNT);
-        let lines: Vec<_> = sheets.iter().map(|sheet| lines(sheet)).collect();
-        for number in SHEET_DAMAGES {
+        let records = records();
+        assert_eq!(records.len(), RECORD_COUNT);
+        let lines: Vec<_> = records.iter().map(Record::lines).collect();
+        for number in SHEET_DAMAGES.into_iter().chain(MAGIC_DAMAGES) {
             let met = lines.iter().filter(|line| **line == refused(number));
             assert!(met.count() >= DAMAGED_COUNT, "{number}");
         }
     }
 
-    /// "Writing a sheet and reading it returns that sheet": the second line is the record's sheet.
+    /// "Writing a sheet and reading it returns that sheet": the second line is the record's sheet,
+    /// and the first ends with the output's bytes where they are kept.
     #[test]
     fn second_line_is_the_sheet() {
-        let mut met = 0;
-        for sheet in sheets() {
-            let lines = lines(&sheet);
-            if lines.starts_with("refused") {
-                continue;
+        for layout in LAYOUTS {
+            let mut met = 0;
+            for record in records().iter().filter(|record| record.layout == layout) {
+                let lines = record.lines();
+                if lines.starts_with("refused") {
+                    continue;
+                }
+                assert_eq!(lines[256..], format!("\n{}", hex(&record.sheet)));
+                let kept = hex(&record.output[MAGIC_OFFSET..]);
+                assert_eq!(lines[192..].starts_with(&kept), layout.magic);
+                met += 1;
             }
-            assert_eq!(lines[256..], format!("\n{}", hex(&sheet)));
-            met += 1;
+            assert!(met > 80, "{layout:?}: only {met} sheets are accepted");
         }
-        assert!(met > 150, "only {met} sheets are accepted");
     }
 }

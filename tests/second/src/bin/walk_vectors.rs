@@ -1,19 +1,20 @@
-//! Writes 300 records, each an image, the arguments to load it with and a list of calls, to one
+//! Writes 400 records, each an image, the arguments to load it with and a list of calls, to one
 //! file, and to another what each call must answer: `walk_vectors INPUT OUTPUT`.
 //!
-//! A record has the chip (a word, low byte first), the controller, the level, the image, how many
-//! calls follow, and these: 0 a load, 1 a clear, 2 a look, which the report's length and the report
-//! follow.
+//! A record has the chip (a word, low byte first), the controller, the level, the layout (1 with a
+//! Magic Packet block, 0 without), the image, how many calls follow, and these: 0 a load, 1 a clear,
+//! 2 a look, which the report's length and the report follow.
 
 use second::calls::{self, Call, Habits};
 use second::cases::cases;
 use second::images::{Card, DAMAGES, Image, Sample};
+use second::layout::LAYOUTS;
 use second::random::Random;
 use second::reader::Arguments;
 use second::walk::{Autosense, NONE};
 use std::{env, fs, io, process};
 
-const RECORD_COUNT: usize = 300;
+const RECORD_COUNT: usize = 400;
 const DAMAGED_COUNT: usize = 3;
 const MOST_CALLS: usize = 12;
 
@@ -53,11 +54,9 @@ fn records() -> Vec<Record> {
             list,
         });
     }
-    let oldest = Arguments::at_level(21041, 0);
-    let mut samples = vec![Sample {
-        card: Card::longest(&mut random),
-        arguments: oldest,
-    }];
+    let mut samples: Vec<_> = LAYOUTS
+        .map(|layout| Sample::longest(&mut random, layout))
+        .into();
     for number in DAMAGES {
         samples.extend((0..DAMAGED_COUNT).map(|_| Sample::damaged(&mut random, number)));
     }
@@ -109,6 +108,7 @@ impl Record {
     fn bytes(&self) -> Vec<u8> {
         let mut bytes = self.arguments.chip.to_le_bytes().to_vec();
         bytes.extend([self.arguments.controller, self.arguments.level]);
+        bytes.push(self.arguments.layout.magic.into());
         bytes.extend(self.image);
         bytes.push(self.list.len() as u8);
         for call in &self.list {
@@ -196,9 +196,15 @@ mod tests {
             let start = format!("{number} ");
             lines.lines().any(|line| line.starts_with(&start))
         };
-        let numbers = (0..=23).filter(|&number| met(number));
+        let numbers = (0..=30).filter(|&number| met(number));
         let expected = (0..=22).filter(|number| ![1, 12].contains(number));
-        assert!(numbers.eq(expected));
+        assert!(numbers.eq(expected.chain([29, 30])));
+        for layout in LAYOUTS {
+            let of_layout = records
+                .iter()
+                .filter(|record| record.arguments.layout == layout);
+            assert!(of_layout.count() > RECORD_COUNT / 3, "{layout:?}");
+        }
         for form in ["0 fresh", "0 settled none", "0 unsettled none"] {
             assert!(lines.contains(form), "{form}");
         }

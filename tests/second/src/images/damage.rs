@@ -4,22 +4,32 @@ use super::block::{self, phy_unit};
 use super::{Card, Leaf, Sample};
 use crate::random::Random;
 use crate::reader::{
-    ACTIVE_INVALID, CHIPS, COMPACT, DEFAULT, EXT, EXTENDED, LEAF_LIMIT, MEDIA_21041, NEWEST_LEVEL,
-    RESET, first_leaf, header_size, is_connection, permitted_kinds,
+    ACTIVE_INVALID, CHIPS, COMPACT, DEFAULT, EXT, EXTENDED, MEDIA_21041, NEWEST_LEVEL, RESET,
+    first_leaf, header_size, is_connection, permitted_kinds,
 };
+use std::ops::Range;
 
 impl Sample {
-    /// Damages one field so that the reading is refused with this number and no lower one; false,
-    /// with nothing changed, where the sample has no such field or not enough places for it.
+    /// Damages one field so that the reading is refused with this number and for no earlier cause;
+    /// false, with nothing changed, where the sample has no such field or not enough places for it.
     pub fn damage(&mut self, random: &mut Random, number: u8) -> bool {
         let (card, arguments) = (&mut self.card, &mut self.arguments);
         let controllers = card.controllers.len();
+        let layout = card.layout();
+        let places = first_leaf(controllers)..layout.leaf_limit();
         match number {
             2 => card.version = other_than(random, &[3, 4]),
             3 => card.srom_crc_fault = 1 + random.below(0xFFFF) as u16,
             4 => card.id_crc_fault = 1 + random.below(0xFF) as u8,
+            29 | 30 => match &mut card.magic {
+                Some(block) => block.damage(random, number),
+                None => return false,
+            },
             5 if random.one_in(2) => card.reserved = 1 + random.below(0xFF) as u8,
-            5 => card.count = random.pick(&[0, 33, 34, 128, 255]),
+            5 => {
+                let most = layout.most_controllers() as u8;
+                card.count = random.pick(&[0, most + 1, most + 2, 128, 255]);
+            }
             6 => arguments.controller = between(random, controllers, 255) as u8,
             7 => arguments.chip = chip(random),
             8 => arguments.level = between(random, 7, 255) as u8,
@@ -32,10 +42,9 @@ impl Sample {
                 else {
                     return false;
                 };
-                let first = first_leaf(controllers);
-                let last = LEAF_LIMIT - header_size(arguments.chip);
+                let last = places.end - header_size(arguments.chip);
                 controller.leaf_offset = match random.below(3) {
-                    0 => random.below(first) as u16,
+                    0 => random.below(places.start) as u16,
                     1 => between(random, last + 1, 255) as u16,
                     _ => controller.leaf_offset | (1 + random.below(0xFF) as u16) << 8,
                 };
@@ -45,8 +54,7 @@ impl Sample {
                 let Some(mut leaf) = take_leaf(card, arguments.controller) else {
                     return false;
                 };
-                let is_damaged =
-                    damage_leaf(&mut leaf, random, number, level, first_leaf(controllers));
+                let is_damaged = damage_leaf(&mut leaf, random, number, level, places);
                 card.controllers[usize::from(arguments.controller)].leaf_offset =
                     leaf.offset as u16;
                 card.leaves.push(leaf);
@@ -65,26 +73,27 @@ fn take_leaf(card: &mut Card, controller: u8) -> Option<Leaf> {
     Some(card.leaves.remove(index))
 }
 
+/// Damages a leaf that stands in these places of its image.
 pub(crate) fn damage_leaf(
     leaf: &mut Leaf,
     random: &mut Random,
     number: u8,
     level: u8,
-    first: usize,
+    places: Range<usize>,
 ) -> Option<()> {
     match number {
         11 => leaf.connection = wrong_connection(random, leaf.chip),
         _ if leaf.blocks.is_empty() => return None,
         13 if leaf.chip == 21041 || random.one_in(2) => {
-            let last = LEAF_LIMIT - header_size(leaf.chip);
-            let fitting = LEAF_LIMIT - (leaf.end() - leaf.offset);
-            leaf.offset = between(random, first.max(fitting + 1), last);
+            let last = places.end - header_size(leaf.chip);
+            let fitting = places.end - (leaf.end() - leaf.offset);
+            leaf.offset = between(random, places.start.max(fitting + 1), last);
         }
         18 if random.one_in(2) => set_defaults(leaf, random, level)?,
-        18 => add_reset(leaf, random, level)?,
+        18 => add_reset(leaf, random, level, places.end)?,
         _ => {
             let index = random.below(leaf.blocks.len());
-            let places = LEAF_LIMIT.checked_sub(leaf.start(index))?;
+            let places = places.end.checked_sub(leaf.start(index))?;
             let block = &mut leaf.blocks[index];
             let kind = kind(block, leaf.chip);
             let is_known = kind >= COMPACT || kind < level.into();
@@ -210,14 +219,14 @@ fn set_defaults(leaf: &mut Leaf, random: &mut Random, level: u8) -> Option<()> {
 }
 
 /// A type 5 block more, where there is one or a PHY with a reset sequence.
-fn add_reset(leaf: &mut Leaf, random: &mut Random, level: u8) -> Option<()> {
+fn add_reset(leaf: &mut Leaf, random: &mut Random, level: u8, limit: usize) -> Option<()> {
     let speaks_of_reset = |block: &Vec<u8>| match kind(block, leaf.chip) {
         RESET => true,
         kind @ (1 | 3) => reset_offset(block, kind).is_some_and(|offset| block[offset] > 0),
         _ => false,
     };
     let reset = block::reset(&[]);
-    let has_room = leaf.end() + reset.len() <= LEAF_LIMIT;
+    let has_room = leaf.end() + reset.len() <= limit;
     let is_known = RESET < level.into();
     if !is_known || !has_room || !leaf.blocks.iter().any(speaks_of_reset) {
         return None;

@@ -1,10 +1,12 @@
 //! The same reading with the CRCs by table, in one pass over the leaf and without allocation.
 
 use super::{
-    Answer, Arguments, Block, LEAF_LIMIT, MOST_BLOCKS, NO_DEFAULT, RESET, Refusal, block,
-    first_block, header, is_version, refuse_if, word,
+    Answer, Arguments, Block, MOST_BLOCKS, NO_DEFAULT, RESET, Refusal, block, first_block, header,
+    is_version, refuse_if, word,
 };
-use crate::crc::{ID_CRC_OFFSET, IMAGE_LENGTH, SROM_CRC_OFFSET, fast};
+use crate::crc::{ID_CRC_OFFSET, IMAGE_LENGTH, fast};
+use crate::layout::Layout;
+use crate::magic;
 
 /// Kind and start of each known block but resets, the first block first.
 type Listed = [(u16, u16); MOST_BLOCKS];
@@ -31,8 +33,9 @@ pub fn view(image: &[u8], arguments: Arguments, entry: usize) -> &[u8] {
     let Ok(answer) = leaf(image, arguments, usize::MAX, &mut listed) else {
         return &image[..0];
     };
+    let rest = |start: u16| &image[start.into()..arguments.layout.leaf_limit()];
     match listed[..answer.listed.into()].iter().rev().nth(entry) {
-        Some(&(_, start)) => first_block(&image[start.into()..LEAF_LIMIT], arguments.chip)
+        Some(&(_, start)) => first_block(rest(start), arguments.chip)
             .expect("an accepted block ends before the limit"),
         None => &image[..0],
     }
@@ -61,11 +64,11 @@ pub(crate) fn each_block(
     shorter: usize,
     take: impl FnMut(u8, &Block),
 ) -> Result<Answer, Refusal> {
-    frame(image)?;
+    frame(image, arguments.layout)?;
     each_block_unframed(image, arguments, shorter, take)
 }
 
-/// The same where the frame is known to be right (causes 1 to 4).
+/// The same where the frame is known to be right (causes 1 to 4, 29 and 30).
 pub(crate) fn each_block_unframed(
     image: &[u8],
     arguments: Arguments,
@@ -109,11 +112,16 @@ pub(crate) fn each_block_unframed(
     Ok(answer)
 }
 
-fn frame(image: &[u8]) -> Result<(), Refusal> {
+fn frame(image: &[u8], layout: Layout) -> Result<(), Refusal> {
     refuse_if(image.len() != IMAGE_LENGTH, Refusal::ImageLength)?;
     refuse_if(!is_version(image), Refusal::Version)?;
-    let srom_crc = fast::srom_crc(image).value;
-    refuse_if(srom_crc != word(image, SROM_CRC_OFFSET), Refusal::SromCrc)?;
+    let srom_crc = fast::srom_crc(image, layout).value;
+    let stored = word(image, layout.srom_crc_offset());
+    refuse_if(srom_crc != stored, Refusal::SromCrc)?;
     let id_crc = fast::id_crc(image).value;
-    refuse_if(id_crc != image[ID_CRC_OFFSET].into(), Refusal::IdCrc)
+    refuse_if(id_crc != image[ID_CRC_OFFSET].into(), Refusal::IdCrc)?;
+    if layout.magic {
+        magic::judge(image, fast::magic_crc(image))?;
+    }
+    Ok(())
 }

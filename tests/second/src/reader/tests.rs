@@ -1,7 +1,8 @@
 use super::*;
 use crate::cases::{Expected, cases};
 use crate::crc::lay_crcs;
-use crate::images::{Card, DAMAGES, Image, Leaf, Sample, block};
+use crate::images::{Card, DAMAGES, Image, Leaf, MagicBlock, Sample, block};
+use crate::layout::LAYOUTS;
 use crate::random::Random;
 use crate::specification;
 
@@ -120,7 +121,8 @@ fn empty_leaf(controllers: usize, offset: usize) -> Card {
     card
 }
 
-/// "19 controller count n, 1 to 32": a leaf fits beside 31 controllers and no longer beside 32.
+/// "19 controller count n, 1 to 32": a leaf fits beside 31 controllers and no longer beside 32. With
+/// a Magic Packet block "the controller count is at most 20 (else 5)".
 #[test]
 fn controller_counts() {
     for count in 0..=255 {
@@ -136,6 +138,19 @@ fn controller_counts() {
             expected,
             "{count}"
         );
+        let mut card = laid_out(empty_leaf(20, 87), Layout::MAGIC);
+        card.count = count;
+        let expected = if (1..=20).contains(&count) { 0 } else { 5 };
+        let arguments = Arguments::newest(21143).laid_out(Layout::MAGIC);
+        assert_eq!(number(&card.image(), arguments), expected, "{count}");
+    }
+}
+
+/// The card in a layout.
+fn laid_out(card: Card, layout: Layout) -> Card {
+    Card {
+        magic: MagicBlock::of_layout(&mut Random::new(1), layout),
+        ..card
     }
 }
 
@@ -146,7 +161,7 @@ fn reserved_byte() {
         for other in 0..=10 {
             let mut image = empty_leaf(controllers, 60).image();
             image[26 + 3 * other] = 1;
-            lay_crcs(&mut image);
+            lay_crcs(&mut image, Layout::PLAIN);
             let expected = if other == controllers { 5 } else { 0 };
             assert_eq!(
                 number(&image, Arguments::newest(21143)),
@@ -215,24 +230,123 @@ fn addresses() {
     assert_eq!(read_one(&image, 3), refused(9));
 }
 
-/// "A leaf starts at 27+3n or later", and its header ends before 124: "10 leaf header outside its
-/// bounds", also where the offset's high byte is not 0.
+/// "A leaf starts at 27+3n or later", and its header ends before 124, or before 92 with a Magic
+/// Packet block: "10 leaf header outside its bounds", also where the offset's high byte is not 0.
 #[test]
 fn leaf_bounds() {
-    for chip in CHIPS {
-        let last = if chip == 21140 { 120 } else { 121 };
-        for controllers in 1..=3 {
-            let first = 27 + 3 * controllers;
-            for offset in (0..=300).chain((256..=u16::MAX).step_by(257)) {
-                let place = usize::from(offset);
-                let is_inside = (first..=last).contains(&place);
-                let laid = if is_inside { place } else { first };
-                let mut card = Card::new(controllers, vec![Leaf::new(laid, chip, 0x0800, vec![])]);
-                card.controllers[0].leaf_offset = offset;
-                let expected = if is_inside { 0 } else { 10 };
-                let answered = number(&card.image(), Arguments::newest(chip));
-                assert_eq!(answered, expected, "{chip}, {controllers}, {offset}");
+    for (layout, limit) in LAYOUTS.into_iter().zip([124, 92]) {
+        for chip in CHIPS {
+            let last = if chip == 21140 { limit - 4 } else { limit - 3 };
+            for controllers in 1..=3 {
+                let first = 27 + 3 * controllers;
+                for offset in (0..=300).chain((256..=u16::MAX).step_by(257)) {
+                    let place = usize::from(offset);
+                    let is_inside = (first..=last).contains(&place);
+                    let laid = if is_inside { place } else { first };
+                    let leaf = Leaf::new(laid, chip, 0x0800, vec![]);
+                    let mut card = laid_out(Card::new(controllers, vec![leaf]), layout);
+                    card.controllers[0].leaf_offset = offset;
+                    let expected = if is_inside { 0 } else { 10 };
+                    let arguments = Arguments::newest(chip).laid_out(layout);
+                    let answered = number(&card.image(), arguments);
+                    assert_eq!(answered, expected, "{chip}, {controllers}, {offset}");
+                }
             }
+        }
+    }
+}
+
+/// "A leaf ... ends, with all its blocks, before 124", or "before 92": an unknown type whose last
+/// byte stands just before is accepted, and one byte more is 13.
+#[test]
+fn last_places() {
+    for (layout, longest) in LAYOUTS.into_iter().zip([0xDA, 0xBA]) {
+        for (first, expected) in [(longest, 0), (longest + 1, 13)] {
+            let body = vec![0x55; usize::from(first & 0x7F) - 1];
+            let unknown = block::extended(9, &body);
+            assert_eq!(unknown[0], first);
+            let card = laid_out(Card::tidy(21143, 0x0800, vec![unknown]), layout);
+            let arguments = Arguments::newest(21143).laid_out(layout);
+            assert_eq!(number(&card.image(), arguments), expected, "{layout:?}");
+        }
+    }
+}
+
+/// "29 Magic CRC differs, after 4": every value of byte 126 but the right one, before the controller
+/// count is judged.
+#[test]
+fn magic_crc() {
+    let arguments = Arguments::newest(21143).laid_out(Layout::MAGIC);
+    for count in [1, 0] {
+        let mut card = laid_out(empty_leaf(1, 60), Layout::MAGIC);
+        card.count = count;
+        let image = card.image();
+        for value in 0..=255 {
+            let mut changed = image;
+            changed[126] = value;
+            let is_right = value == image[126];
+            let expected = match (is_right, count) {
+                (false, _) => 29,
+                (true, 1) => 0,
+                (true, _) => 5,
+            };
+            assert_eq!(number(&changed, arguments), expected, "{value}");
+        }
+    }
+}
+
+/// "30 one of bytes 110 to 125, or 127, is not 0, after 29": each of them, with a right CRC, before
+/// the controller count is judged. The block's other bytes may hold anything.
+#[test]
+fn magic_reserved_bytes() {
+    let arguments = Arguments::newest(21143).laid_out(Layout::MAGIC);
+    for count in [1, 0] {
+        let mut card = laid_out(empty_leaf(1, 60), Layout::MAGIC);
+        card.count = count;
+        for offset in (96..=127).filter(|&offset| offset != 126) {
+            let is_reserved = (110..=125).contains(&offset) || offset == 127;
+            for value in [0, 1, 0x80, 0xFF] {
+                let mut image = card.image();
+                image[offset] = value;
+                lay_crcs(&mut image, Layout::MAGIC);
+                let expected = match (is_reserved && value > 0, count) {
+                    (true, _) => 30,
+                    (false, 1) => 0,
+                    (false, _) => 5,
+                };
+                assert_eq!(number(&image, arguments), expected, "{value} at {offset}");
+            }
+        }
+    }
+}
+
+/// "Other bytes may hold private data and are not judged": without the block so do bytes 96 to 123
+/// behind a leaf, and the maker's; with it those from the leaf's end to 91, and the maker's.
+#[test]
+fn unjudged_bytes() {
+    for (layout, crc) in LAYOUTS.into_iter().zip([126, 94]) {
+        let card = laid_out(Card::tidy(21143, 0x0800, vec![]), layout);
+        let arguments = Arguments::newest(21143).laid_out(layout);
+        for offset in 33..crc {
+            for value in [1, 0x80, 0xFF] {
+                let mut image = card.image();
+                image[offset] = value;
+                lay_crcs(&mut image, layout);
+                assert_eq!(number(&image, arguments), 0, "{value} at {offset}");
+            }
+        }
+    }
+}
+
+/// "The caller says that it is there": an image of either layout is refused with 3 in the other.
+#[test]
+fn layout_of_the_caller() {
+    for layout in LAYOUTS {
+        let card = laid_out(Card::tidy(21143, 0x0800, vec![]), layout);
+        for told in LAYOUTS {
+            let expected = if told == layout { 0 } else { 3 };
+            let arguments = Arguments::newest(21143).laid_out(told);
+            assert_eq!(number(&card.image(), arguments), expected, "{told:?}");
         }
     }
 }
@@ -386,7 +500,7 @@ fn past_the_limit() {
         );
     }
     // More blocks are counted than stand there.
-    let mut card = Card::longest(&mut Random::new(1));
+    let mut card = Card::longest(&mut Random::new(1), Layout::PLAIN);
     card.leaves[0].count = 92;
     assert_eq!(number(&card.image(), Arguments::newest(21041)), 13);
 }
@@ -741,7 +855,7 @@ fn views() {
     assert!(view(&image[..127], arguments, 0).is_empty());
 }
 
-/// "The answer holds" each field: a card with all of them.
+/// "The answer holds" each field: a card with all of them, in both layouts.
 #[test]
 fn whole_answer() {
     let blocks = vec![
@@ -755,12 +869,6 @@ fn whole_answer() {
     leaf.control = 0x1E;
     let mut card = Card::new(3, vec![leaf]);
     card.address = 0x0000_F812_34FF;
-    let arguments = Arguments {
-        chip: 21140,
-        controller: 1,
-        level: NEWEST_LEVEL,
-    };
-    let (answer, table) = read_table(&card.image(), arguments);
     let expected = Answer {
         number: 0,
         connection: 0x8800,
@@ -772,8 +880,18 @@ fn whole_answer() {
         skipped: 1,
         default_number: 2,
     };
-    assert_eq!(answer, expected);
-    assert_eq!(table, [(1, 66), (0, 53), (256, 44)]);
+    for layout in LAYOUTS {
+        let arguments = Arguments {
+            chip: 21140,
+            controller: 1,
+            level: NEWEST_LEVEL,
+            layout,
+        };
+        let image = laid_out(card.clone(), layout).image();
+        let (answer, table) = read_table(&image, arguments);
+        assert_eq!(answer, expected);
+        assert_eq!(table, [(1, 66), (0, 53), (256, 44)]);
+    }
 }
 
 /// The one-pass form reads alike.
@@ -787,12 +905,7 @@ fn fast_equals_plain() {
                 let number = random.pick(&DAMAGES);
                 Sample::damaged(&mut random, number)
             }
-            _ => {
-                let mut sample = Sample::valid(&mut random);
-                sample.card = Card::wild(&mut random, sample.arguments.chip);
-                sample.arguments.controller = 0;
-                sample
-            }
+            _ => Sample::wild(&mut random),
         };
         if random.one_in(2) {
             sample.arguments.level = random.below(8) as u8;
@@ -832,9 +945,10 @@ fn worked_blocks() {
     assert!(cases.len() >= 40, "only {} blocks", cases.len());
     for (made_by, words) in cases {
         let rest = specification::bytes(words[2]);
-        let start = LEAF_LIMIT - rest.len();
+        let limit = Layout::PLAIN.leaf_limit();
+        let start = limit - rest.len();
         let mut image = [0; IMAGE_LENGTH];
-        image[start..LEAF_LIMIT].copy_from_slice(&rest);
+        image[start..limit].copy_from_slice(&rest);
         let arguments = Arguments {
             chip: words[0].parse().unwrap(),
             level: words[1].parse().unwrap(),

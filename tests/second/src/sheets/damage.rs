@@ -3,20 +3,20 @@
 use super::{Sheet, body};
 use crate::images::damage::{between, chip, damage_leaf, other_than, wrong_connection};
 use crate::images::{Leaf, TIDY_LEAF, block};
+use crate::layout::Layout;
 use crate::random::Random;
-use crate::reader::{
-    COMPACT, EXT, EXTENDED, LEAF_LIMIT, MEDIA_21041, NEWEST_LEVEL, permitted_kinds,
-};
+use crate::reader::{COMPACT, EXT, EXTENDED, MEDIA_21041, NEWEST_LEVEL, permitted_kinds};
 use crate::sheet::{COUNT, KINDS, LONGEST_BODY, TOTAL};
 
 /// The most body bytes that a sheet's total can count.
 const MOST_BODY_BYTES: usize = 255;
 
 impl Sheet {
-    /// Damages one field so that the writer refuses the sheet with this number and none before it;
-    /// false where the sheet has no such field or not enough places for it, with the sheet then of
-    /// no use.
-    pub fn damage(&mut self, random: &mut Random, number: u8) -> bool {
+    /// Damages one field so that the writer of a layout refuses the sheet with this number and none
+    /// before it; false where the sheet has no such field or not enough places for it, with the sheet
+    /// then of no use.
+    pub fn damage(&mut self, random: &mut Random, number: u8, layout: Layout) -> bool {
+        let limit = layout.leaf_limit();
         let is_damaged = match number {
             2 => {
                 self.version = other_than(random, &[3, 4]);
@@ -31,12 +31,12 @@ impl Sheet {
                 Some(())
             }
             25 => self.misform(random),
-            26 => self.overflow(random),
+            26 => self.overflow(random, limit),
             14 => self.forbid(random),
-            15..=18 => self.damage_blocks(random, number),
+            15..=18 => self.damage_blocks(random, number, limit),
             _ => None,
         };
-        let is_short = number == 7 || number == 25 || self.leaf_end() <= LEAF_LIMIT;
+        let is_short = number == 7 || number == 25 || self.leaf_end() <= limit;
         let fits = is_short != (number == 26) && self.body_bytes() <= MOST_BODY_BYTES;
         is_damaged.is_some() && fits
     }
@@ -94,8 +94,8 @@ impl Sheet {
     }
 
     /// Cause 26: blocks at the end that pass the limit, often by one byte.
-    fn overflow(&mut self, random: &mut Random) -> Option<()> {
-        let least = (LEAF_LIMIT + 1).saturating_sub(self.leaf_end());
+    fn overflow(&mut self, random: &mut Random, limit: usize) -> Option<()> {
+        let least = (limit + 1).saturating_sub(self.leaf_end());
         let size = least
             + if random.one_in(3) {
                 random.below(20)
@@ -134,10 +134,10 @@ impl Sheet {
 
     /// Causes 15 to 18, as in the leaf of an image; a block whose length byte is changed gets as
     /// many bytes.
-    fn damage_blocks(&mut self, random: &mut Random, number: u8) -> Option<()> {
+    fn damage_blocks(&mut self, random: &mut Random, number: u8, limit: usize) -> Option<()> {
         let blocks = self.whole_blocks();
         let mut leaf = Leaf::new(TIDY_LEAF, self.chip, self.connection, blocks);
-        damage_leaf(&mut leaf, random, number, NEWEST_LEVEL, TIDY_LEAF)?;
+        damage_leaf(&mut leaf, random, number, NEWEST_LEVEL, TIDY_LEAF..limit)?;
         for block in &mut leaf.blocks {
             if self.chip != 21041 && block[0] & EXTENDED != 0 {
                 block.resize(1 + usize::from(block[0] & !EXTENDED), 0);

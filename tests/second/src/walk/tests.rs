@@ -1,7 +1,8 @@
 use super::*;
 use crate::calls::{self, Call, Habits};
 use crate::cases::cases;
-use crate::images::{Card, Image, Sample, block};
+use crate::images::{Card, DAMAGES, Image, Sample, block};
+use crate::layout::Layout;
 use crate::random::Random;
 use crate::reader::{CHIPS, NEWEST_LEVEL, connections, read_all};
 use crate::specification::{self, arguments, number};
@@ -135,6 +136,34 @@ fn refused_loads() {
         assert_eq!(walk.load(&case.image, arguments), 21);
         assert_eq!(walk.load(&[], arguments), 21);
         assert_eq!(walk, before);
+    }
+    let mut random = Random::new(3);
+    for number in DAMAGES {
+        let Sample { card, arguments } = Sample::damaged(&mut random, number);
+        let mut walk = Autosense::default();
+        assert_eq!(walk.load(&card.image(), arguments), number);
+        assert_eq!(walk, Autosense::Fresh);
+    }
+}
+
+/// "Loading reads an image with the reader's arguments", of which the layout is one: a leaf walks
+/// alike with a Magic Packet block behind it and without.
+#[test]
+fn both_layouts() {
+    let mut random = Random::new(4);
+    for _ in 0..1_000 {
+        let with_block = calls::accepted(&mut random, Layout::MAGIC);
+        let mut without = with_block.clone();
+        without.card.magic = None;
+        without.arguments.layout = Layout::PLAIN;
+        let [mut walk, mut other] =
+            [with_block, without].map(|it| loaded(&it.card.image(), it.arguments));
+        let habits = Habits::new(&mut random, walk.walk().blocks.into());
+        for _ in 0..8 {
+            let report = habits.report(&mut random);
+            assert_eq!(walk.look(&report), other.look(&report));
+            assert_eq!(walk, other);
+        }
     }
 }
 

@@ -1,6 +1,6 @@
--- The test of the option picks the command's. Assumes nothing.
+-- The tests of the option pick the command's. Assumes nothing.
 use borrow.Author.Needs.{needs}
-use borrow.Author.Tests.{eq-eqb, ne-eqb}
+use borrow.Author.Tests.{eq-eqb, ne-eqb, lt-ltb, le-ltb}
 use Rattle.rom.specs.Bytes.{pick}
 use Rattle.console.specs.Commands.{takesOption}
 use Rattle.console.proofs.command.takes.Statement.{statement}
@@ -13,12 +13,26 @@ returns : tie.Need-returns
 unfolding takesOption pick
 returns c = simp (eq-eqb _ _ (c .before .if1 .taken)) (c .takes-force .ensures)
 
+returns-2 : tie.Need-returns-2
+unfolding takesOption pick
+returns-2 c = simp (ne-eqb _ _ (c .before .if1 .left), eq-eqb _ _ (c .if2 .taken))
+
+returns-3 : tie.Need-returns-3
+unfolding takesOption pick
+returns-3 c = simp (ne-eqb _ _ (c .before .before .if1 .left), ne-eqb _ _ (c .before .if2 .left), lt-ltb _ _ (c .if3 .taken))
+
 takes-arguments-requires : tie.Need-takes-arguments-requires
 takes-arguments-requires c κs = search needs
 
-returns-2 : tie.Need-returns-2
+returns-4 : tie.Need-returns-4
 unfolding takesOption pick
-returns-2 c = simp (ne-eqb _ _ (c .before .if1 .left)) (c .takes-arguments .ensures)
+returns-4 c =
+    simp (
+      ne-eqb _ _ (c .before .before .before .if1 .left),
+      ne-eqb _ _ (c .before .before .if2 .left),
+      le-ltb _ _ (c .before .if3 .left),
+    )
+    (c .takes-arguments .ensures)
 
 pub takes-spec : {M : Type 1} → statement M
-takes-spec = tie.close (tie.spec takes-force-requires returns takes-arguments-requires returns-2)
+takes-spec = tie.close (tie.spec takes-force-requires returns returns-2 returns-3 takes-arguments-requires returns-4)

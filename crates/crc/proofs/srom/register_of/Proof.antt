@@ -1,50 +1,54 @@
 -- The loop keeps the register read in reverse, the next byte already XORed in; what is left to feed is the rest of the
 -- checked bytes. Assumes nothing.
-use Prim.Native.Nat.{_≤_, _-_}
-use mathlib.Core.Path.{_≡_, ap, _∙_}
-use lib.Bits.{bitXor, xor-zero-r}
-use lib.Dec.{lit<}
+use Prim.Native.Nat.{ℕ, _≤_, _-_}
+use mathlib.Core.Path.{_≡_, refl, ap, _∙_}
+use lib.Bits.{xor-zero-r}
 use lib.ListN.{take, drop}
 use native.Mathlib.Omega.{arith}
-use borrow.Author.Needs.{needs}
-use Rattle.rom.specs.Geometry.{checkedLength}
-use Rattle.crc.specs.Crc.{ones}
+use Rattle.rom.proofs.Layouts.{geometry}
+use Rattle.crc.specs.Crc.{ones, reversed, sromBytes}
 use Rattle.crc.specs.Inside.{reflected, turns, bytesIn, sromTable}
 use Rattle.crc.proofs.Mirror.{first-byte, next-byte, last-byte, mirror-ones}
+use borrow.Author.Needs.{needs}
 use Rattle.crc.proofs.srom.register_of.Statement.{statement}
 use Rattle.crc.proofs.srom.register_of.Tie as tie
 
 abbrev Inv-loop : tie.InvT-loop
-Inv-loop image table mixed₀ at₀ mixed at =
-    (at ≤ checkedLength)
-    × (bytesIn reflected (turns reflected 8 mixed) (drop at (take checkedLength image))
-    ≡ bytesIn reflected (ones 32) (take checkedLength image))
+Inv-loop image table checked mixed₀ at₀ mixed at =
+    (at ≤ checked)
+    × (bytesIn reflected (turns reflected 8 mixed) (drop at (take checked image)) ≡ bytesIn reflected (ones 32) (take checked image))
     × (table ≡ sromTable)
 
 abbrev μ-loop : tie.MeasureT-loop
-μ-loop image table mixed₀ at₀ mixed at = checkedLength - at
+μ-loop image table checked mixed₀ at₀ mixed at = checked - at
 
 table-requires : tie.Need-table-requires Inv-loop μ-loop
 table-requires c κs = search needs
 
-byte-at-requires : tie.Need-byte-at-requires Inv-loop μ-loop
-byte-at-requires c κs = search needs
+checked-length-requires : tie.Need-checked-length-requires Inv-loop μ-loop
+checked-length-requires c κs = search needs
+
+shared-slice-read-mixed : tie.Need-shared-slice-read-mixed Inv-loop μ-loop
+shared-slice-read-mixed c = let g = geometry (c .before .before .before .before .args .layout) in omega arith
 
 cast-mixed : tie.Need-cast-mixed Inv-loop μ-loop
-cast-mixed c = search needs
+cast-mixed c = omega (arith, c .shared-slice-known2 .given 0 .fits)
 
 loop-holds : tie.Need-loop-holds Inv-loop μ-loop
 loop-holds c =
-    let known = c .before .before in
-    let e = known .before in (
+    let made = c .before in
+    let known = made .before .before in
+    let e = known .before in
+    let g = geometry (e .args .layout) in
+    let n = made .checked-length .ensures in (
       omega arith,
-      first-byte reflected checkedLength (e .args .image .now) (e .pre) (ones 32) _ (lit< tt) (known .shared-slice-known .given 0 .fits)
-          (ap (bitXor (ones 32)) (c .byte-at .ensures)),
-      c .before .table .ensures,
+      first-byte reflected (made .checked-length .result) (e .args .image .now) (omega arith) (ones 32) _ (omega arith)
+          (known .shared-slice-known .given 0 .fits) refl,
+      made .before .table .ensures,
     )
 
-byte-at-requires-2 : tie.Need-byte-at-requires-2 Inv-loop μ-loop
-byte-at-requires-2 c κs = search needs
+shared-slice-read-turned : tie.Need-shared-slice-read-turned Inv-loop μ-loop
+shared-slice-read-turned c = search needs
 
 turned-requires : tie.Need-turned-requires Inv-loop μ-loop
 turned-requires c κs = search needs
@@ -58,12 +62,12 @@ loop-less c = search needs
 loop-again : tie.Need-loop-again Inv-loop μ-loop
 loop-again c =
     let l = c .before .before .before .before .loop in
-    let known = c .before .before .before .before .before .before .before in
+    let made = c .before .before .before .before .before .before in
+    let known = made .before .before in
     let e = known .before in (
       omega arith,
-      next-byte reflected checkedLength (e .args .image .now) (e .pre) (l .at) (l .mixed) (c .turned .result) _ (omega arith)
-          (known .shared-slice-known .given (l .at) .fits)
-          (c .turned .ensures ∙ ap (bitXor (turns reflected 8 (l .mixed))) (c .before .byte-at2 .ensures)) (l .inv .1),
+      next-byte reflected (made .checked-length .result) (e .args .image .now) (omega arith) (l .at) (l .mixed) (c .turned .result) _
+          (omega arith) (known .shared-slice-known .given (l .at) .fits) (c .turned .ensures) (l .inv .1),
       l .inv .2,
     )
 
@@ -73,10 +77,13 @@ turned-requires-2 c κs = search needs
 returns : tie.Need-returns Inv-loop μ-loop
 returns c =
     let l = c .before .before .before .loop in
-    let e = c .before .before .before .before .before .before .before in
+    let made = c .before .before .before .before .before in
+    let e = made .before .before .before in
+    let checked = made .checked-length .result in
     c .turned2 .ensures ∙ xor-zero-r (turns reflected 8 (l .mixed))
-    ∙ last-byte reflected checkedLength (e .args .image .now) (e .pre) (l .at) (turns reflected 8 (l .mixed)) (l .inv .0) (omega arith)
-    ∙ l .inv .1 ∙ mirror-ones (take checkedLength (e .args .image .now))
+    ∙ last-byte reflected checked (e .args .image .now) (omega arith) (l .at) (turns reflected 8 (l .mixed)) (l .inv .0) (omega arith)
+    ∙ l .inv .1 ∙ mirror-ones (take checked (e .args .image .now))
+    ∙ ap (λ (n : ℕ). reversed 32 0 (sromBytes (ones 32) (take n (e .args .image .now)))) (made .checked-length .ensures)
 
 pub register-of-spec : {M : Type 1} → statement M
 register-of-spec =
@@ -85,10 +92,11 @@ register-of-spec =
     Inv-loop
     μ-loop
     table-requires
-    byte-at-requires
+    checked-length-requires
+    shared-slice-read-mixed
     cast-mixed
     loop-holds
-    byte-at-requires-2
+    shared-slice-read-turned
     turned-requires
     add-at
     loop-less

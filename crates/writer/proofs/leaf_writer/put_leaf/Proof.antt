@@ -18,8 +18,8 @@ put-head-requires : tie.Need-put-head-requires
 unfolding sheetFrom
 put-head-requires c κs = (
   c .before .row-of .ensures ∙ ap rowOf (c .before .before .word-at .ensures),
-  omega (arith, c .before .before .before .before .before .pre .1),
-  has-head _ (c .before .before .before .before .before .pre .0 .is),
+  c .before .before .before .before .before .pre .head,
+  has-head _ (c .before .before .before .before .before .pre .is),
 )
 
 count-at-requires : tie.Need-count-at-requires
@@ -41,7 +41,7 @@ header-length-requires : tie.Need-header-length-requires
 header-length-requires c κs = search needs
 
 sub-put-entries : tie.Need-sub-put-entries
-sub-put-entries c = has-head _ (c .before .before .before .before .before .before .before .before .before .before .before .pre .0 .is)
+sub-put-entries c = has-head _ (c .before .before .before .before .before .before .before .before .before .before .before .pre .is)
 
 part-put-entries-start : tie.Need-part-put-entries-start
 part-put-entries-start c = sub-put-entries c
@@ -51,7 +51,7 @@ part-put-entries-end c = search needs
 
 sub-put-entries-2 : tie.Need-sub-put-entries-2
 sub-put-entries-2 c =
-    let l = cut-fits _ (c .before .before .before .before .before .before .before .before .before .before .before .before .pre .0 .is) _
+    let l = cut-fits _ (c .before .before .before .before .before .before .before .before .before .before .before .before .pre .is) _
     (c .before .before .before .count-at .ensures .0) in omega arith
 
 part-put-entries-start-2 : tie.Need-part-put-entries-start-2
@@ -62,7 +62,7 @@ part-put-entries-end-2 c = search needs
 
 sub-put-entries-3 : tie.Need-sub-put-entries-3
 sub-put-entries-3 c =
-    cut-fits _ (c .before .before .before .before .before .before .before .before .before .before .before .before .before .pre .0 .is) _
+    cut-fits _ (c .before .before .before .before .before .before .before .before .before .before .before .before .before .pre .is) _
     (c .before .before .before .before .count-at .ensures .0)
 
 part-put-entries-start-3 : tie.Need-part-put-entries-start-3
@@ -77,9 +77,9 @@ put-entries-requires c κs =
     let counted = c .before .before .before .before .before in
     let seen = counted .before .before .before .before .before in
     let start = seen .before .before .before .before in
-    leaf-holds (start .args .sheet .now) (start .pre .0) _ (counted .count-at .ensures .0) _ _
+    leaf-holds (start .args .sheet .now) (start .args .room .now) (start .pre) _ (counted .count-at .ensures .0) _ _
     (seen .row-of .ensures ∙ ap rowOf (seen .before .word-at .ensures)) (c .before .before .before .header-length .ensures .0)
-    (start .args .room .now) _ (start .pre .1) (counted .before .before .before .put-head .ensures)
+    _ (counted .before .before .before .put-head .ensures)
 
 same-length : tie.Need-same-length
 same-length c = search needs
@@ -90,9 +90,9 @@ returns c =
     let counted = c .before .before .before .before .before .before .before .before in
     let seen = counted .before .before .before .before .before in
     let start = seen .before .before .before .before in
-    leaf-put (start .args .sheet .now) (start .pre .0) _ (counted .count-at .ensures .0) _ _
+    leaf-put (start .args .sheet .now) (start .args .room .now) (start .pre) _ (counted .count-at .ensures .0) _ _
     (seen .row-of .ensures ∙ ap rowOf (seen .before .word-at .ensures))
-    (c .before .before .before .before .before .before .header-length .ensures .0) (start .args .room .now) _ (start .pre .1)
+    (c .before .before .before .before .before .before .header-length .ensures .0) _
     (counted .before .before .before .put-head .ensures) _ (c .before .before .put-entries .ensures)
 
 pub put-leaf-spec : {M : Type 1} → statement M

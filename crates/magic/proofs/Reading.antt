@@ -1,0 +1,102 @@
+-- The causes of a block, one after another, as the tests of the code find them. Assumes nothing.
+use Prim.Native.Nat.{ℕ, _+_, _-_, _≤_}
+use mathlib.Core.Path.{_≡_, refl, sym, ap, _∙_}
+use mathlib.Core.Bool.{Bool, true, false, not, _&&_}
+use mathlib.Core.List.{List, [], _∷_, _++_}
+use lib.Dec.{eqb, lit<}
+use native.Mathlib.Omega.{arith}
+use lib.ListN.{length, take, drop, length-take, length-drop}
+use borrow.Author.Tests.{eq-eqb, ne-eqb, eqb-true, not-false, not-true}
+use Rattle.rom.specs.Geometry.{withMagic, imageLength}
+use Rattle.rom.specs.Bytes.{pick, byteAt, allZero}
+use Rattle.rom.specs.Refusal.{Numbered}
+use Rattle.rom.specs.Store.{laid}
+use Rattle.rom.proofs.First.{exact, none-here}
+use Rattle.rom.proofs.Put.{laid-whole}
+use Rattle.magic.specs.Block.{magicIn, place, zerosAt, lastAt, blockCrcAt, reservedBytes, badReserved}
+use Rattle.magic.specs.Answer.{magicLengthCause, magicBlockCauses, magicReadCauses, magicReadNumber, noMagic, magicReading}
+use Rattle.magic.specs.Answer.{magicWriteCauses, magicWriteNumber}
+use Rattle.magic.specs.Claims.{ExactMagic}
+
+-- ## The reserved bytes: sixteen and one
+
+pub zero-last : (xs : List ℕ) (x : ℕ) → allZero (xs ++ x ∷ []) ≡ (allZero xs && eqb x 0)
+unfolding allZero
+zero-last [] x = go (eqb x 0)
+  where
+    go : (t : Bool) → (t && true) ≡ t
+    go true = refl
+    go false = refl
+zero-last (y ∷ xs) x = ap (λ (t : Bool). eqb y 0 && t) (zero-last xs x) ∙ go (eqb y 0) (allZero xs) (eqb x 0)
+  where
+    go : (a b c : Bool) → (a && (b && c)) ≡ ((a && b) && c)
+    go true b c = refl
+    go false b c = refl
+
+module _ (image : List ℕ) (start end : ℕ) (es : start ≡ place zerosAt) (ee : end ≡ place blockCrcAt) where
+  sixteen : take (end - start) (drop start image) ≡ take 16 (drop (place zerosAt) image)
+  sixteen = let n : end - start ≡ 16 = omega arith in rw (n, es)
+
+  -- `zeros` is the test of the first sixteen
+  pub stray-zeros : (zeros : Bool) → zeros ≡ allZero (take (end - start) (drop start image)) → not zeros ≡ true → true ≡ badReserved image
+  unfolding badReserved reservedBytes
+  stray-zeros zeros e f =
+      let z : allZero (take 16 (drop (place zerosAt) image)) ≡ false = ap allZero (sym sixteen) ∙ sym e ∙ not-true zeros f in
+      rw (zero-last (take 16 (drop (place zerosAt) image)) (byteAt image (place lastAt)), z)
+
+  pub stray-last : (zeros : Bool) → zeros ≡ allZero (take (end - start) (drop start image)) → not zeros ≡ false
+      → not (eqb (byteAt image (place lastAt)) 0) ≡ badReserved image
+  unfolding badReserved reservedBytes
+  stray-last zeros e f =
+      let z : allZero (take 16 (drop (place zerosAt) image)) ≡ true = ap allZero (sym sixteen) ∙ sym e ∙ not-false zeros f in
+      rw (zero-last (take 16 (drop (place zerosAt) image)) (byteAt image (place lastAt)), z)
+
+-- ## The length
+
+module _ (image : List ℕ) (n : ℕ) (long : n ≡ imageLength withMagic) where
+  pub measured : length image ≡ n → magicLengthCause image .met ≡ false
+  unfolding magicLengthCause
+  measured e = rw (← long) (simp (eq-eqb (length image) n e))
+
+  pub not-measured : (length image ≡ n → ⊥) → magicLengthCause image .met ≡ true
+  unfolding magicLengthCause
+  not-measured h = rw (← long) (simp (ne-eqb (length image) n h))
+
+-- six bytes, laid into six
+pub six-laid : (s xs : List ℕ) (at end : ℕ) → length xs ≡ 6 → end ≡ at + 6 → at + 6 ≤ length s
+    → laid xs 0 (take (end - at) (drop at s)) ≡ take 6 (drop at s)
+six-laid s xs at end six e h =
+    let n : end - at ≡ 6 = omega arith in
+    let l : length (take 6 (drop at s)) ≡ length xs = simp (length-take, length-drop) (omega arith) in
+    rw n (laid-whole xs (take 6 (drop at s)) l)
+
+-- ## What is known of a block that is read
+
+pub read-long : (image : List ℕ) → magicReadNumber image ≡ 0 → length image ≡ imageLength withMagic
+unfolding magicReadNumber magicReadCauses magicLengthCause
+read-long image e = eqb-true _ _ (not-false _ (none-here (magicLengthCause image) (magicBlockCauses image) (lit< tt) e .0))
+
+-- the answer, by its number
+pub answer-refused : (image : List ℕ) (n : ℕ) → n ≡ magicReadNumber image → (n ≡ 0 → ⊥)
+    → record { number = n; magic = noMagic } ≡ magicReading image
+unfolding magicReading pick
+answer-refused image n e h = rw (← e) (simp (ne-eqb n 0 h))
+
+pub answer-read : (image : List ℕ) (n : ℕ) → n ≡ magicReadNumber image → n ≡ 0
+    → record { number = n; magic = magicIn image } ≡ magicReading image
+unfolding magicReading pick
+answer-read image n e h = rw (← e) (simp (eq-eqb n 0 h))
+
+-- ## Exact
+
+read-numbered : (image : List ℕ) → Numbered (magicReadCauses image)
+unfolding magicReadCauses magicBlockCauses magicLengthCause
+read-numbered image = (lit< tt, (lit< tt, (lit< tt, tt)))
+
+write-numbered : (image : List ℕ) → Numbered (magicWriteCauses image)
+unfolding magicWriteCauses magicLengthCause
+write-numbered image = (lit< tt, tt)
+
+pub exact-magic : ExactMagic
+unfolding magicReadNumber magicWriteNumber
+exact-magic image = (exact (magicReadCauses image) (read-numbered image) .0, exact (magicWriteCauses image) (write-numbered image) .0)

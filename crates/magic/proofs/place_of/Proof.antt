@@ -1,0 +1,19 @@
+-- A block stands in the image, so its places are small. Assumes nothing.
+use native.Mathlib.Omega.{arith}
+use Rattle.rom.specs.Geometry.{withMagic}
+use Rattle.rom.proofs.Layouts.{geometry}
+use borrow.Author.Needs.{needs}
+use Rattle.magic.proofs.place_of.Statement.{statement}
+use Rattle.magic.proofs.place_of.Tie as tie
+
+magic-at-requires : tie.Need-magic-at-requires
+magic-at-requires c κs = search needs
+
+add-result : tie.Need-add-result
+add-result c = let m = geometry withMagic in omega arith
+
+returns : tie.Need-returns
+returns c = search needs
+
+pub place-of-spec : {M : Type 1} → statement M
+place-of-spec = tie.close (tie.spec magic-at-requires add-result returns)

@@ -1,0 +1,4 @@
+pub mod Block
+pub mod Answer
+pub mod Cases
+pub mod Claims

@@ -1,0 +1,169 @@
+// The Magic Packet block of an image: its reader and its writer (000, section 4; document 02, request 1).
+use rom::ByteOffset;
+use rom::refusal;
+use rom::store::put_byte;
+use rom::store::put_bytes;
+use rom::store::put_word;
+ghost use mathlib.Core.Path.{_≡_};
+ghost use Prim.Native.Nat.{_+_, _≤_};
+ghost use lib.ListN.{length, take, drop, replicate};
+ghost use Rattle.rom.specs.Geometry.{withMagic, imageLength};
+ghost use Rattle.magic.specs.Block.{place, badCrc, badReserved, blockWith};
+ghost use Rattle.magic.specs.Answer.{magicReadNumber, noMagic, magicReading, magicWriteNumber, magicWritten};
+
+// What a block says: the SecureON password, the IEEE address that wakes the station, and the Magic command.
+#[repr(C)]
+pub struct Magic {
+    pub password: [u8; 6],
+    pub address: [u8; 6],
+    pub command: u16,
+}
+
+// What is read of a block, or a refusal's number and zeros.
+#[repr(C)]
+pub struct MagicAnswer {
+    pub number: u8,
+    pub magic: Magic,
+}
+
+// ## Its fields, counted from its first byte
+
+pub const PASSWORD: u8 = 0;
+
+pub const ADDRESS: u8 = 6;
+
+pub const COMMAND: u8 = 12;
+
+// Sixteen reserved bytes, the CRC, and a reserved byte.
+pub const ZEROS: u8 = 14;
+
+pub const CRC: u8 = 30;
+
+pub const LAST: u8 = 31;
+
+// Where a field stands in an image.
+pub fn place_of(field: u8) -> usize
+    ensures { λ r. ⌜ r ≡ place field ⌝ }
+{
+    rom::WITH_MAGIC.magic_at() + (field as usize)
+}
+
+// ## Reading
+
+// Whether the block's CRC is not the stored one.
+fn bad_crc(image: &[u8]) -> bool
+    requires { ⌜ length (now image) ≡ imageLength withMagic ⌝ }
+    ensures { λ r. ⌜ r ≡ badCrc (now (image .entry)) ⌝ }
+{
+    let stored = rom::byte_at(image, ByteOffset(place_of(CRC)));
+    (stored as u16) != crc::magic_crc(image).value
+}
+
+// Whether a reserved byte is not 0.
+fn bad_reserved(image: &[u8]) -> bool
+    requires { ⌜ length (now image) ≡ imageLength withMagic ⌝ }
+    ensures { λ r. ⌜ r ≡ badReserved (now (image .entry)) ⌝ }
+{
+    let start = place_of(ZEROS);
+    let end = place_of(CRC);
+    let zeros = rom::all_zero(&image[start..end]);
+    if !zeros {
+        return true;
+    }
+    rom::byte_at(image, ByteOffset(place_of(LAST))) != 0
+}
+
+// Why a block is refused: 1, 29 or 30.
+pub fn judge(image: &[u8]) -> u8
+    ensures { λ r. ⌜ r ≡ magicReadNumber (now (image .entry)) ⌝ }
+{
+    if image.len() != rom::WITH_MAGIC.image_length() {
+        return refusal::IMAGE_LENGTH;
+    }
+    let crc = bad_crc(image);
+    if crc {
+        return refusal::MAGIC_CRC;
+    }
+    let reserved = bad_reserved(image);
+    if reserved {
+        return refusal::MAGIC_RESERVED;
+    }
+    refusal::ACCEPTED
+}
+
+fn six_at(image: &[u8], at: usize) -> [u8; 6]
+    requires { ⌜ at + 6 ≤ length (now image) ⌝ }
+    ensures { λ r. ⌜ r ≡ take 6 (drop at (now (image .entry))) ⌝ }
+{
+    let mut six = [0u8; 6];
+    let end = at + 6;
+    put_bytes(&mut six, ByteOffset(0), &image[at..end]);
+    six
+}
+
+fn no_magic() -> Magic
+    ensures { λ r. ⌜ r ≡ noMagic ⌝ }
+{
+    Magic {
+        password: [0; 6],
+        address: [0; 6],
+        command: 0,
+    }
+}
+
+// What the block says, or the first refusal.
+pub fn read(image: &[u8]) -> MagicAnswer
+    ensures { λ r. ⌜ r ≡ magicReading (now (image .entry)) ⌝ }
+{
+    let number = judge(image);
+    if number != refusal::ACCEPTED {
+        return MagicAnswer {
+            number,
+            magic: no_magic(),
+        };
+    }
+    MagicAnswer {
+        number,
+        magic: Magic {
+            password: six_at(image, place_of(PASSWORD)),
+            address: six_at(image, place_of(ADDRESS)),
+            command: rom::word_at(image, ByteOffset(place_of(COMMAND))),
+        },
+    }
+}
+
+// ## Writing
+
+fn blank() -> [u8; rom::MAGIC_LENGTH]
+    ensures { λ r. ⌜ r ≡ replicate 32 0 ⌝ }
+{
+    [0; rom::MAGIC_LENGTH]
+}
+
+// The block's bytes, but for its CRC.
+fn block_of(magic: Magic) -> [u8; rom::MAGIC_LENGTH]
+    ensures { λ r. ⌜ r ≡ blockWith 0 magic ⌝ }
+{
+    let mut block = blank();
+    let password = magic.password;
+    put_bytes(&mut block, ByteOffset(PASSWORD as usize), &password);
+    let address = magic.address;
+    put_bytes(&mut block, ByteOffset(ADDRESS as usize), &address);
+    put_word(&mut block, ByteOffset(COMMAND as usize), magic.command);
+    block
+}
+
+// Writes a block behind the board's bytes, which stay as they are.
+pub fn write(magic: Magic, image: &mut [u8]) -> u8
+    ensures { λ r. ⌜ r ≡ magicWriteNumber (now (image .entry)) ⌝ }
+    ensures { λ r. ⌜ now (image .exit) ≡ magicWritten magic (now (image .entry)) ⌝ }
+{
+    if image.len() != rom::WITH_MAGIC.image_length() {
+        return refusal::IMAGE_LENGTH;
+    }
+    let block = block_of(magic);
+    put_bytes(image, ByteOffset(place_of(PASSWORD)), &block);
+    let crc = crc::magic_crc(image).value;
+    put_byte(image, ByteOffset(place_of(CRC)), crc as u8);
+    refusal::ACCEPTED
+}
