@@ -15,6 +15,7 @@ use Rattle.rom.specs.Refusal.{firstMet}
 use Rattle.rom.proofs.First.{none-here, after-accepted, after-refused}
 use Rattle.rom.proofs.Truth.{or-false}
 use Rattle.block.specs.declared.Block.{Block}
+use Rattle.block.specs.declared.Block.the-variants.{Listed, Reset, Unknown, Refused}
 use Rattle.format.specs.Block.{kindOf, isKnown, factsOf, reset, causes, refusalOf, isListed, isReset, isSkipped, isDefault, resetsPhy}
 use Rattle.block.specs.Answer.{blockOf, numberOf, sizeIn}
 use Rattle.format.proofs.Exact.{causes-numbered}
@@ -24,7 +25,7 @@ use Rattle.leaf.specs.Leaf.{cut, countOf, firstFrom, clash, blockCauses,
 use Rattle.leaf.specs.Inside.{startTally, firstNumber, plus}
 use Rattle.leaf.specs.Tally.{noTally, counts, tallyOf}
 use Rattle.leaf.specs.Claims.{SortsAddUp}
-use Rattle.leaf.proofs.Cuts.{cut-more, cut-none, cut-length, rest-part, leaf-accepted}
+use Rattle.leaf.proofs.Cuts.{cut-more, cut-none, cut-length, rest-part, leaf-accepted, size-fits}
 use Rattle.leaf.proofs.Tables.{few-one}
 
 -- ## The tally in words of the causes
@@ -134,6 +135,20 @@ grown {row} {level} {s} k t (a-medium e f g) z = record {
   few = (simp (f, g) (few-one (factsOf (kindOf row s) s .resetsPhy)), simp (f, g) (few-one (factsOf (kindOf row s) s .isDefault)));
 }
 
+-- what is counted is refused as the block is
+plus-number : (t : Tally) (b : Block) (k : ℕ) → t .number ≡ 0 → plus t b k .number ≡ numberOf b
+unfolding noTally
+plus-number t (Listed m) k e = e
+plus-number t (Reset size) k e = e
+plus-number t (Unknown size) k e = e
+plus-number t (Refused n) k e = refl
+
+plus-refused : (t : Tally) (b : Block) (k : ℕ) → (numberOf b ≡ 0 → ⊥) → plus t b k ≡ noTally (numberOf b)
+plus-refused t (Listed m) k h = absurd (h refl)
+plus-refused t (Reset size) k h = absurd (h refl)
+plus-refused t (Unknown size) k h = absurd (h refl)
+plus-refused t (Refused n) k h = refl
+
 default-more : (old k n w : ℕ) (d : Bool) → k < none → pick (eqb old none) (pick d k n) old ≡ w
     → pick (eqb (firstNumber old d k) none) n (firstNumber old d k) ≡ w
 unfolding firstNumber pick
@@ -225,23 +240,33 @@ module _ {row level : ℕ} {whole : List (List ℕ)} {k : ℕ} {t : Tally} (c : 
       rw (at-end .1, ← (at-end .0), e)
       (λ i. record { number = c .number i; listed = l i; resets = r i; skipped = s i; phys = p i; defaults = d i; «default_number» = f i })
 
--- ## The steps of `judge` in its own terms: b is the block that was judged, n its number, z its size.
+-- ## The steps of `judge` in its own terms: b is the block that was judged, u the tally with it, z its size.
 
 module _ (row level count : ℕ) (rest : List ℕ) {whole : List (List ℕ)} {k : ℕ} {t : Tally}
     (inv : Counted row level whole (cut row (count - k) rest) k t) where
-  pub judge-refused : {b : Block} {n : ℕ} {u : Tally} → k < count → b ≡ blockOf row level rest → n ≡ numberOf b → (n ≡ 0 → ⊥)
-      → u ≡ noTally n → u ≡ tallyOf row level whole
-  judge-refused {b} {n} {u} h eb en z eu =
-      let v : Seen row level rest b = rw eb (seen row level rest) in
-      eu ∙ tally-refused (rw cut-more at inv) (sym (seen-number v) ∙ sym en) z
+  module _ (h : k < count) {b : Block} {u : Tally} (eb : b ≡ blockOf row level rest) (eu : u ≡ plus t b k) where
+    view : Seen row level rest b
+    view = rw eb (seen row level rest)
 
-  pub judge-more : {b : Block} {n z : ℕ} {u : Tally} → k < count → count < 256 → b ≡ blockOf row level rest → n ≡ numberOf b → n ≡ 0
-      → u ≡ plus t b k → z ≡ sizeIn b
-      → Counted row level whole (cut row (count - (k + 1)) (take (length rest - z) (drop z rest))) (k + 1) u
-  judge-more {b} {n} {z} {u} h l eb en e eu ez =
-      let v : Seen row level rest b = rw eb (seen row level rest) in
-      let r : refusalOf row level rest ≡ 0 = sym (seen-number v) ∙ sym en ∙ e in
-      rw (rest-part, ez, seen-size v (sym en ∙ e), eu) (counted-more (rw cut-more at inv) r (omega arith) (grown k t v (sym en ∙ e)))
+    same-number : u .number ≡ numberOf b
+    same-number = ap (λ (t : Tally). t .number) eu ∙ plus-number t b k (inv .number)
+
+    pub judge-refused : (u .number ≡ 0 → ⊥) → u ≡ tallyOf row level whole
+    judge-refused n =
+        let m : numberOf b ≡ 0 → ⊥ = λ e. n (same-number ∙ e) in
+        eu ∙ plus-refused t b k m ∙ tally-refused (rw cut-more at inv) (sym (seen-number view)) m
+
+    module _ (e : u .number ≡ 0) {z : ℕ} (ez : z ≡ sizeIn b) where
+      fine : numberOf b ≡ 0
+      fine = sym same-number ∙ e
+
+      pub judge-fits : z ≤ length rest
+      judge-fits = size-fits row level rest eb refl fine ez
+
+      pub judge-more : count < 256 → Counted row level whole (cut row (count - (k + 1)) (take (length rest - z) (drop z rest))) (k + 1) u
+      judge-more l =
+          rw (rest-part, ez, seen-size view fine, eu)
+          (counted-more (rw cut-more at inv) (sym (seen-number view) ∙ fine) (omega arith) (grown k t view fine))
 
   pub judge-18 : {m : Bool} {u : Tally} → count ≤ k → m ≡ clash (t .resets) (t .phys) (t .defaults) → m ≡ true → u ≡ noTally 18
       → u ≡ tallyOf row level whole

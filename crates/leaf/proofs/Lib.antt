@@ -1,4 +1,5 @@
 pub mod Cuts
+pub mod Stepping
 pub mod Tables
 pub mod Counts
 pub mod Computes

@@ -1,12 +1,13 @@
--- Cases a to j of document 01, 'Blocks to prove', and others on its rules, over the definitions.
-use Prim.Native.Nat.{ℕ, _-_}
+-- Cases a to j of document 01, 'Blocks to prove', and others on its rules, over the definitions; and where blocks start (document
+-- 02, request 2).
+use Prim.Native.Nat.{ℕ, suc, _-_}
 use mathlib.Core.List.{List, [], _∷_, _++_, map}
 use lib.Dec.{eqb}
 use lib.ListN.{take, drop, replicate}
 use Rattle.rom.specs.Geometry.{withoutMagic, leavesEnd}
 use Rattle.rom.specs.Bytes.{pick, byteAt}
 use Rattle.format.specs.Chips.{rowOf, row21140}
-use Rattle.leaf.specs.Leaf.{cut, tableOf, kindAt, startAt}
+use Rattle.leaf.specs.Leaf.{cut, startByStepping, runningStart, tableOf, kindAt, startAt}
 use Rattle.leaf.specs.Tally.{tallyOf}
 
 -- a chip, a level, a leaf's bytes from byte 30 of the image on, and what is answered: the refusal's number, how many blocks
@@ -146,4 +147,51 @@ furtherCases =
     ∷ refused 21143 6 (leafReset (0x8F ∷ 0x03 ∷ 0x00 ∷ 0x00 ∷ 0x01 ∷ dots 11)) 18
     ∷ accepted 21143 6 (leafReset (0x8D ∷ 0x03 ∷ 0x00 ∷ 0x00 ∷ 0x00 ∷ dots 9)) 1 1 0 (3 ∷ []) (36 ∷ [])
     ∷ accepted 21143 5 leafI 0 0 2 [] []
+    ∷ []
+
+-- ## Where blocks start
+
+-- a chip, its blocks' bytes, and where block 0, block 1 and so on start; the last is where they end
+pub record StartsCase : Type 0 where
+  pub chip : ℕ
+  pub blocks : List ℕ
+  pub starts : List ℕ
+
+-- the start of block k by a rule, and of as many behind it as are asked for
+unfoldable pub startsFrom : (ℕ → ℕ) → ℕ → List ℕ → List ℕ
+startsFrom start k [] = []
+startsFrom start k (_ ∷ more) = start k ∷ startsFrom start (suc k) more
+
+unfoldable pub runStepped : StartsCase → StartsCase
+runStepped c =
+    let row = rowOf (c .chip) in
+    record {
+      chip = c .chip;
+      blocks = c .blocks;
+      starts = startsFrom (λ k. startByStepping row (firstBlockAt row) k (c .blocks)) 0 (c .starts);
+    }
+
+-- in an image that has the blocks where the first one stands
+unfoldable pub runKept : StartsCase → StartsCase
+runKept c =
+    let row = rowOf (c .chip) in
+    let image = replicate (firstBlockAt row) 0 ++ c .blocks in
+    record {
+      chip = c .chip;
+      blocks = c .blocks;
+      starts = startsFrom (λ k. runningStart row (firstBlockAt row) k image) 0 (c .starts);
+    }
+
+abbrev starting : ℕ → List ℕ → List ℕ → StartsCase
+starting chip blocks starts = record { chip = chip; blocks = blocks; starts = starts }
+
+-- no block; type 2, an unknown type and type 5; 21041 blocks with EXT and without; compact blocks around an unknown type; one
+-- block to where leaves end
+unfoldable pub startsCases : List StartsCase
+startsCases =
+    starting 21143 ([]) (33 ∷ [])
+    ∷ starting 21143 (0x86 ∷ 0x02 ∷ replicate 5 0 ++ 0x81 ∷ 0x09 ∷ 0x82 ∷ 0x05 ∷ 0x00 ∷ []) (33 ∷ 40 ∷ 42 ∷ 45 ∷ [])
+    ∷ starting 21041 (0x41 ∷ replicate 6 0 ++ 0x02 ∷ 0x04 ∷ []) (33 ∷ 40 ∷ 41 ∷ 42 ∷ [])
+    ∷ starting 21140 (replicate 4 0 ++ 0x81 ∷ 0x09 ∷ 0x03 ∷ replicate 3 0) (34 ∷ 38 ∷ 40 ∷ 44 ∷ [])
+    ∷ starting 21143 (0xDA ∷ 0x09 ∷ replicate 89 0) (33 ∷ 124 ∷ [])
     ∷ []

@@ -7,6 +7,7 @@ use Rattle.rom.specs.Bytes.{pick, one}
 use Rattle.block.specs.declared.Block.{Block}
 use Rattle.block.specs.declared.Block.the-variants.{Listed, Reset, Unknown, Refused}
 use Rattle.leaf.specs.declared.Tally.{Tally}
+use Rattle.leaf.specs.Tally.{noTally}
 
 unfoldable pub startTally : Tally
 startTally = record { number = 0; listed = 0; resets = 0; skipped = 0; phys = 0; defaults = 0; «default_number» = none }
@@ -15,7 +16,7 @@ startTally = record { number = 0; listed = 0; resets = 0; skipped = 0; phys = 0;
 unfoldable pub firstNumber : ℕ → Bool → ℕ → ℕ
 firstNumber old marked number = pick (eqb old none) (pick marked number none) old
 
--- with block `number` more
+-- with block `number` more; a refused one's number and zeros
 abbrev pub plus : Tally → Block → ℕ → Tally
 plus t (Listed m) number = record {
   number = t .number;
@@ -46,4 +47,4 @@ plus t (Unknown size) number =
       defaults = t .defaults;
       «default_number» = t .«default_number»;
     }
-plus t (Refused n) number = t
+plus t (Refused n) number = noTally n

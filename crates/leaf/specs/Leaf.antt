@@ -1,5 +1,5 @@
--- The blocks of a leaf (document 01, 'Leaf and blocks', 'Levels and the table'). Each is given as the leaf's rest from its
--- first byte on. No level changes where they are cut: the level only judges and lists.
+-- The blocks of a leaf (document 01, 'Leaf and blocks', 'Levels and the table'; document 02, request 2). Each is given as the
+-- leaf's rest from its first byte on. No level changes where they are cut: the level only judges and lists.
 use Prim.Native.Nat.{ℕ, zero, suc, _+_}
 use mathlib.Core.List.{List, [], _∷_, _++_, reverse}
 use mathlib.Core.Bool.{Bool, _||_, _&&_}
@@ -55,6 +55,20 @@ pub record Place : Type 0 where
 unfoldable pub placed : ℕ → ℕ → List (List ℕ) → List Place
 placed row at [] = []
 placed row at (s ∷ bs) = record { start = at; rest = s } ∷ placed row (at + sizeOf row s) bs
+
+-- block k, found by k steps from the first, which stands at `at`: each goes on by the size of the block there
+unfoldable pub placeByStepping : ℕ → ℕ → ℕ → List ℕ → Place
+placeByStepping row at zero s = record { start = at; rest = s }
+placeByStepping row at (suc k) s = placeByStepping row (at + sizeOf row s) k (drop (sizeOf row s) s)
+
+abbrev pub startByStepping : ℕ → ℕ → ℕ → List ℕ → ℕ
+startByStepping row at k s = placeByStepping row at k s .start
+
+-- block k's start in an image, kept from block to block: that of the block before it, and the size of the block that starts there
+unfoldable pub runningStart : ℕ → ℕ → ℕ → List ℕ → ℕ
+runningStart row first zero image = first
+runningStart row first (suc k) image =
+    runningStart row first k image + sizeOf row (drop (runningStart row first k image) image)
 
 unfoldable pub keep : (Place → Bool) → List Place → List Place
 keep p [] = []

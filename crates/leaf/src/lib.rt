@@ -85,7 +85,7 @@ fn first_number(old: u8, marked: bool, number: u8) -> u8
     rom::NONE
 }
 
-// A tally with block `number` more.
+// A tally with block `number` more, or a refused one's number and zeros.
 fn counted(t: Tally, b: Block, number: u8) -> Tally
     requires { ⌜ (t .listed < 255) × (t .resets < 255) × (t .skipped < 255) × (t .phys < 255) × (t .defaults < 255) ⌝ }
     ensures { λ r. ⌜ r ≡ plus t b number ⌝ }
@@ -104,7 +104,9 @@ fn counted(t: Tally, b: Block, number: u8) -> Tally
         Block::Unknown { size: _ } => {
             next.skipped = t.skipped + 1;
         }
-        Block::Refused(_) => {}
+        Block::Refused(refused) => {
+            next = refused_tally(refused);
+        }
     }
     next
 }
@@ -118,11 +120,10 @@ pub fn judge(blocks: &[u8], count: u8, row: usize, level: u8) -> Tally
     let mut t = start_tally();
     while k < count {
         let b = block::judge_block(rest, row, level);
-        let number = block::number_of(b);
-        if number != refusal::ACCEPTED {
-            return refused_tally(number);
-        }
         t = counted(t, b, k);
+        if t.number != refusal::ACCEPTED {
+            return t;
+        }
         let step = block::size_of(b);
         rest = &rest[step..];
         k += 1;

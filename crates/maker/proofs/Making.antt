@@ -5,11 +5,11 @@ use native.Mathlib.Nat.{zero-add}
 use mathlib.Core.Path.{_≡_, sym, ap, _∙_}
 use mathlib.Core.Bool.{Bool, true, false, not}
 use mathlib.Core.List.{List, [], _∷_, _++_}
-use lib.ListN.{length, drop, length-take}
+use lib.ListN.{length, drop}
 use lib.Dec.{eqb, ltb}
 use borrow.Author.Tests.{eq-eqb, ne-eqb, lt-ltb, le-ltb}
 use Rattle.rom.specs.declared.Layout.{Layout}
-use Rattle.rom.specs.Geometry.{imageLength, leavesEnd, controllerCountAt, controllersAt}
+use Rattle.rom.specs.Geometry.{imageLength, controllerCountAt, controllersAt}
 use Rattle.rom.specs.Bytes.{pick, byteAt, wordAt, allZero}
 use Rattle.rom.specs.Store.{put}
 use Rattle.rom.specs.Refusal.{_⇒_, firstMet}
@@ -20,7 +20,7 @@ use Rattle.rom.proofs.Put.{put-length}
 use Rattle.header.specs.Image.{controllerCount, leafAt, restFrom}
 use Rattle.reader.specs.declared.Reading.{Reading}
 use Rattle.reader.specs.Reading.{judgeCauses, acceptedAnswer, acceptedReading, judgedReading}
-use Rattle.reader.proofs.Readings.{Accepted, accepted-judged, reading-number, reading-start, reading-blocks}
+use Rattle.reader.proofs.Readings.{Accepted, accepted-judged, reading-number}
 use Rattle.reader.proofs.Promised.{judge-numbered}
 use Rattle.sheet.specs.Lists.{over}
 use Rattle.sheet.specs.Layout.{chipAt, headLength}
@@ -32,7 +32,8 @@ use Rattle.maker.specs.declared.parts.Measured.{Measured}
 use Rattle.maker.specs.Answer.{madeFor}
 use Rattle.maker.specs.Inside.{refusedMade, AcceptedBlocks, entriesOf, measuredOf, isTidyFrom, frontBytes, fieldBytes, Sheetable}
 use Rattle.maker.proofs.Sheets.{enough, front-long, field-long, third-room, three-put, read-whole, read-entries, read-sheet}
-use Rattle.maker.proofs.Sheets.{read-long}
+use Rattle.maker.proofs.Sheets.{read-leaf, leaves-long, read-blocks, read-long}
+use Rattle.maker.proofs.Measuring.{stepping-sizes}
 
 -- ## Whether an image is tidy
 
@@ -87,17 +88,21 @@ module _ {l : Layout} {sheet image : List ℕ} {chip total : ℕ} {r : Reading} 
     )
 
     module _ {two : List ℕ} (e₂ : two ≡ put one chipAt (fieldBytes l chip (r .answer) image)) where
-      module _ (rest : List ℕ) (q : rest ≡ restFrom l image (r .start)) where
-        pub parts-room : AcceptedBlocks (r .row) (r .answer .blocks) rest
-            × (headLength + length (partsOf (entriesOf (r .row) (r .answer .blocks) rest)) ≤ length two)
-        unfolding newest
-        parts-room =
-            rw q (reading-blocks its-reading, third-room sheet 0 _ _ _ all-room e₁ (omega (arith, front)) e₂ (omega (arith, field)))
+      module _ (leaves : List ℕ) (q : leaves ≡ restFrom l image 0) where
+        pub parts-room : ((r .start ≤ length leaves) × AcceptedBlocks (r .row) (r .answer .blocks) (drop (r .start) leaves))
+            × (headLength + length (partsOf (entriesOf (r .row) (r .answer .blocks) (drop (r .start) leaves))) ≤ length two)
+        parts-room = (
+          read-blocks l chip its-reading leaves q,
+          rw (read-leaf l chip its-reading leaves q)
+              (third-room sheet 0 _ _ _ all-room e₁ (omega (arith, front)) e₂ (omega (arith, field))),
+        )
 
-        pub sheet-put : {three : List ℕ} → three ≡ put two headLength (partsOf (entriesOf (r .row) (r .answer .blocks) rest))
+        pub sheet-put : {three : List ℕ}
+            → three ≡ put two headLength (partsOf (entriesOf (r .row) (r .answer .blocks) (drop (r .start) leaves)))
             → three ≡ put sheet 0 (sheetFor l image chip)
         sheet-put e₃ =
-            three-put sheet 0 _ _ _ all-room e₁ (omega (arith, front)) e₂ (omega (arith, field)) (rw q at e₃)
+            three-put sheet 0 _ _ _ all-room e₁ (omega (arith, front)) e₂ (omega (arith, field))
+            (rw (read-leaf l chip its-reading leaves q) at e₃)
             ∙ ap (put sheet 0) (read-sheet l chip its-reading total (t .bodies))
 
 -- ## The call
@@ -124,35 +129,34 @@ module _ (l : Layout) (image : List ℕ) (chip : ℕ) (r : Reading) (er : r ≡ 
     pub is-read : Accepted image (newest l chip) r
     is-read = accepted-judged image (newest l chip) r er z
 
-    pub blocks-read : (rest : List ℕ) → rest ≡ restFrom l image (r .start) → AcceptedBlocks (r .row) (r .answer .blocks) rest
-    unfolding newest
-    blocks-read rest q = rw q (reading-blocks is-read)
-
     past-reading : (room : ℕ) → makeNumber l image chip room
         ≡ firstMet ((27 ⇒ not (isTidy l chip image)) ∷ (12 ⇒ ltb room (length (sheetFor l image chip))) ∷ [])
     unfolding makeNumber makeCauses
     past-reading room = after-accepted (judgeCauses image (newest l chip)) _ (judge-numbered image (newest l chip)) (sym number-read ∙ z)
 
-    module _ (rest : List ℕ) (q : rest ≡ restFrom l image (r .start)) (m : Measured)
-        (em : m ≡ measuredOf (r .row) (r .answer .blocks) rest) where
-      measured : m ≡ measuredOf (r .row) (r .answer .blocks) (restFrom l image (r .start))
-      measured = rw q at em
+    module _ (leaves : List ℕ) (q : leaves ≡ restFrom l image 0) (m : Measured)
+        (em : m ≡ measuredOf (r .row) (r .start) (r .answer .blocks) (drop (r .start) leaves)) where
+      measured : m ≡ measuredOf (r .row) (r .start) (r .answer .blocks) (restFrom l image (r .start))
+      measured = rw (read-leaf l chip is-read leaves q) at em
 
-      pub end-fits : m .size ≤ length rest → r .start + m .size ≤ 128
-      unfolding restFrom newest
-      end-fits h =
-          let g = geometry l in
-          omega (arith, ap length q, reading-start is-read, length-take (leavesEnd l - r .start) (drop (r .start) image))
+      pub end-fits : m .end ≤ length leaves → m .end ≤ 128
+      end-fits h = let g = geometry l in omega (arith, leaves-long l chip is-read leaves q)
 
       bodies-are : m .bodies ≡ length (bodyBytes (imageFrom l chip image .entries))
       unfolding measuredOf
       bodies-are = rw (measured, read-entries l chip is-read)
 
-      tidy-is : isTidyFrom l (r .start + m .size) image ≡ isTidy l chip image
-      unfolding isTidyFrom isTidy leafEnd measuredOf acceptedReading acceptedAnswer newest
-      tidy-is = rw (measured, is-read .known)
+      end-is : m .end ≡ leafEnd l chip image
+      unfolding leafEnd measuredOf acceptedReading acceptedAnswer newest
+      end-is =
+          rw measured
+          (stepping-sizes (r .row) (r .start) (r .answer .blocks) (restFrom l image (r .start)) ∙ rw (is-read .known))
 
-      module _ (room : ℕ) {t : Bool} (et : t ≡ isTidyFrom l (r .start + m .size) image) where
+      tidy-is : isTidyFrom l (m .end) image ≡ isTidy l chip image
+      unfolding isTidyFrom isTidy
+      tidy-is = rw end-is
+
+      module _ (room : ℕ) {t : Bool} (et : t ≡ isTidyFrom l (m .end) image) where
         pub make-untidy : t ≡ false → 27 ≡ makeNumber l image chip room
         make-untidy e = reached (stop (ap not (sym (et ∙ tidy-is) ∙ e))) ∙ sym (past-reading room)
 

@@ -1,6 +1,7 @@
 -- What is laid in one behind the other, and that it is the sheet. Assumes nothing.
 use Prim.Native.Nat.{ℕ, _+_, _*_, _-_, _≤_}
 use native.Mathlib.Omega.{arith}
+use native.Mathlib.Nat.{sub-zero}
 use mathlib.Core.Path.{_≡_, refl, sym, ap, ap₂, _∙_}
 use mathlib.Core.List.{List, [], _∷_, _++_, append-assoc}
 use lib.ListN.{length, take, drop, length-append, length-drop}
@@ -16,15 +17,16 @@ use Rattle.header.proofs.Headers.{whole-image}
 use Rattle.reader.specs.declared.Answer.{Answer}
 use Rattle.reader.specs.declared.Reading.{Reading}
 use Rattle.reader.specs.Reading.{acceptedAnswer, acceptedReading}
-use Rattle.reader.proofs.Readings.{Accepted}
+use Rattle.reader.proofs.Readings.{Accepted, reading-start, reading-end, reading-blocks}
 use Rattle.sheet.specs.Layout.{chipAt, headLength}
 use Rattle.sheet.specs.Record.{Entry}
-use Rattle.sheet.specs.Sheet.{headOf, kindBytes, sizeBytes, bodyBytes, partsOf, sheetOf}
+use Rattle.sheet.specs.Sheet.{headOf, bodyBytes, partsOf, sheetOf}
 use Rattle.sheet.specs.Image.{leafStart, newest, imageFrom}
 use Rattle.sheet.specs.Make.{sheetFor}
 use Rattle.sheet.proofs.Blocks.{entries-length}
 use Rattle.sheet.proofs.Sheets.{kind-length, size-length}
-use Rattle.maker.specs.Inside.{entriesOf, frontBytes, fieldBytes}
+use Rattle.maker.specs.Inside.{AcceptedBlocks, entriesOf, frontBytes, fieldBytes}
+use Rattle.maker.proofs.Blocks.{drop-take}
 
 -- ## Three parts
 
@@ -32,14 +34,14 @@ module _ (sheet : List ℕ) (at : ℕ) (a b c : List ℕ) (room : at + length (a
   long : length (a ++ (b ++ c)) ≡ length a + (length b + length c)
   long = length-append a (b ++ c) ∙ ap (λ (n : ℕ). length a + n) (length-append b c)
 
-  pub first-room : at + length a ≤ length sheet
+  first-room : at + length a ≤ length sheet
   first-room = omega (arith, long)
 
   module _ {one : List ℕ} {next : ℕ} (e₁ : one ≡ put sheet at a) (n₁ : next ≡ at + length a) where
     same₁ : length one ≡ length sheet
     same₁ = ap length e₁ ∙ put-length sheet at a first-room
 
-    pub second-room : next + length b ≤ length one
+    second-room : next + length b ≤ length one
     second-room = omega (arith, long, same₁, n₁)
 
     module _ {two : List ℕ} {last : ℕ} (e₂ : two ≡ put one next b) (n₂ : last ≡ next + length b) where
@@ -157,7 +159,7 @@ module _ (l : Layout) (image : List ℕ) (whole : length image ≡ imageLength l
 
 -- ## The parts
 
-entries-long : (row count : ℕ) (s : List ℕ) → length (entriesOf row count s) ≡ count
+pub entries-long : (row count : ℕ) (s : List ℕ) → length (entriesOf row count s) ≡ count
 unfolding entriesOf
 entries-long = entries-length
 
@@ -165,31 +167,29 @@ pub parts-long : (es : List Entry) → length (partsOf es) ≡ 3 * length es + l
 unfolding partsOf
 parts-long es = simp length-append (omega (arith, kind-length es, size-length es))
 
-module _ (sheet : List ℕ) (es : List Entry) (room : headLength + length (partsOf es) ≤ length sheet) where
-  pub kinds-room : headLength + length (kindBytes es) ≤ length sheet
-  unfolding partsOf
-  kinds-room = first-room sheet headLength (kindBytes es) (sizeBytes es) (bodyBytes es) room
-
-  module _ {one : List ℕ} {next : ℕ} (e₁ : one ≡ put sheet headLength (kindBytes es)) (n₁ : next ≡ headLength + length (kindBytes es)) where
-    pub sizes-room : next + length (sizeBytes es) ≤ length one
-    unfolding partsOf
-    sizes-room = second-room sheet headLength (kindBytes es) (sizeBytes es) (bodyBytes es) room e₁ n₁
-
-    module _ {two : List ℕ} {last : ℕ} (e₂ : two ≡ put one next (sizeBytes es)) (n₂ : last ≡ next + length (sizeBytes es)) where
-      pub bodies-room : last + length (bodyBytes es) ≤ length two
-      unfolding partsOf
-      bodies-room = third-room sheet headLength (kindBytes es) (sizeBytes es) (bodyBytes es) room e₁ n₁ e₂ n₂
-
-      pub parts-put : {three : List ℕ} → three ≡ put two last (bodyBytes es) → three ≡ put sheet headLength (partsOf es)
-      unfolding partsOf
-      parts-put e₃ = three-put sheet headLength (kindBytes es) (sizeBytes es) (bodyBytes es) room e₁ n₁ e₂ n₂ e₃
-
 -- ## The sheet of an image that is read
 
 module _ (l : Layout) (chip : ℕ) {image : List ℕ} {r : Reading} (c : Accepted image (newest l chip) r) where
   pub read-whole : length image ≡ imageLength l
   unfolding newest
   read-whole = whole-image image (newest l chip) (c .header)
+
+  -- the leaf's blocks, in the image up to where leaves end
+  module _ (leaves : List ℕ) (q : leaves ≡ restFrom l image 0) where
+    pub read-leaf : drop (r .start) leaves ≡ restFrom l image (r .start)
+    unfolding restFrom newest
+    read-leaf =
+        let e : leavesEnd l - 0 ≡ r .start + (leavesEnd l - r .start) = omega (arith, reading-start c) in
+        ap (drop (r .start)) (q ∙ ap (λ (n : ℕ). take n image) e) ∙ drop-take (r .start) (leavesEnd l - r .start) image
+
+    pub leaves-long : length leaves ≡ leavesEnd l
+    unfolding restFrom newest
+    leaves-long =
+        ap length q ∙ ap (λ (n : ℕ). length (take n image)) (sub-zero (leavesEnd l)) ∙ length-take-le (leavesEnd l) image (reading-end c)
+
+    pub read-blocks : (r .start ≤ length leaves) × AcceptedBlocks (r .row) (r .answer .blocks) (drop (r .start) leaves)
+    unfolding newest
+    read-blocks = (omega (arith, leaves-long, reading-start c), rw read-leaf (reading-blocks c))
 
   pub read-entries : entriesOf (r .row) (r .answer .blocks) (restFrom l image (r .start)) ≡ imageFrom l chip image .entries
   unfolding entriesOf imageFrom acceptedReading acceptedAnswer newest

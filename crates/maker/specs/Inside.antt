@@ -12,13 +12,13 @@ use Rattle.rom.specs.Store.{wordBytes}
 use Rattle.rom.specs.Refusal.{firstMet}
 use Rattle.format.specs.Chips.{newestLevel}
 use Rattle.header.specs.Image.{controllerCount, leafAt}
-use Rattle.leaf.specs.Leaf.{cut, blockCauses}
+use Rattle.leaf.specs.Leaf.{cut, blockCauses, startByStepping}
 use Rattle.reader.specs.declared.Answer.{Answer}
 use Rattle.reader.specs.declared.Reading.{Reading}
 use Rattle.reader.specs.Reading.{judgedReading}
 use Rattle.sheet.specs.Record.{Entry}
 use Rattle.sheet.specs.Sheet.{bodyBytes}
-use Rattle.sheet.specs.Image.{leafStart, entryFrom, sizes, upToLeavesEnd, newest, imageFrom}
+use Rattle.sheet.specs.Image.{leafStart, entryFrom, upToLeavesEnd, newest, imageFrom}
 use Rattle.sheet.specs.Make.{sheetFor}
 use Rattle.maker.specs.declared.Made.{Made}
 use Rattle.maker.specs.declared.parts.Measured.{Measured}
@@ -37,9 +37,10 @@ AcceptedBlocks row count s = firstMet (blockCauses row newestLevel (cut row coun
 unfoldable pub entriesOf : ℕ → ℕ → List ℕ → List Entry
 entriesOf row count s = map (entryFrom row) (cut row count s)
 
--- the bytes that they take, and those of their bodies
-unfoldable pub measuredOf : ℕ → ℕ → List ℕ → Measured
-measuredOf row count s = record { size = sizes row (cut row count s); bodies = length (bodyBytes (entriesOf row count s)) }
+-- where they end, the first being at `first`, and how many bytes their bodies have
+unfoldable pub measuredOf : ℕ → ℕ → ℕ → List ℕ → Measured
+measuredOf row first count s =
+    record { end = startByStepping row first count s; bodies = length (bodyBytes (entriesOf row count s)) }
 
 -- n = 1, leaf at 30, zeros from a place up to where leaves end
 unfoldable pub isTidyFrom : Layout → ℕ → List ℕ → Bool

@@ -95,8 +95,8 @@ fn put_sheet(sheet: &mut [u8], image: &[u8], chip: u16, layout: Layout, reading:
     let answer = reading.answer;
     put_front(sheet, image, answer.blocks, total);
     put_fields(sheet, image, chip, layout, answer);
-    let rest = header::rest_from(image, layout, reading.start);
-    parts::put_parts(sheet, rest, answer.blocks, reading.row);
+    let leaves = header::rest_from(image, layout, 0);
+    parts::put_parts(sheet, leaves, reading.start, answer.blocks, reading.row);
 }
 
 // The sheet of a tidy image for a chip, for the newest level and controller 0. A refusal leaves the buffer as it was, and
@@ -118,10 +118,10 @@ pub fn make(image: &[u8], chip: u16, layout: Layout, buffer: &mut [u8]) -> Made
     if answer.number != refusal::ACCEPTED {
         return refused(answer.number);
     }
-    let start = reading.start;
-    let rest = header::rest_from(image, layout, start);
-    let measured = parts::measure(rest, answer.blocks, reading.row);
-    let tidy = is_tidy(image, layout, start + measured.size);
+    // The image up to where leaves end.
+    let leaves = header::rest_from(image, layout, 0);
+    let measured = parts::measure(leaves, reading.start, answer.blocks, reading.row);
+    let tidy = is_tidy(image, layout, measured.end);
     if !tidy {
         return refused(refusal::UNTIDY);
     }

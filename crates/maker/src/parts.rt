@@ -1,22 +1,19 @@
-// A sheet's parts that go by blocks: kinds, body sizes and bodies, each in a pass over an accepted leaf's blocks. Blocks of
-// unknown types are carried too.
+// A sheet's parts that go by blocks: where an accepted leaf's blocks end, and the kind, body size and body of each. Both passes keep
+// the next block's start in `leaves`, the image up to where leaves end. Blocks of unknown types are carried too.
 use block::shape;
-use rom::ByteOffset;
-use rom::store::put_byte;
-use rom::store::put_bytes;
-use rom::store::put_word;
 ghost use mathlib.Core.Path.{_≡_};
-ghost use Prim.Native.Nat.{_+_, _≤_};
-ghost use lib.ListN.{length};
-ghost use Rattle.rom.specs.Store.{put};
+ghost use mathlib.Core.List.{[], _∷_};
+ghost use Prim.Native.Nat.{_+_, _≤_, _<_};
+ghost use lib.ListN.{length, drop};
+ghost use Rattle.rom.specs.Store.{wordBytes, put};
 ghost use Rattle.sheet.specs.Layout.{headLength};
-ghost use Rattle.sheet.specs.Sheet.{kindBytes, sizeBytes, bodyBytes, partsOf};
+ghost use Rattle.sheet.specs.Sheet.{partsOf};
 ghost use Rattle.sheet.specs.Image.{openingLength};
 ghost use Rattle.maker.specs.Inside.{AcceptedBlocks, entriesOf, measuredOf};
 
-// How many bytes a leaf's blocks take, and how many of those their bodies.
+// Where a leaf's blocks end, and how many bytes their bodies have.
 pub(crate) struct Measured {
-    pub size: usize,
+    pub end: usize,
     pub bodies: usize,
 }
 
@@ -31,97 +28,75 @@ fn opening_length(rest: &[u8], row: usize) -> usize
     0
 }
 
-pub(crate) fn measure(blocks: &[u8], count: u8, row: usize) -> Measured
-    requires { ⌜ AcceptedBlocks row count (now blocks) ⌝ }
-    ensures { λ r. ⌜ r ≡ measuredOf row count (now (blocks .entry)) ⌝ }
-    ensures { λ r. ⌜ (r .size ≤ length (now (blocks .entry))) × (r .bodies ≤ r .size) ⌝ }
+pub(crate) fn measure(leaves: &[u8], first: usize, count: u8, row: usize) -> Measured
+    requires { ⌜ (first ≤ length (now leaves)) × AcceptedBlocks row count (drop first (now leaves)) ⌝ }
+    ensures { λ r. ⌜ r ≡ measuredOf row first count (drop first (now (leaves .entry))) ⌝ }
+    ensures { λ r. ⌜ (r .end ≤ length (now (leaves .entry))) × (r .bodies ≤ r .end) ⌝ }
 {
-    let mut rest = blocks;
+    let mut end = first;
     let mut k = 0u8;
-    let mut used: usize = 0;
-    let mut total: usize = 0;
+    let mut bodies: usize = 0;
     while k < count {
+        let rest = &leaves[end..];
         let size = shape::size_at(rest, row);
         let opening = opening_length(rest, row);
-        used += size;
-        total += size - opening;
-        rest = &rest[size..];
+        bodies += size - opening;
+        end += size;
         k += 1;
     }
-    Measured {
-        size: used,
-        bodies: total,
-    }
+    Measured { end, bodies }
 }
 
-// Each pass answers where the next part stands.
-fn put_kinds(sheet: &mut [u8], at: usize, blocks: &[u8], count: u8, row: usize) -> usize
-    requires { ⌜ AcceptedBlocks row count (now blocks) ⌝ }
-    requires { ⌜ at + length (kindBytes (entriesOf row count (now blocks))) ≤ length (now sheet) ⌝ }
-    ensures { λ r. ⌜ r ≡ at + length (kindBytes (entriesOf row count (now (blocks .entry)))) ⌝ }
-    ensures { λ r. ⌜ now (sheet .exit) ≡ put (now (sheet .entry)) at (kindBytes (entriesOf row count (now (blocks .entry)))) ⌝ }
+// Lays in a block's kind, its body's size and its body, each at its own place.
+fn put_entry(
+    sheet: &mut [u8],
+    kind: u16,
+    body: &[u8],
+    kind_at: usize,
+    size_at: usize,
+    body_at: usize,
+)
+    requires { ⌜ («kind_at» + 2 ≤ length (now sheet)) × («size_at» + 1 ≤ length (now sheet)) ⌝ }
+    requires { ⌜ («body_at» + length (now body) ≤ length (now sheet)) × (length (now body) < 256) ⌝ }
+    ensures { λ _. ⌜ now (sheet .exit)
+        ≡ put (put (put (now (sheet .entry)) «kind_at» (wordBytes kind)) «size_at» (length (now (body .entry)) ∷ [])) «body_at»
+        (now (body .entry)) ⌝ }
 {
-    let mut rest = blocks;
-    let mut k = 0u8;
-    let mut to = at;
-    while k < count {
-        let kind = shape::kind_at(rest, row);
-        put_word(sheet, ByteOffset(to), kind);
-        to += 2;
-        let size = shape::size_at(rest, row);
-        rest = &rest[size..];
-        k += 1;
-    }
-    to
+    sheet[kind_at] = (kind % 256) as u8;
+    sheet[kind_at + 1] = (kind / 256) as u8;
+    sheet[size_at] = body.len() as u8;
+    let end = body_at + body.len();
+    bytes::copy(body, &mut sheet[body_at..end]);
 }
 
-fn put_sizes(sheet: &mut [u8], at: usize, blocks: &[u8], count: u8, row: usize) -> usize
-    requires { ⌜ AcceptedBlocks row count (now blocks) ⌝ }
-    requires { ⌜ at + length (sizeBytes (entriesOf row count (now blocks))) ≤ length (now sheet) ⌝ }
-    ensures { λ r. ⌜ r ≡ at + length (sizeBytes (entriesOf row count (now (blocks .entry)))) ⌝ }
-    ensures { λ r. ⌜ now (sheet .exit) ≡ put (now (sheet .entry)) at (sizeBytes (entriesOf row count (now (blocks .entry)))) ⌝ }
+// The three parts behind a sheet's head, in one pass.
+pub(crate) fn put_parts(sheet: &mut [u8], leaves: &[u8], first: usize, count: u8, row: usize)
+    requires { ⌜ (first ≤ length (now leaves)) × AcceptedBlocks row count (drop first (now leaves)) ⌝ }
+    requires { ⌜ headLength + length (partsOf (entriesOf row count (drop first (now leaves)))) ≤ length (now sheet) ⌝ }
+    ensures { λ _. ⌜ now (sheet .exit)
+        ≡ put (now (sheet .entry)) headLength (partsOf (entriesOf row count (drop first (now (leaves .entry))))) ⌝ }
 {
-    let mut rest = blocks;
+    let sizes_at = sheet::HEAD_LENGTH + 2 * (count as usize);
+    let mut body_at = sizes_at + (count as usize);
+    let mut start = first;
     let mut k = 0u8;
-    let mut to = at;
     while k < count {
-        let size = shape::size_at(rest, row);
-        let opening = opening_length(rest, row);
-        let body = (size - opening) as u8;
-        put_byte(sheet, ByteOffset(to), body);
-        to += 1;
-        rest = &rest[size..];
-        k += 1;
-    }
-    to
-}
-
-fn put_bodies(sheet: &mut [u8], at: usize, blocks: &[u8], count: u8, row: usize)
-    requires { ⌜ AcceptedBlocks row count (now blocks) ⌝ }
-    requires { ⌜ at + length (bodyBytes (entriesOf row count (now blocks))) ≤ length (now sheet) ⌝ }
-    ensures { λ r. ⌜ now (sheet .exit) ≡ put (now (sheet .entry)) at (bodyBytes (entriesOf row count (now (blocks .entry)))) ⌝ }
-{
-    let mut rest = blocks;
-    let mut k = 0u8;
-    let mut to = at;
-    while k < count {
+        let rest = &leaves[start..];
         let size = shape::size_at(rest, row);
         let opening = opening_length(rest, row);
         let body = size - opening;
-        put_bytes(sheet, ByteOffset(to), &rest[opening..size]);
-        to += body;
-        rest = &rest[size..];
+        let kind = shape::kind_at(rest, row);
+        let number = k as usize;
+        put_entry(
+            sheet,
+            kind,
+            &rest[opening..size],
+            sheet::HEAD_LENGTH + 2 * number,
+            sizes_at + number,
+            body_at,
+        );
+        body_at += body;
+        start += size;
         k += 1;
     }
-}
-
-// The three parts behind a sheet's head.
-pub(crate) fn put_parts(sheet: &mut [u8], blocks: &[u8], count: u8, row: usize)
-    requires { ⌜ AcceptedBlocks row count (now blocks) ⌝ }
-    requires { ⌜ headLength + length (partsOf (entriesOf row count (now blocks))) ≤ length (now sheet) ⌝ }
-    ensures { λ _. ⌜ now (sheet .exit) ≡ put (now (sheet .entry)) headLength (partsOf (entriesOf row count (now (blocks .entry)))) ⌝ }
-{
-    let sizes_at = put_kinds(sheet, sheet::HEAD_LENGTH, blocks, count, row);
-    let bodies_at = put_sizes(sheet, sizes_at, blocks, count, row);
-    put_bodies(sheet, bodies_at, blocks, count, row);
 }

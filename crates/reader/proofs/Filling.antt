@@ -9,14 +9,14 @@ use mathlib.Core.Path.{_≡_, refl, _∙_}
 use lib.ListN.{length, take, drop, set, length-append, length-set}
 use lib.Seq.{drop-cons, getD-set-same, drop-set-lt, lt-length-set}
 use Rattle.rom.specs.Bytes.{pick}
-use Rattle.rom.specs.Refusal.{firstMet}
 use Rattle.block.specs.declared.Block.{Block}
 use Rattle.block.specs.declared.Block.the-variants.{Listed, Reset, Unknown, Refused}
-use Rattle.format.specs.Block.{sizeOf, isListed}
+use Rattle.format.specs.Block.{isListed}
 use Rattle.block.specs.Answer.{blockOf, numberOf, sizeIn, listedIn, kindIn}
 use Rattle.block.proofs.Seen.{Seen, refused, unknown, a-reset, a-medium, seen-size, seen-kind}
-use Rattle.leaf.specs.Leaf.{cut, blockCauses, Place, placed, keep, table, kindAt, startAt}
-use Rattle.leaf.proofs.Cuts.{cut-more, cut-none, rest-part, next-seen, next-fine, next-left}
+use Rattle.leaf.specs.Leaf.{cut, Place, placed, keep, table, tableOf, kindAt, startAt}
+use Rattle.leaf.proofs.Cuts.{rest-part, next-seen, next-fine}
+use Rattle.leaf.proofs.Stepping.{Passing, passing-more, placed-more, placed-none}
 use Rattle.leaf.proofs.Tables.{entry, table-cons, table-more}
 use Rattle.reader.specs.Inside.{stored}
 use Rattle.reader.specs.Table.{tabled}
@@ -78,40 +78,39 @@ module _ {row level : ℕ} {whole ps : List Place} {p : Place} {b : Block} {free
     same-o = stored-length (p .start) b free o ∙ inv .same-o;
   }
 
--- What the loop of `fill` keeps.
-pub record Filling (row level : ℕ) (whole : List Place) (bs : List (List ℕ)) (at free : ℕ) (k₀ o₀ k o : List ℕ) : Type 0 where
-  pub accepted : firstMet (blockCauses row level bs) ≡ 0
-  pub filled : Filled row level whole (placed row at bs) free k₀ o₀ k o
+-- What the loop of `fill` keeps: i blocks are passed, the next stands where stepping leads, and the places that are left are those
+-- from it on.
+pub record Filling (row level first count : ℕ) (blocks : List ℕ) (i : ℕ) (rest : List ℕ) (at free : ℕ) (k₀ o₀ k o : List ℕ) : Type 0 where
+  pub passing : Passing row level first count blocks i at rest
+  pub filled : Filled row level (placed row first (cut row count blocks)) (drop i (placed row first (cut row count blocks))) free k₀ o₀ k o
 
 -- The steps of `fill` in its own terms.
-module _ (row level count : ℕ) (rest : List ℕ) {whole : List Place} {i at free : ℕ} {k₀ o₀ k o : List ℕ}
-    (inv : Filling row level whole (cut row (count - i) rest) at free k₀ o₀ k o) {b : Block} (h : i < count)
-    (eb : b ≡ blockOf row level rest) where
-  module _ where
+module _ (row level first count : ℕ) (blocks : List ℕ) {i at : ℕ} (rest : List ℕ) {free : ℕ} {k₀ o₀ k o : List ℕ}
+    (inv : Filling row level first count blocks i rest at free k₀ o₀ k o) where
+  module _ {b : Block} (h : i < count) (eb : b ≡ blockOf row level rest) where
     view : Seen row level rest b
-    view = next-seen row level count rest (inv .accepted) h eb
+    view = next-seen row level count rest (inv .passing .accepted) h eb
 
     fine : numberOf b ≡ 0
-    fine = next-fine row level count rest (inv .accepted) h eb
+    fine = next-fine row level count rest (inv .passing .accepted) h eb
 
-    opened : Filled row level whole
-        (record { start = at; rest = rest }
-        ∷ placed row (at + sizeOf row rest) (cut row (count - (i + 1)) (drop (sizeOf row rest) rest))) free k₀ o₀ k o
-    unfolding placed
-    opened = let e = rw cut-more at inv in e .filled
+    opened : Filled row level (placed row first (cut row count blocks))
+        (record { start = at; rest = rest } ∷ drop (i + 1) (placed row first (cut row count blocks))) free k₀ o₀ k o
+    opened = rw (placed-more row first count i at blocks rest (inv .passing .stands) h) at (inv .filled)
 
-  pub fill-place : listedIn b ≤ free
-  fill-place = filled-place opened view fine
+    pub fill-place : listedIn b ≤ free
+    fill-place = filled-place opened view fine
 
-  pub fill-more : {z u : ℕ} {k′ o′ : List ℕ} → z ≡ sizeIn b → u ≡ free - listedIn b → k′ ≡ stored (kindIn b) b free k
-      → o′ ≡ stored at b free o
-      → Filling row level whole (cut row (count - (i + 1)) (take (length rest - z) (drop z rest))) (at + z) u k₀ o₀ k′ o′
-  fill-more ez eu ek eo =
-      rw (rest-part, ez, seen-size view fine, eu, ek, eo)
-      (record { accepted = next-left row level count rest (inv .accepted) h eb; filled = filled-more opened view fine })
+    pub fill-more : {z u : ℕ} {k′ o′ : List ℕ} → z ≡ sizeIn b → u ≡ free - listedIn b → k′ ≡ stored (kindIn b) b free k
+        → o′ ≡ stored at b free o
+        → Filling row level first count blocks (i + 1) (take (length rest - z) (drop z rest)) (at + z) u k₀ o₀ k′ o′
+    fill-more {z} ez eu ek eo =
+        record {
+          passing = passing-more (inv .passing) h (ez ∙ seen-size view fine) (rest-part z rest);
+          filled = rw (eu, ek, eo) (filled-more opened view fine);
+        }
 
-module _ (row level count : ℕ) (rest : List ℕ) {whole : List Place} {i at free : ℕ} {k₀ o₀ k o : List ℕ}
-    (inv : Filling row level whole (cut row (count - i) rest) at free k₀ o₀ k o) where
-  pub fill-done : count ≤ i → (k ≡ tabled (kindAt row) (table row level whole) k₀) × (o ≡ tabled startAt (table row level whole) o₀)
-  unfolding placed table keep tabled
-  fill-done h = let e = rw cut-none at inv in (e .filled .kinds, e .filled .offsets)
+  pub fill-done : count ≤ i → (k ≡ tabled (kindAt row) (tableOf row level count first blocks) k₀)
+      × (o ≡ tabled startAt (tableOf row level count first blocks) o₀)
+  unfolding table keep tabled tableOf
+  fill-done h = let e = rw (placed-none row first count i blocks h) at (inv .filled) in (e .kinds, e .offsets)

@@ -7,13 +7,13 @@ use mathlib.Core.Path.{_≡_, refl, sym, _∙_}
 use mathlib.Core.Bool.{Bool, true, false}
 use lib.ListN.{length, take, drop}
 use Rattle.rom.specs.Bytes.{pick}
-use Rattle.rom.specs.Refusal.{firstMet}
 use Rattle.block.specs.declared.Block.{Block}
-use Rattle.format.specs.Block.{sizeOf, isListed}
+use Rattle.format.specs.Block.{isListed}
 use Rattle.block.specs.Answer.{blockOf, numberOf, sizeIn, listedIn}
 use Rattle.block.proofs.Seen.{Seen, seen-size, seen-listed}
-use Rattle.leaf.specs.Leaf.{cut, blockCauses, Place, placed, keep, table}
-use Rattle.leaf.proofs.Cuts.{cut-more, cut-none, rest-part, next-seen, next-fine, next-left}
+use Rattle.leaf.specs.Leaf.{cut, Place, placed, keep, table, tableOf}
+use Rattle.leaf.proofs.Cuts.{rest-part, next-seen, next-fine}
+use Rattle.leaf.proofs.Stepping.{Passing, passing-more, placed-more, placed-none}
 use Rattle.leaf.proofs.Tables.{few-one, entry, table-cons, table-more}
 use Rattle.reader.specs.declared.Part.{Part}
 use Rattle.reader.specs.Table.{partAt, entryPart}
@@ -52,44 +52,44 @@ module _ {row level : ℕ} {whole ps : List Place} {p : Place} {b : Block} {behi
         same = sym (part-front row (table row level ps) (entry row level p) wanted l) ∙ (rw table-cons at (inv .same));
       }
 
--- What the loop of `find` keeps.
-pub record Finding (row level : ℕ) (whole : List Place) (bs : List (List ℕ)) (at behind wanted : ℕ) : Type 0 where
-  pub accepted : firstMet (blockCauses row level bs) ≡ 0
-  pub kept : Kept row level whole (placed row at bs) behind wanted
+-- What the loop of `find` keeps: i blocks are passed, the next stands where stepping leads, and the places that are left are those
+-- from it on.
+pub record Finding (row level first count : ℕ) (blocks : List ℕ) (i : ℕ) (rest : List ℕ) (at behind wanted : ℕ) : Type 0 where
+  pub passing : Passing row level first count blocks i at rest
+  pub kept : Kept row level (tableOf row level count first blocks) (drop i (placed row first (cut row count blocks))) behind wanted
 
 -- The steps of `find` in its own terms.
-module _ (row level count : ℕ) (rest : List ℕ) {whole : List Place} {i at behind wanted : ℕ}
-    (inv : Finding row level whole (cut row (count - i) rest) at behind wanted) {b : Block} (h : i < count)
-    (eb : b ≡ blockOf row level rest) where
-  module _ where
+module _ (row level first count : ℕ) (blocks : List ℕ) {i at : ℕ} (rest : List ℕ) {behind wanted : ℕ}
+    (inv : Finding row level first count blocks i rest at behind wanted) where
+  module _ {b : Block} (h : i < count) (eb : b ≡ blockOf row level rest) where
     view : Seen row level rest b
-    view = next-seen row level count rest (inv .accepted) h eb
+    view = next-seen row level count rest (inv .passing .accepted) h eb
 
     fine : numberOf b ≡ 0
-    fine = next-fine row level count rest (inv .accepted) h eb
+    fine = next-fine row level count rest (inv .passing .accepted) h eb
 
-    opened : Kept row level whole
-        (record { start = at; rest = rest }
-        ∷ placed row (at + sizeOf row rest) (cut row (count - (i + 1)) (drop (sizeOf row rest) rest))) behind wanted
-    unfolding placed
-    opened = let e = rw cut-more at inv in e .kept
+    opened : Kept row level (tableOf row level count first blocks)
+        (record { start = at; rest = rest } ∷ drop (i + 1) (placed row first (cut row count blocks))) behind wanted
+    opened = rw (placed-more row first count i at blocks rest (inv .passing .stands) h) at (inv .kept)
 
-  pub find-behind : {n : ℕ} → n ≡ listedIn b → n ≤ behind
-  find-behind en = rw en (kept-behind opened view fine)
+    pub find-behind : {n : ℕ} → n ≡ listedIn b → n ≤ behind
+    find-behind en = rw en (kept-behind opened view fine)
 
-  pub find-here : {z n : ℕ} → z ≡ sizeIn b → n ≡ listedIn b → behind - n ≡ wanted
-      → _≡_ {A = Part} (record { start = at; length = z }) (entryPart row whole wanted)
-  find-here ez en e = rw (ez, seen-size view fine) (kept-here opened view fine (rw en at e))
+    pub find-here : {z n : ℕ} → z ≡ sizeIn b → n ≡ listedIn b → behind - n ≡ wanted
+        → _≡_ {A = Part} (record { start = at; length = z }) (entryPart row (tableOf row level count first blocks) wanted)
+    find-here ez en e = rw (ez, seen-size view fine) (kept-here opened view fine (rw en at e))
 
-  pub find-more : {z n : ℕ} → z ≡ sizeIn b → n ≡ listedIn b → (behind - n ≡ wanted → ⊥)
-      → Finding row level whole (cut row (count - (i + 1)) (take (length rest - z) (drop z rest))) (at + z) (behind - n) wanted
-  find-more ez en ne =
-      rw (rest-part, ez, seen-size view fine, en)
-      (record { accepted = next-left row level count rest (inv .accepted) h eb; kept = kept-more opened view fine (rw en at ne) })
+    pub find-more : {z n : ℕ} → z ≡ sizeIn b → n ≡ listedIn b → (behind - n ≡ wanted → ⊥)
+        → Finding row level first count blocks (i + 1) (take (length rest - z) (drop z rest)) (at + z) (behind - n) wanted
+    find-more {z} ez en ne =
+        record {
+          passing = passing-more (inv .passing) h (ez ∙ seen-size view fine) (rest-part z rest);
+          kept = rw en (kept-more opened view fine (rw en at ne));
+        }
 
--- the blocks do not end before the entry
-module _ (row level count : ℕ) (rest : List ℕ) {whole : List Place} {i at behind wanted : ℕ}
-    (inv : Finding row level whole (cut row (count - i) rest) at behind wanted) where
+  -- the blocks do not end before the entry
   pub find-never : count ≤ i → ⊥
-  unfolding placed table keep
-  find-never h = let e = rw cut-none at inv in omega (arith, e .kept .counted, e .kept .there)
+  unfolding table keep
+  find-never h =
+      let e = rw (placed-none row first count i blocks h) at (inv .kept) in
+      omega (arith, e .counted, e .there)

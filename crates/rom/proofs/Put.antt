@@ -6,7 +6,7 @@ use native.Mathlib.Omega.{arith}
 use native.Mathlib.Nat.{add-zero}
 use native.Mathlib.Numerals.{add-one}
 use lib.ListN.{length, take, drop, set, length-append, length-take, length-drop, take-append-drop, drop-of-length-le}
-use lib.Seq.{take-at, drop-at, take-all, take-append-add, drop-append-add, drop-drop, sets-eq}
+use lib.Seq.{length-take-le, take-at, drop-at, take-all, take-take, take-append-le, take-append-add, drop-append-add, drop-drop, sets-eq}
 use borrow.Author.Tests.{le-leb, lt-leb}
 use borrow.Rule.Slice.PartMut.{putMid, midOf}
 use Rattle.rom.specs.Store.{wordBytes, put, laid}
@@ -106,15 +106,50 @@ laid-end xs ys at h =
     ∙ ap (λ (l : List ℕ). take at xs ++ (ys ++ l)) (drop-of-length-le xs {i = at + length ys} (omega arith))
     ∙ ap (λ (l : List ℕ). take at xs ++ l) (append-nil ys)
 
--- and into the second of two lists
-pub laid-behind : (xs ys zs : List ℕ) (at k : ℕ) → length xs ≡ at → k + length zs ≤ length ys
-    → laid (xs ++ ys) (at + k) zs ≡ xs ++ put ys k zs
+-- into the second of two lists
+put-behind : (xs ys zs : List ℕ) (at k : ℕ) → length xs ≡ at → put (xs ++ ys) (at + k) zs ≡ xs ++ put ys k zs
 unfolding put
-laid-behind xs ys zs at k l h =
-    let n : (at + k) + length zs ≤ length (xs ++ ys) = rw length-append (omega arith) in
+put-behind xs ys zs at k l =
     let from : at + k ≡ length xs + k = omega arith in
     let to : (at + k) + length zs ≡ length xs + (k + length zs) = omega arith in
-    laid-put (xs ++ ys) (at + k) zs n
-    ∙ ap₂ (λ (i j : ℕ). take i (xs ++ ys) ++ (zs ++ drop j (xs ++ ys))) from to
+    ap₂ (λ (i j : ℕ). take i (xs ++ ys) ++ (zs ++ drop j (xs ++ ys))) from to
     ∙ ap₂ (λ (a b : List ℕ). a ++ (zs ++ b)) (take-append-add xs ys k) (drop-append-add xs ys (k + length zs))
     ∙ append-assoc xs (take k ys) (zs ++ drop (k + length zs) ys)
+
+pub laid-behind : (xs ys zs : List ℕ) (at k : ℕ) → length xs ≡ at → k + length zs ≤ length ys
+    → laid (xs ++ ys) (at + k) zs ≡ xs ++ put ys k zs
+laid-behind xs ys zs at k l h =
+    let n : (at + k) + length zs ≤ length (xs ++ ys) = rw length-append (omega arith) in
+    laid-put (xs ++ ys) (at + k) zs n ∙ put-behind xs ys zs at k l
+
+-- two that do not overlap, in either order
+module _ (xs : List ℕ) (at : ℕ) (ys : List ℕ) (to : ℕ) (zs : List ℕ) (h : at + length ys ≤ to) (g : to + length zs ≤ length xs) where
+  front-fits : at + length ys ≤ length xs
+  front-fits = omega arith
+
+  apart : to ≡ (at + length ys) + (to - (at + length ys))
+  apart = omega arith
+
+  head-long : length (take (at + length ys) xs) ≡ at + length ys
+  head-long = length-take-le (at + length ys) xs front-fits
+
+  later : put xs to zs ≡ take (at + length ys) xs ++ put (drop (at + length ys) xs) (to - (at + length ys)) zs
+  later =
+      ap₂ (λ (l : List ℕ) (n : ℕ). put l n zs) (sym (take-append-drop (at + length ys) xs)) apart
+      ∙ put-behind (take (at + length ys) xs) (drop (at + length ys) xs) zs (at + length ys) (to - (at + length ys)) head-long
+
+  earlier : (rest : List ℕ) → put (take (at + length ys) xs ++ rest) at ys ≡ take at xs ++ (ys ++ rest)
+  unfolding put
+  earlier rest =
+      ap₂ (λ (a b : List ℕ). a ++ (ys ++ b))
+      (take-append-le at (take (at + length ys) xs) rest (omega (arith, head-long)) ∙ take-take at (at + length ys) xs (omega arith))
+      (drop-at (take (at + length ys) xs) rest (at + length ys) head-long)
+
+  pub put-swap : put (put xs to zs) at ys ≡ put (put xs at ys) to zs
+  unfolding put
+  put-swap =
+      let n = to - (at + length ys) in
+      let rest = drop (at + length ys) xs in
+      ap (λ (l : List ℕ). put l at ys) later ∙ earlier (put rest n zs) ∙ sym (append-assoc (take at xs) ys (put rest n zs))
+      ∙ sym (put-behind (take at xs ++ ys) rest zs (at + length ys) n (front-length xs at ys front-fits))
+      ∙ ap₂ (λ (l : List ℕ) (n : ℕ). put l n zs) (append-assoc (take at xs) ys rest) (sym apart)

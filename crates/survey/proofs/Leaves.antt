@@ -1,7 +1,7 @@
 -- What is answered of a refused header and of the leaf that an accepted one names, in the code's terms. Assumes nothing.
 use Prim.Native.Nat.{ℕ, _≤_, _<_}
 use mathlib.Core.List.{List}
-use mathlib.Core.Path.{_≡_, _∙_}
+use mathlib.Core.Path.{_≡_, ap, sym, _∙_}
 use mathlib.Core.Bool.{false}
 use borrow.Author.Tests.{ne-eqb, lt-ltb, le-ltb}
 use Rattle.rom.specs.Geometry.{none}
@@ -10,12 +10,11 @@ use Rattle.rom.specs.Refusal.{firstMet}
 use Rattle.header.specs.declared.Arguments.{Arguments}
 use Rattle.header.specs.declared.Header.{Header}
 use Rattle.header.specs.Image.{restFrom}
-use Rattle.header.specs.Header.{startFor, countFor, headerCauses, foundHeader, headerFor}
+use Rattle.header.specs.Header.{rowFor, startFor, countFor, headerCauses, foundHeader, headerFor}
 use Rattle.header.proofs.Headers.{read-number, no-refusal, read-found, read-count}
-use Rattle.leaf.specs.Leaf.{cut, firstFrom}
-use Rattle.survey.specs.Inside.{placeFrom}
-use Rattle.survey.specs.Survey.{hasLeaf, noPlace, placeFor, isRefused, refusedFor}
-use Rattle.survey.proofs.Stepping.{stands-behind}
+use Rattle.leaf.specs.Leaf.{cut, firstFrom, placeByStepping}
+use Rattle.leaf.proofs.Stepping.{placed-stepping}
+use Rattle.survey.specs.Survey.{hasLeaf, noPlace, placeAt, placeFor, isRefused, refusedFor}
 
 module _ (image : List ℕ) (a : Arguments) (h : Header) (eh : h ≡ headerFor image a) where
   -- ## A refused header
@@ -49,11 +48,12 @@ module _ (image : List ℕ) (a : Arguments) (h : Header) (eh : h ≡ headerFor i
     no-block-place k l = simp (accepted, le-ltb k (countFor image a) (rw count at l))
 
     pub block-stands : (rest : List ℕ) → rest ≡ restFrom (a .layout) image (h .start) → (k : ℕ) → k < h .blocks
-        → placeFrom (h .row) (h .start) k rest ≡ placeFor image a k
+        → placeAt (h .row) (placeByStepping (h .row) (h .start) k rest) ≡ placeFor image a k
     unfolding placeFor foundHeader pick
     block-stands rest e k l =
-        simp (accepted, lt-ltb k (countFor image a) (rw count at l))
-        (rw (e, found) (stands-behind _ _ _ k (restFrom (a .layout) image (startFor image a)) _ (rw count at l)))
+        let s = restFrom (a .layout) image (startFor image a) in
+        let placed = placed-stepping (rowFor a) (startFor image a) (countFor image a) k s _ (rw count at l) in
+        simp (accepted, lt-ltb k (countFor image a) (rw count at l)) (rw (e, found) (ap (placeAt (rowFor a)) (sym placed)))
 
     pub leaf-refused : (rest : List ℕ) → rest ≡ restFrom (a .layout) image (h .start)
         → firstFrom (isRefused (h .row) (a .level)) 0 (cut (h .row) (h .blocks) rest) ≡ refusedFor image a

@@ -1,10 +1,10 @@
 -- The blocks of a leaf one by one, whatever they say: where the next stands, and whether it is the first that is refused.
 -- Assumes nothing.
-use Prim.Native.Nat.{ℕ, zero, suc, _+_, _-_, _≤_, _<_}
+use Prim.Native.Nat.{ℕ, _+_, _-_, _≤_, _<_}
 use native.Mathlib.Omega.{arith}
 use mathlib.Core.List.{List, _∷_}
-use mathlib.Core.Path.{_≡_, refl, sym, _∙_}
-use lib.ListN.{length, take, drop, getD, drop-of-length-le}
+use mathlib.Core.Path.{_≡_, sym, ap, _∙_}
+use lib.ListN.{length, take, drop, drop-of-length-le}
 use lib.Seq.{drop-length}
 use borrow.Author.Tests.{eq-eqb, ne-eqb}
 use Rattle.rom.specs.Geometry.{none}
@@ -13,10 +13,9 @@ use Rattle.block.specs.declared.Block.{Block}
 use Rattle.format.specs.Block.{sizeOf, kindOf, refusalOf}
 use Rattle.block.specs.Answer.{blockOf, numberOf, sizeIn}
 use Rattle.block.proofs.Seen.{Seen, seen, seen-number, seen-size}
-use Rattle.leaf.specs.Leaf.{cut, firstFrom, placed, Place as Standing}
+use Rattle.leaf.specs.Leaf.{cut, firstFrom, placeByStepping}
 use Rattle.leaf.proofs.Cuts.{cut-more, cut-none, rest-part}
-use Rattle.survey.specs.declared.Place.{Place}
-use Rattle.survey.specs.Inside.{placeFrom}
+use Rattle.leaf.proofs.Stepping.{Stands}
 use Rattle.survey.specs.Survey.{placeAt, isRefused}
 
 -- ## Where the next block stands
@@ -27,29 +26,11 @@ behind-end n s h =
     let l : length s ≤ n = omega arith in
     rest-part (length s) s ∙ drop-length s ∙ sym (drop-of-length-le s l)
 
--- The steps of `find` in its own terms: z is the next block's size, t the rest behind it or its kind.
-module _ (row number at : ℕ) (s : List ℕ) {k : ℕ} {whole : Place} (inv : placeFrom row at (number - k) s ≡ whole) where
-  pub find-more : {z : ℕ} {t : List ℕ} → k < number → z ≡ sizeOf row s → t ≡ drop z s
-      → placeFrom row (at + z) (number - (k + 1)) t ≡ whole
-  unfolding placeFrom
-  find-more h ez et =
-      let e : number - k ≡ suc (number - (k + 1)) = omega arith in
-      rw (et, ez) (rw e at inv)
-
-  pub find-done : {z t : ℕ} → number ≤ k → z ≡ sizeOf row s → t ≡ kindOf row s
-      → record { start = at; size = z; kind = t } ≡ whole
-  unfolding placeFrom
-  find-done h ez et =
-      let e : number - k ≡ 0 = omega arith in
-      rw (ez, et) (rw e at inv)
-
--- block k stands k blocks behind the first
-pub stands-behind : (row at count k : ℕ) (s : List ℕ) (d : Standing) → k < count
-    → placeFrom row at k s ≡ placeAt row (getD (placed row at (cut row count s)) k d)
-unfolding placeFrom placed cut
-stands-behind row at zero k s d h = absurd (omega arith)
-stands-behind row at (suc count) zero s d h = refl
-stands-behind row at (suc count) (suc k) s d h = stands-behind row (at + sizeOf row s) count k (drop (sizeOf row s) s) d (omega arith)
+-- what `find` answers: z is the size of the block where the steps led, t its kind
+pub find-done : (row first number : ℕ) (s : List ℕ) {k at : ℕ} {rest : List ℕ} {z t : ℕ} → Stands row first s k at rest → k ≡ number
+    → z ≡ sizeOf row rest → t ≡ kindOf row rest
+    → record { start = at; size = z; kind = t } ≡ placeAt row (placeByStepping row first number s)
+find-done row first number s e ek ez et = rw (ez, et, ← ek) (ap (placeAt row) e)
 
 -- ## The first block that is refused
 

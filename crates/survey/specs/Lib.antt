@@ -1,3 +1,2 @@
 pub mod Survey
 pub mod Claims
-pub mod Inside

@@ -7,9 +7,8 @@ use rom::refusal;
 ghost use mathlib.Core.Path.{_≡_};
 ghost use Prim.Native.Nat.{_<_};
 ghost use lib.ListN.{drop};
-ghost use Rattle.leaf.specs.Leaf.{cut, firstFrom};
-ghost use Rattle.survey.specs.Inside.{placeFrom};
-ghost use Rattle.survey.specs.Survey.{noPlace, placeFor, isRefused, refusedFor};
+ghost use Rattle.leaf.specs.Leaf.{cut, firstFrom, placeByStepping};
+ghost use Rattle.survey.specs.Survey.{noPlace, placeAt, placeFor, isRefused, refusedFor};
 
 // A block's byte offset in the image, how many bytes its size says that it has, and its kind; zeros where there is none.
 pub struct Place {
@@ -39,10 +38,11 @@ fn behind(rest: &[u8], size: usize) -> &[u8]
     &rest[size..]
 }
 
-// The place of a block of a leaf, of which the first stands at an offset.
+// The place of a block of a leaf, of which the first stands at an offset. Where that is below 1024 every block's offset has 16
+// bits, since at most 255 blocks of at most 128 bytes stand before it.
 fn find(blocks: &[u8], start: usize, row: usize, number: u8) -> Place
     requires { ⌜ start < 1024 ⌝ }
-    ensures { λ r. ⌜ r ≡ placeFrom row start number (now (blocks .entry)) ⌝ }
+    ensures { λ r. ⌜ r ≡ placeAt row (placeByStepping row start number (now (blocks .entry))) ⌝ }
 {
     let mut rest = blocks;
     let mut at = start;

@@ -47,6 +47,11 @@ fn main() {
     contest_walking("longest", newest_21041, &longest);
     contest_sheets("typical", 21143, &tidy);
     contest_sheets("longest", 21041, &longest);
+    // How the cost of making grows with the blocks.
+    for count in [10, 20, 40] {
+        let leaf = images(|random| Card::one_byte_blocks(random, count));
+        contest_making(&count.to_string(), 21041, &leaf);
+    }
 }
 
 /// A leaf as a 21143 card has it: five blocks, of which one is no medium.
@@ -209,6 +214,11 @@ fn contest_sheets(leaf: &str, chip: u16, images: &[Image]) {
         writing(library::write),
         writing(sheet::fast::write),
     );
+    contest_making(leaf, chip, images);
+}
+
+/// Making the sheets of tidy images.
+fn contest_making(leaf: &str, chip: u16, images: &[Image]) {
     contest(
         &format!("make {leaf}"),
         images,

@@ -193,14 +193,19 @@ impl Card {
         card
     }
 
+    /// A leaf of so many one-byte blocks.
+    pub fn one_byte_blocks(random: &mut Random, count: usize) -> Self {
+        let mut media = |_| block::media(random.pick(&[0, 1, 2, 4]), None);
+        Self::tidy(21041, 0x0800, (0..count).map(&mut media).collect())
+    }
+
     /// The longest leaf: one-byte blocks from its first place to its last.
     pub fn longest(random: &mut Random, layout: Layout) -> Self {
         let places = layout.leaf_limit() - TIDY_LEAF - header_size(21041);
-        let mut media = |_| block::media(random.pick(&[0, 1, 2, 4]), None);
-        let blocks = (0..places).map(&mut media).collect();
+        let leaf = Self::one_byte_blocks(random, places);
         Self {
             magic: MagicBlock::of_layout(random, layout),
-            ..Self::tidy(21041, 0x0800, blocks)
+            ..leaf
         }
     }
 

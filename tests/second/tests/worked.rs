@@ -1,12 +1,14 @@
-//! What crates/worked and crates/magic compute with is the second implementation's: each sheet of
-//! specs/Sheets.antt is written to its image, and made of it again; each Magic Packet block of
-//! specs/Cases.antt is read as it says, and boards before one are refused as they say.
+//! What crates/worked, crates/magic and crates/leaf compute with is the second implementation's: each
+//! sheet of specs/Sheets.antt is written to its image, and made of it again; each Magic Packet block
+//! of specs/Cases.antt is read as it says, boards before one are refused as they say, and the blocks
+//! of leaves start where they say.
 
 use second::cases::cases;
 use second::crc::{IMAGE_LENGTH, lay_srom_crc};
+use second::images::Card;
 use second::layout::{Layout, MAGIC_OFFSET};
 use second::magic::read_magic;
-use second::reader::{Arguments, read_all};
+use second::reader::{Arguments, read_all, starts};
 use second::sheet;
 use second::specification::{self, bytes, number, opened, text};
 
@@ -99,5 +101,27 @@ fn boards_are_refused_as_second_refuses_them() {
         image[MAGIC_OFFSET..].copy_from_slice(&block(words[2]));
         let (answer, _) = read_all(&image, arguments);
         assert_eq!(usize::from(answer.number), number(words[3]), "{words:?}");
+    }
+}
+
+#[test]
+fn blocks_start_where_second_finds_them() {
+    let text = text("leaf/specs/Cases.antt");
+    let cases = specification::cases(&text, "startsCases");
+    assert_eq!(cases.len(), 5, "each form of a block, and no block");
+    for (_, words) in cases {
+        let chip = number(words[0]) as u16;
+        let (leaf, places) = (bytes(words[1]), bytes(words[2]));
+        let first = places[0];
+        let block =
+            |ends: &[u8]| leaf[usize::from(ends[0] - first)..usize::from(ends[1] - first)].to_vec();
+        let blocks: Vec<_> = places.windows(2).map(block).collect();
+        assert_eq!(blocks.concat(), leaf, "{words:?}");
+        let image = Card::tidy(chip, 0x0800, blocks).image();
+        let found = starts(&image, Arguments::newest(chip)).unwrap();
+        let named = places[..places.len() - 1]
+            .iter()
+            .map(|&start| usize::from(start));
+        assert_eq!(found, named.collect::<Vec<_>>(), "{words:?}");
     }
 }

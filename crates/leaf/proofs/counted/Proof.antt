@@ -1,5 +1,6 @@
 -- The case of the block says which counts grow. Assumes nothing.
 use native.Mathlib.Omega.{arith}
+use mathlib.Core.Path.{_∙_}
 use borrow.Author.Needs.{needs}
 use Rattle.leaf.proofs.counted.Statement.{statement}
 use Rattle.leaf.proofs.counted.Tie as tie
@@ -37,8 +38,11 @@ enum-told-2 c = search needs
 add-next-5 : tie.Need-add-next-5
 add-next-5 c = search needs
 
-enum-told-3 : tie.Need-enum-told-3
-enum-told-3 c = search needs
+enum-known-b-2 : tie.Need-enum-known-b-2
+enum-known-b-2 c = search needs
+
+refused-tally-requires : tie.Need-refused-tally-requires
+refused-tally-requires c κs = search needs
 
 returns : tie.Need-returns
 returns c =
@@ -56,7 +60,7 @@ returns-3 : tie.Need-returns-3
 returns-3 c = rw (c .before .enum-told2 .given .1)
 
 returns-4 : tie.Need-returns-4
-returns-4 c = search needs
+returns-4 c = c .refused-tally .ensures ∙ rw (c .before .before .b2 .given .1)
 
 pub counted-spec : {M : Type 1} → statement M
 counted-spec =
@@ -73,7 +77,8 @@ counted-spec =
     add-next-4
     enum-told-2
     add-next-5
-    enum-told-3
+    enum-known-b-2
+    refused-tally-requires
     returns
     returns-2
     returns-3

@@ -3,8 +3,7 @@ use native.Mathlib.Nat.{le-refl, sub-zero}
 use borrow.Author.Needs.{needs}
 use Prim.Native.Nat.{_-_, _≤_}
 use Rattle.leaf.specs.Leaf.{cut}
-use Rattle.leaf.proofs.Cuts.{size-fits}
-use Rattle.leaf.proofs.Counts.{Counted, counted-start, judge-refused, judge-more, judge-18, judge-done}
+use Rattle.leaf.proofs.Counts.{Counted, counted-start, judge-refused, judge-fits, judge-more, judge-18, judge-done}
 use Rattle.leaf.proofs.judge.Statement.{statement}
 use Rattle.leaf.proofs.judge.Tie as tie
 
@@ -23,20 +22,14 @@ loop-holds c = (rw (c .start-tally .ensures, sub-zero) (counted-start _ _ _), se
 judge-block-requires : tie.Need-judge-block-requires Inv-loop μ-loop
 judge-block-requires c κs = search needs
 
-number-of-requires : tie.Need-number-of-requires Inv-loop μ-loop
-number-of-requires c κs = search needs
-
-refused-tally-requires : tie.Need-refused-tally-requires Inv-loop μ-loop
-refused-tally-requires c κs = search needs
+counted-requires : tie.Need-counted-requires Inv-loop μ-loop
+counted-requires c κs = search needs
 
 returns : tie.Need-returns Inv-loop μ-loop
 returns c =
     let j = c .before .before .before in
     judge-refused _ _ _ _ (j .before .before .loop .inv .0) (j .before .loop-test .taken) (j .judge-block .ensures)
-    (c .before .before .number-of .ensures) (c .before .if1 .taken) (c .refused-tally .ensures)
-
-counted-requires : tie.Need-counted-requires Inv-loop μ-loop
-counted-requires c κs = search needs
+    (c .before .before .counted .ensures) (c .if1 .taken)
 
 size-of-requires : tie.Need-size-of-requires Inv-loop μ-loop
 size-of-requires c κs = search needs
@@ -44,8 +37,8 @@ size-of-requires c κs = search needs
 sub-rest : tie.Need-sub-rest Inv-loop μ-loop
 sub-rest c =
     let j = c .before .before .before .before in
-    size-fits _ _ _ (j .judge-block .ensures) (c .before .before .before .number-of .ensures) (c .before .before .if1 .left)
-    (c .size-of .ensures)
+    judge-fits _ _ _ _ (j .before .before .loop .inv .0) (j .before .loop-test .taken) (j .judge-block .ensures)
+    (c .before .before .before .counted .ensures) (c .before .if1 .left) (c .size-of .ensures)
 
 part-rest-start : tie.Need-part-rest-start Inv-loop μ-loop
 part-rest-start = sub-rest
@@ -62,23 +55,22 @@ loop-less c = search needs
 loop-again : tie.Need-loop-again Inv-loop μ-loop
 loop-again c =
     let j = c .before .before .before .before .before in (
-      judge-more _ _ _ _ (j .before .before .loop .inv .0) (j .before .loop-test .taken)
-          (c .before .before .before .before .before .before .before .before .before .before .fits .count .fits) (j .judge-block .ensures)
-          (c .before .before .before .before .number-of .ensures) (c .before .before .before .if1 .left)
-          (c .before .before .counted .ensures) (c .before .size-of .ensures),
+      judge-more _ _ _ _ (j .before .before .loop .inv .0) (j .before .loop-test .taken) (j .judge-block .ensures)
+          (c .before .before .before .before .counted .ensures) (c .before .before .if1 .left) (c .before .size-of .ensures)
+          (c .before .before .before .before .before .before .before .before .before .before .fits .count .fits),
       search needs,
     )
 
 clashes-requires : tie.Need-clashes-requires Inv-loop μ-loop
 clashes-requires c κs = search needs
 
-refused-tally-requires-2 : tie.Need-refused-tally-requires-2 Inv-loop μ-loop
-refused-tally-requires-2 c κs = search needs
+refused-tally-requires : tie.Need-refused-tally-requires Inv-loop μ-loop
+refused-tally-requires c κs = search needs
 
 returns-2 : tie.Need-returns-2 Inv-loop μ-loop
 returns-2 c =
     judge-18 _ _ _ _ (c .before .before .before .before .loop .inv .0) (c .before .before .before .loop-test .left)
-    (c .before .before .clashes .ensures) (c .before .if2 .taken) (c .refused-tally2 .ensures)
+    (c .before .before .clashes .ensures) (c .before .if2 .taken) (c .refused-tally .ensures)
 
 returns-3 : tie.Need-returns-3 Inv-loop μ-loop
 returns-3 c =
@@ -94,10 +86,8 @@ judge-spec =
     start-tally-requires
     loop-holds
     judge-block-requires
-    number-of-requires
-    refused-tally-requires
-    returns
     counted-requires
+    returns
     size-of-requires
     sub-rest
     part-rest-start
@@ -106,6 +96,6 @@ judge-spec =
     loop-less
     loop-again
     clashes-requires
-    refused-tally-requires-2
+    refused-tally-requires
     returns-2
     returns-3)

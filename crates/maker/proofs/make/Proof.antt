@@ -3,7 +3,8 @@ use native.Mathlib.Omega.{arith}
 use mathlib.Core.Path.{refl}
 use borrow.Author.Tests.{not-true, not-false}
 use Rattle.sheet.specs.Image.{newest}
-use Rattle.maker.proofs.Making.{refused-done, make-refused, blocks-read, end-fits, make-untidy, make-short, make-room}
+use Rattle.maker.proofs.Sheets.{read-blocks}
+use Rattle.maker.proofs.Making.{refused-done, make-refused, is-read, end-fits, make-untidy, make-short, make-room}
 use Rattle.maker.proofs.Making.{make-done}
 use borrow.Author.Needs.{needs}
 use Rattle.maker.proofs.make.Statement.{statement}
@@ -27,15 +28,7 @@ rest-from-requires c κs = search needs
 measure-requires : tie.Need-measure-requires
 unfolding newest
 measure-requires c κs =
-    blocks-read _ _ _ _ (c .before .before .before .before .assess .ensures) (c .before .if1 .left) _ (c .rest-from .ensures)
-
-add-is-tidy : tie.Need-add-is-tidy
-unfolding newest
-add-is-tidy c =
-    let assess = c .before .before .before .before .before .before in
-    let h = end-fits _ _ _ _ (assess .assess .ensures) (c .before .before .before .if1 .left) _ (c .before .before .rest-from .ensures) _
-    (c .before .measure .ensures .0) (c .before .measure .ensures .1 .0) in
-    omega arith
+    read-blocks _ _ (is-read _ _ _ _ (c .before .before .before .before .assess .ensures) (c .before .if1 .left)) _ (c .rest-from .ensures)
 
 is-tidy-requires : tie.Need-is-tidy-requires
 is-tidy-requires c κs = search needs
@@ -46,7 +39,7 @@ refused-requires-2 c κs = search needs
 returns-2 : tie.Need-returns-2
 unfolding newest
 returns-2 c =
-    let measure = c .before .before .before .before in
+    let measure = c .before .before .before in
     let rest-from = measure .before in
     let assess = rest-from .before .before .before .before in
     refused-done _ _ _ _ (c .refused2 .ensures) (λ e. omega arith)
@@ -73,7 +66,7 @@ returns-3 : tie.Need-returns-3
 unfolding newest
 returns-3 c =
     let is-tidy = c .before .before .before .before .before in
-    let measure = is-tidy .before .before in
+    let measure = is-tidy .before in
     let rest-from = measure .before in
     let assess = rest-from .before .before .before .before in
     refused-done _ _ _ _ (c .refused3 .ensures) (λ e. omega arith)
@@ -84,7 +77,7 @@ returns-3 c =
 cast-put-sheet : tie.Need-cast-put-sheet
 unfolding newest
 cast-put-sheet c =
-    let measure = c .before .before .before .before .before .before .before .before in
+    let measure = c .before .before .before .before .before .before .before in
     let rest-from = measure .before in
     let assess = rest-from .before .before .before .before in
     let m = measure .measure in
@@ -96,7 +89,7 @@ put-sheet-requires : tie.Need-put-sheet-requires
 unfolding newest
 put-sheet-requires c κs =
     let is-tidy = c .before .before .before .before .before .before in
-    let measure = is-tidy .before .before in
+    let measure = is-tidy .before in
     let rest-from = measure .before in
     let assess = rest-from .before .before .before .before in
     make-room _ _ _ _ (assess .assess .ensures) (rest-from .before .if1 .left) _ (rest-from .rest-from .ensures) _
@@ -110,7 +103,7 @@ returns-4 : tie.Need-returns-4
 unfolding newest
 returns-4 c =
     let is-tidy = c .before .before .before .before .before .before .before .before .before in
-    let measure = is-tidy .before .before in
+    let measure = is-tidy .before in
     let rest-from = measure .before in
     let assess = rest-from .before .before .before .before in
     make-done _ _ _ _ (assess .assess .ensures) (rest-from .before .if1 .left) _ (rest-from .rest-from .ensures) _
@@ -128,7 +121,6 @@ make-spec =
     returns
     rest-from-requires
     measure-requires
-    add-is-tidy
     is-tidy-requires
     refused-requires-2
     returns-2

@@ -1,25 +1,23 @@
--- Each turn steps over one block, and the place so many blocks behind the next is that of the whole. Assumes nothing.
+-- Each turn is one step more from the first block. Assumes nothing.
 use borrow.Author.Needs.{needs}
 use Prim.Native.Nat.{_+_, _-_, _*_, _≤_}
 use native.Mathlib.Omega.{arith}
-use native.Mathlib.Nat.{sub-zero}
-use mathlib.Core.Path.{_≡_, refl}
 use denote.Ref.{now}
 use Rattle.block.proofs.Whole.{size-small}
-use Rattle.survey.specs.Inside.{placeFrom}
-use Rattle.survey.proofs.Stepping.{find-more, find-done}
+use Rattle.leaf.proofs.Stepping.{Stands, stands-first, stands-more}
+use Rattle.survey.proofs.Stepping.{find-done}
 use Rattle.survey.proofs.find.Statement.{statement}
 use Rattle.survey.proofs.find.Tie as tie
 
 abbrev Inv-loop : tie.InvT-loop
 Inv-loop blocks start row number rest₀ at₀ k₀ rest at k =
-    (placeFrom row at (number - k) rest ≡ placeFrom row start number blocks) × (k ≤ number) × (at ≤ 1024 + 128 * k)
+    Stands row start blocks k at rest × (k ≤ number) × (at ≤ 1024 + 128 * k)
 
 abbrev μ-loop : tie.MeasureT-loop
 μ-loop blocks start row number rest₀ at₀ k₀ rest at k = number - k
 
 loop-holds : tie.Need-loop-holds Inv-loop μ-loop
-loop-holds c = (rw sub-zero refl, search needs, search needs)
+loop-holds c = (stands-first _ _ _, search needs, search needs)
 
 size-at-requires : tie.Need-size-at-requires Inv-loop μ-loop
 size-at-requires c κs = search needs
@@ -41,7 +39,7 @@ loop-less c = search needs
 loop-again : tie.Need-loop-again Inv-loop μ-loop
 loop-again c =
     let l = c .before .before .before in (
-      find-more _ _ _ _ (l .loop .inv .0) (c .before .before .loop-test .taken) (c .before .size-at .ensures) (c .behind .ensures),
+      stands-more _ _ _ _ _ _ (l .loop .inv .0) (c .before .size-at .ensures) (c .behind .ensures),
       search needs,
       omega (arith, c .before .size-at .ensures, size-small (l .before .before .args .row) (now (l .loop .rest))),
     )
@@ -63,7 +61,8 @@ kind-at-requires c κs = search needs
 returns : tie.Need-returns Inv-loop μ-loop
 returns c =
     let t = c .before .before in
-    find-done _ _ _ _ (t .before .loop .inv .0) (t .loop-test .left) (c .before .size-at2 .ensures) (c .kind-at .ensures)
+    find-done _ _ _ _ (t .before .loop .inv .0) (omega (arith, t .before .loop .inv .1, t .loop-test .left)) (c .before .size-at2 .ensures)
+    (c .kind-at .ensures)
 
 pub find-spec : {M : Type 1} → statement M
 find-spec =

@@ -1,20 +1,30 @@
--- Each turn measures one block; what is left makes up the whole. Assumes nothing.
+-- Each turn measures the block at the running start; what is left makes up the whole. Assumes nothing.
 use borrow.Author.Needs.{needs}
 use Prim.Native.Nat.{_-_}
 use native.Mathlib.Omega.{arith}
 use native.Mathlib.Nat.{le-refl}
-use Rattle.maker.proofs.Measuring.{Measuring, measuring-start, measuring-end, turn-inside, turn-opens, turn-more}
+use Rattle.maker.proofs.Blocks.{turn}
+use Rattle.maker.proofs.Measuring.{Measuring, measuring-first, measuring-last, measuring-more}
 use Rattle.maker.proofs.parts.measure.Statement.{statement}
 use Rattle.maker.proofs.parts.measure.Tie as tie
 
 abbrev Inv-loop : tie.InvT-loop
-Inv-loop blocks count row rest₀ k₀ used₀ total₀ rest k used total = Measuring row count blocks k rest used total
+Inv-loop leaves first count row end₀ k₀ bodies₀ end k bodies = Measuring row first count leaves k end bodies
 
 abbrev μ-loop : tie.MeasureT-loop
-μ-loop blocks count row rest₀ k₀ used₀ total₀ rest k used total = count - k
+μ-loop leaves first count row end₀ k₀ bodies₀ end k bodies = count - k
 
 loop-holds : tie.Need-loop-holds Inv-loop μ-loop
-loop-holds c = measuring-start (c .before .pre)
+loop-holds c = measuring-first (c .before .pre .0) (c .before .pre .1)
+
+sub-rest : tie.Need-sub-rest Inv-loop μ-loop
+sub-rest c = c .before .loop .inv .running .inside
+
+part-rest-start : tie.Need-part-rest-start Inv-loop μ-loop
+part-rest-start = sub-rest
+
+part-rest-end : tie.Need-part-rest-end Inv-loop μ-loop
+part-rest-end c = le-refl _
 
 size-at-requires : tie.Need-size-at-requires Inv-loop μ-loop
 size-at-requires c κs = search needs
@@ -22,33 +32,24 @@ size-at-requires c κs = search needs
 opening-length-requires : tie.Need-opening-length-requires Inv-loop μ-loop
 opening-length-requires c κs = search needs
 
-add-used : tie.Need-add-used Inv-loop μ-loop
-add-used c =
-    let h = turn-inside _ _ _ (c .before .before .before .loop .inv) (c .before .before .loop-test .taken) (c .before .size-at .ensures)
+sub-bodies : tie.Need-sub-bodies Inv-loop μ-loop
+sub-bodies c =
+    turn (c .before .before .before .before .loop .inv .running) (c .before .before .before .loop-test .taken)
+    (c .before .size-at .ensures) (c .opening-length .ensures) .opens
+
+add-bodies : tie.Need-add-bodies Inv-loop μ-loop
+add-bodies c =
+    let i = c .before .before .before .before .loop .inv in
+    let t = turn (i .running) (c .before .before .before .loop-test .taken) (c .before .size-at .ensures)
     (c .opening-length .ensures) in
-    omega (arith, c .before .before .before .loop .inv .inside)
+    omega (arith, t .reaches, i .less)
 
-sub-total : tie.Need-sub-total Inv-loop μ-loop
-sub-total c =
-    turn-opens _ _ _ (c .before .before .before .loop .inv) (c .before .before .loop-test .taken) (c .before .size-at .ensures)
-    (c .opening-length .ensures)
-
-add-total : tie.Need-add-total Inv-loop μ-loop
-add-total c =
-    let h = turn-inside _ _ _ (c .before .before .before .loop .inv) (c .before .before .loop-test .taken) (c .before .size-at .ensures)
+add-end : tie.Need-add-end Inv-loop μ-loop
+add-end c =
+    let i = c .before .before .before .before .loop .inv in
+    let t = turn (i .running) (c .before .before .before .loop-test .taken) (c .before .size-at .ensures)
     (c .opening-length .ensures) in
-    omega (arith, c .before .before .before .loop .inv .inside, c .before .before .before .loop .inv .less)
-
-sub-rest : tie.Need-sub-rest Inv-loop μ-loop
-sub-rest c =
-    turn-inside _ _ _ (c .before .before .before .loop .inv) (c .before .before .loop-test .taken) (c .before .size-at .ensures)
-    (c .opening-length .ensures)
-
-part-rest-start : tie.Need-part-rest-start Inv-loop μ-loop
-part-rest-start c = sub-rest c
-
-part-rest-end : tie.Need-part-rest-end Inv-loop μ-loop
-part-rest-end c = le-refl _
+    omega (arith, t .reaches)
 
 add-k : tie.Need-add-k Inv-loop μ-loop
 add-k c = search needs
@@ -58,11 +59,13 @@ loop-less c = search needs
 
 loop-again : tie.Need-loop-again Inv-loop μ-loop
 loop-again c =
-    turn-more _ _ _ (c .before .before .before .before .loop .inv) (c .before .before .before .loop-test .taken)
-    (c .before .before .size-at .ensures) (c .before .opening-length .ensures)
+    let i = c .before .before .before .before .loop .inv in
+    measuring-more i
+    (turn (i .running) (c .before .before .before .loop-test .taken) (c .before .size-at .ensures)
+    (c .opening-length .ensures))
 
 returns : tie.Need-returns Inv-loop μ-loop
-returns c = measuring-end _ _ _ (c .before .loop .inv) (c .loop-test .left)
+returns c = measuring-last (c .before .loop .inv) (c .loop-test .left)
 
 pub measure-spec : {M : Type 1} → statement M
 measure-spec =
@@ -71,14 +74,14 @@ measure-spec =
     Inv-loop
     μ-loop
     loop-holds
-    size-at-requires
-    opening-length-requires
-    add-used
-    sub-total
-    add-total
     sub-rest
     part-rest-start
     part-rest-end
+    size-at-requires
+    opening-length-requires
+    sub-bodies
+    add-bodies
+    add-end
     add-k
     loop-less
     loop-again
