@@ -51,7 +51,7 @@ static void check(bool holds)
 }
 
 /* A counter for each number that a call answers: to the search, reaching a new one is coverage. */
-enum { READ, LISTED, SKIPPED, RESETS, READ_MAGIC, LOAD, LOOK, SELECTED, SWITCHES, WRITE, MAKE, KINDS_OF_NUMBERS };
+enum { READ, LISTED, SKIPPED, RESETS, POWER, READ_MAGIC, LOAD, LOOK, SELECTED, SWITCHES, WRITE, MAKE, KINDS_OF_NUMBERS };
 
 __attribute__((section("__libfuzzer_extra_counters"))) static uint8_t counters[KINDS_OF_NUMBERS][256];
 
@@ -82,11 +82,14 @@ static void read_and_view(const uint8_t *image, size_t length, srom_arguments ar
     reach(LISTED, answer.listed);
     reach(SKIPPED, answer.skipped);
     reach(RESETS, answer.resets);
+    reach(POWER, answer.power);
     if (answer.number != SROM_ACCEPTED) {
         check(memcmp(kinds.bytes, before.bytes, room * 2) == 0 && memcmp(offsets.bytes, before.bytes, room * 2) == 0);
         check(answer.blocks == 0 && answer.listed == 0 && answer.address == 0 && answer.default_number == 0);
+        check(answer.resets == 0 && answer.skipped == 0 && answer.power == 0);
     } else {
-        check(answer.listed + answer.resets + answer.skipped == answer.blocks && answer.blocks <= room);
+        check(answer.listed + answer.resets + answer.power + answer.skipped == answer.blocks && answer.blocks <= room);
+        check(answer.power == 0 || arguments.level == SROM_NEWEST_LEVEL);
         size_t after = (room - answer.listed) * 2;
         check(memcmp(kinds.bytes + answer.listed * 2, before.bytes, after) == 0);
         check(memcmp(offsets.bytes + answer.listed * 2, before.bytes, after) == 0);
@@ -220,7 +223,7 @@ int LLVMFuzzerTestOneInput(const uint8_t *data, size_t size)
         return 0;
     uint8_t flags = data[0];
     srom_layout layout = {(flags & MAGIC) != 0};
-    srom_arguments arguments = {chips[data[1] % 8], data[2] % 40, data[3] % 9, layout};
+    srom_arguments arguments = {chips[data[1] % 8], data[2] % 40, data[3] % 10, layout};
     size_t room = data[4], length = flags & OTHER_LENGTH ? data[5] : SROM_IMAGE_LENGTH;
     data += 6;
     size -= 6;

@@ -27,7 +27,7 @@ extern "C" {
 enum {
     SROM_IMAGE_LENGTH = 128,  /* bytes of an image */
     SROM_LONGEST_SHEET = 398, /* bytes of the longest sheet of an accepted image */
-    SROM_NEWEST_LEVEL = 6,    /* a reader of level n knows the extended types below n */
+    SROM_NEWEST_LEVEL = 7,    /* a reader of level n knows the extended types below n */
     SROM_NONE = 255           /* no default block, no selected block */
 };
 
@@ -63,7 +63,8 @@ enum {
     SROM_LEAF_TOO_LONG = 26,       /* leaf past byte 123 (91 with a Magic Packet block) */
     SROM_NOT_TIDY = 27,            /* more than one controller, leaf not at 30, or bytes behind the leaf not 0 */
     SROM_BAD_MAGIC_CRC = 29,       /* CRC of the Magic Packet block differs */
-    SROM_BAD_MAGIC_RESERVED = 30   /* reserved byte of the Magic Packet block not 0 */
+    SROM_BAD_MAGIC_RESERVED = 30,  /* reserved byte of the Magic Packet block not 0 */
+    SROM_REPEATED_MODE = 31        /* a bit of the mode byte set in two power blocks (type 6) */
 };
 
 /* Chips, by their decimal numbers. The 21140A counts as 21140. */
@@ -124,10 +125,11 @@ typedef struct srom_answer {
     uint16_t connection;    /* connection type of the leaf */
     uint8_t control;        /* general purpose control byte; 0 but for the 21140 */
     uint64_t address;       /* the controller's station address, the first byte in bits 47:40 */
-    uint8_t blocks;         /* blocks of the leaf: listed + resets + skipped */
+    uint8_t blocks;         /* blocks of the leaf: listed + resets + skipped + power */
     uint8_t listed;         /* entries of the media table */
     uint8_t resets;         /* known type 5 blocks */
     uint8_t skipped;        /* blocks of types that the reader does not know */
+    uint8_t power;          /* known type 6 blocks, by which the PHY is shut down; 0 below level 7 */
     uint8_t default_number; /* block number of the default medium, or SROM_NONE */
 } srom_answer;
 
@@ -135,8 +137,8 @@ typedef struct srom_answer {
  * The media table of a controller's leaf, in autosense order: kinds and byte offsets of the listed blocks, from the last block
  * to the first. Elements behind the listed ones are unchanged; on a refusal both arrays are. Arrays of 91 elements are long
  * enough for every image that is accepted.
- * Refusals: 1 to 4, 29 and 30 where the layout has the Magic Packet block, 5 to 18, in this order, the blocks judged one after
- * another (13 to 17 each), 18 last.
+ * Refusals: 1 to 4, 29 and 30 where the layout has the Magic Packet block, 5 to 18, 31, in this order, the blocks judged one
+ * after another (13 to 17 each), then 18 and 31 over all that the reader knows.
  */
 srom_answer srom_read(const uint8_t *image, size_t image_length, srom_arguments arguments,
                       uint16_t *kinds, size_t kinds_length, uint16_t *offsets, size_t offsets_length);

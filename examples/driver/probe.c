@@ -45,7 +45,8 @@ static uint8_t list_media(const uint8_t *image, srom_arguments arguments)
     printf("address %012" PRIx64 ", connection type 0x%04x\n", answer.address, (unsigned)answer.connection);
     for (size_t entry = 0; entry < answer.listed; entry++)
         print_block(image, arguments, kinds[entry], offsets[entry], entry);
-    printf("  %u resets, %u blocks of unknown types stepped over\n", (unsigned)answer.resets, (unsigned)answer.skipped);
+    printf("  %u resets, %u power blocks, %u blocks of unknown types stepped over\n", (unsigned)answer.resets,
+           (unsigned)answer.power, (unsigned)answer.skipped);
     return SROM_ACCEPTED;
 }
 

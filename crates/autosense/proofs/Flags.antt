@@ -10,7 +10,7 @@ use lib.Seq.{set-append-seam}
 use Rattle.rom.specs.Refusal.{firstMet}
 use Rattle.block.specs.declared.Block.{Block}
 use Rattle.block.specs.Answer.{blockOf, numberOf, sizeIn, listedIn}
-use Rattle.block.proofs.Seen.{Seen, refused, unknown, a-reset, a-medium, seen-size, seen-listed}
+use Rattle.block.proofs.Seen.{Seen, refused, unknown, a-reset, a-power, a-medium, seen-size, seen-listed}
 use Rattle.format.specs.Block.{isListed}
 use Rattle.rom.specs.Bytes.{one}
 use Rattle.leaf.specs.Leaf.{cut, blockCauses}
@@ -48,7 +48,8 @@ unfolding isInvalid isListed
 seen-invalid (refused n e h) z = absurd (h z)
 seen-invalid (unknown e f) z = simp f
 seen-invalid (a-reset e f g) z = let h = rw g at f in simp (g, h)
-seen-invalid (a-medium e f g) z = simp (f, g)
+seen-invalid (a-power e f g) z = let h = rw g at f in simp (g, h)
+seen-invalid (a-medium e f g) z = simp (f, g .0, g .1)
 
 -- the rows after k blocks, of which bs are left
 pub record Filled (row level : ℕ) (whole bs : List (List ℕ)) (k : ℕ) (listed invalid : List ℕ) : Type 0 where

@@ -91,6 +91,7 @@ fn listed_flag(b: Block) -> u8
     match b {
         Block::Listed(_) => 1,
         Block::Reset { size: _ } => 0,
+        Block::Power { size: _, mode: _ } => 0,
         Block::Unknown { size: _ } => 0,
         Block::Refused(_) => 0,
     }
@@ -103,6 +104,7 @@ fn invalid_flag(b: Block) -> u8
     match b {
         Block::Listed(medium) => flag_of(medium.active_invalid),
         Block::Reset { size: _ } => 0,
+        Block::Power { size: _, mode: _ } => 0,
         Block::Unknown { size: _ } => 0,
         Block::Refused(_) => 0,
     }

@@ -13,7 +13,7 @@ use Rattle.rom.proofs.First.{none-here}
 use Rattle.rom.proofs.Truth.{or-false}
 use Rattle.format.specs.Chips.{kindCompact, kind21041}
 use Rattle.format.specs.Block.{Facts, is21041, isExtended, lengthOf, siaSize, sizeOf, kindOf, isKnown, gCount, rCount, capabilitiesAt}
-use Rattle.format.specs.Block.{lengthFor, isWrong, sia, port, symbol, phy, reset, factsOf, causes, refusalOf}
+use Rattle.format.specs.Block.{lengthFor, isWrong, sia, port, symbol, phy, sequence, factsOf, causes, refusalOf}
 use Rattle.block.specs.Answer.{blockOf}
 use Rattle.block.specs.Inside.{phyLength}
 use Rattle.block.specs.Claims.{OwnBytes}
@@ -163,13 +163,19 @@ module _ (row : ℕ) (s t : List ℕ) (bytes : Bytes s) (whole : sizeOf row s �
       let n = asked 4 k (lit< tt) e in
       rw (wrong-same 4 k (lit< tt) refl, own 2 (omega (arith, n)), own-word 7 (omega (arith, n)))
 
+  own-type-5 : kindOf row s ≡ 5 → Kept (sequence (isWrong 5 s) 0) (sequence (isWrong 5 t) 0)
+  unfolding sequence lengthFor pick
+  own-type-5 k e =
+      let n = asked 5 k (lit< tt) e in
+      rw (wrong-same 5 k (lit< tt) (rw (own 2 (omega (arith, n)))))
+
   -- the last form of `factsOf`, for every type that has no other
-  own-reset : kindOf row s < kindCompact → Kept (reset (isWrong 5 s)) (reset (isWrong 5 t))
-  unfolding reset isWrong lengthFor pick
-  own-reset h e =
-      let l : lengthOf s ≡ 2 * byteAt s 2 + 2 = right 5 s e in
+  own-power : kindOf row s < kindCompact → Kept (sequence (isWrong 6 s) (byteAt s 2)) (sequence (isWrong 6 t) (byteAt t 2))
+  unfolding sequence isWrong lengthFor gCount pick
+  own-power h e =
+      let l : lengthOf s ≡ 2 * byteAt s 3 + 3 = right 6 s e in
       let n = type-size (formed row s) h in
-      rw (own-length, own 2 (omega (arith, n, l)))
+      rw (own-length, own 2 (omega (arith, n, l)), own 3 (omega (arith, n, l)))
 
   own-compact : kindOf row s ≡ kindCompact → Kept (port false 0 s) (port false 0 t)
   unfolding port
@@ -182,29 +188,32 @@ module _ (row : ℕ) (s t : List ℕ) (bytes : Bytes s) (whole : sizeOf row s �
   own-21041 e = rw first
 
   -- what `factsOf` says by its tests
-  unfoldable facts-by : List ℕ → Bool → Bool → Bool → Bool → Bool → Bool → Bool → Facts
-  facts-by u a b c d e f g =
+  unfoldable facts-by : List ℕ → Bool → Bool → Bool → Bool → Bool → Bool → Bool → Bool → Facts
+  facts-by u a b c d e f g h =
       pick a (sia false 0 u) (pick b (port false 0 u) (pick c (port (isWrong 0 u) 2 u) (pick d (phy (isWrong 1 u) 1 u)
-      (pick e (sia (isWrong 2 u) 2 u) (pick f (phy (isWrong 3 u) 2 u) (pick g (symbol (isWrong 4 u) u) (reset (isWrong 5 u))))))))
+      (pick e (sia (isWrong 2 u) 2 u) (pick f (phy (isWrong 3 u) 2 u) (pick g (symbol (isWrong 4 u) u)
+      (pick h (sequence (isWrong 5 u) 0) (sequence (isWrong 6 u) (byteAt u 2)))))))))
 
   own-facts : (k : ℕ) → kindOf row s ≡ k → Kept (factsOf k s) (factsOf k t)
   unfolding factsOf facts-by pick
   own-facts k h =
       go (eqb k kind21041) refl (eqb k kindCompact) refl (eqb k 0) refl (eqb k 1) refl (eqb k 2) refl (eqb k 3) refl (eqb k 4) refl
+      (eqb k 5) refl
     where
       go : (x₁ : Bool) → eqb k kind21041 ≡ x₁ → (x₂ : Bool) → eqb k kindCompact ≡ x₂
           → (x₃ : Bool) → eqb k 0 ≡ x₃ → (x₄ : Bool) → eqb k 1 ≡ x₄ → (x₅ : Bool) → eqb k 2 ≡ x₅ → (x₆ : Bool) → eqb k 3 ≡ x₆ → (x₇ : Bool)
-          → eqb k 4 ≡ x₇
-          → Kept (facts-by s x₁ x₂ x₃ x₄ x₅ x₆ x₇) (facts-by t x₁ x₂ x₃ x₄ x₅ x₆ x₇)
-      go true e₁ x₂ e₂ x₃ e₃ x₄ e₄ x₅ e₅ x₆ e₆ x₇ e₇ = own-21041
-      go false e₁ true e₂ x₃ e₃ x₄ e₄ x₅ e₅ x₆ e₆ x₇ e₇ = own-compact (h ∙ eqb-true k kindCompact e₂)
-      go false e₁ false e₂ true e₃ x₄ e₄ x₅ e₅ x₆ e₆ x₇ e₇ = own-type-0 (h ∙ eqb-true k 0 e₃)
-      go false e₁ false e₂ false e₃ true e₄ x₅ e₅ x₆ e₆ x₇ e₇ = own-phy 1 (h ∙ eqb-true k 1 e₄) (lit< tt) 1 type-1
-      go false e₁ false e₂ false e₃ false e₄ true e₅ x₆ e₆ x₇ e₇ = own-type-2 (h ∙ eqb-true k 2 e₅)
-      go false e₁ false e₂ false e₃ false e₄ false e₅ true e₆ x₇ e₇ = own-phy 3 (h ∙ eqb-true k 3 e₆) (lit< tt) 2 type-3
-      go false e₁ false e₂ false e₃ false e₄ false e₅ false e₆ true e₇ = own-type-4 (h ∙ eqb-true k 4 e₇)
-      go false e₁ false e₂ false e₃ false e₄ false e₅ false e₆ false e₇ =
-          own-reset (a-type (formed row s) bytes (λ e. eqb-false k kind21041 e₁ (sym h ∙ e)) (λ e. eqb-false k kindCompact e₂ (sym h ∙ e)))
+          → eqb k 4 ≡ x₇ → (x₈ : Bool) → eqb k 5 ≡ x₈
+          → Kept (facts-by s x₁ x₂ x₃ x₄ x₅ x₆ x₇ x₈) (facts-by t x₁ x₂ x₃ x₄ x₅ x₆ x₇ x₈)
+      go true e₁ x₂ e₂ x₃ e₃ x₄ e₄ x₅ e₅ x₆ e₆ x₇ e₇ x₈ e₈ = own-21041
+      go false e₁ true e₂ x₃ e₃ x₄ e₄ x₅ e₅ x₆ e₆ x₇ e₇ x₈ e₈ = own-compact (h ∙ eqb-true k kindCompact e₂)
+      go false e₁ false e₂ true e₃ x₄ e₄ x₅ e₅ x₆ e₆ x₇ e₇ x₈ e₈ = own-type-0 (h ∙ eqb-true k 0 e₃)
+      go false e₁ false e₂ false e₃ true e₄ x₅ e₅ x₆ e₆ x₇ e₇ x₈ e₈ = own-phy 1 (h ∙ eqb-true k 1 e₄) (lit< tt) 1 type-1
+      go false e₁ false e₂ false e₃ false e₄ true e₅ x₆ e₆ x₇ e₇ x₈ e₈ = own-type-2 (h ∙ eqb-true k 2 e₅)
+      go false e₁ false e₂ false e₃ false e₄ false e₅ true e₆ x₇ e₇ x₈ e₈ = own-phy 3 (h ∙ eqb-true k 3 e₆) (lit< tt) 2 type-3
+      go false e₁ false e₂ false e₃ false e₄ false e₅ false e₆ true e₇ x₈ e₈ = own-type-4 (h ∙ eqb-true k 4 e₇)
+      go false e₁ false e₂ false e₃ false e₄ false e₅ false e₆ false e₇ true e₈ = own-type-5 (h ∙ eqb-true k 5 e₈)
+      go false e₁ false e₂ false e₃ false e₄ false e₅ false e₆ false e₇ false e₈ =
+          own-power (a-type (formed row s) bytes (λ e. eqb-false k kind21041 e₁ (sym h ∙ e)) (λ e. eqb-false k kindCompact e₂ (sym h ∙ e)))
 
 -- ## An accepted block
 

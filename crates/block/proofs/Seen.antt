@@ -3,49 +3,61 @@ use Prim.Native.Nat.{ℕ, zero, suc, _≤_, _<_}
 use native.Mathlib.Omega.{arith}
 use mathlib.Core.List.{List}
 use mathlib.Core.Path.{_≡_, refl, sym, _∙_}
-use mathlib.Core.Bool.{Bool, true, false}
+use mathlib.Core.Bool.{Bool, true, false, _&&_}
 use lib.Dec.{eqb, lit<, eqb·suc-zero}
 use lib.ListN.{length}
 use borrow.Author.Tests.{ltb-false, eqb-true}
-use Rattle.rom.specs.Bytes.{pick, one}
+use Rattle.rom.specs.Bytes.{pick, one, byteAt}
 use Rattle.rom.proofs.First.{none-here}
 use Rattle.block.specs.declared.Block.{Block}
-use Rattle.block.specs.declared.Block.the-variants.{Reset, Unknown, Refused}
-use Rattle.format.specs.Block.{sizeOf, kindOf, isKnown, factsOf, isListed, causes, refusalOf}
-use Rattle.block.specs.Answer.{listed, found, answered, blockOf, numberOf, sizeIn, listedIn, kindIn}
-use Rattle.block.specs.Claims.{AnswersRefusal, AnswersEntry}
+use Rattle.block.specs.declared.Block.the-variants.{Reset, Power, Unknown, Refused}
+use Rattle.format.specs.Block.{Facts, sizeOf, kindOf, isKnown, sequence, factsOf, isListed, isPower, causes, refusalOf}
+use Rattle.block.specs.Answer.{listed, found, answered, blockOf, numberOf, sizeIn, listedIn, kindIn, modeIn}
+use Rattle.block.specs.Claims.{AnswersRefusal, AnswersEntry, AnswersMode}
 
 pub data Seen (row level : ℕ) (s : List ℕ) : Block → Type 0 where
   refused : (n : ℕ) → refusalOf row level s ≡ n → (n ≡ 0 → ⊥) → Seen row level s (Refused n)
   unknown : refusalOf row level s ≡ 0 → isKnown level (kindOf row s) ≡ false → Seen row level s (Unknown (sizeOf row s))
   a-reset : refusalOf row level s ≡ 0 → isKnown level (kindOf row s) ≡ true → kindOf row s ≡ 5 → Seen row level s (Reset (sizeOf row s))
-  a-medium : refusalOf row level s ≡ 0 → isKnown level (kindOf row s) ≡ true → eqb (kindOf row s) 5 ≡ false
+  a-power : refusalOf row level s ≡ 0 → isKnown level (kindOf row s) ≡ true → kindOf row s ≡ 6
+      → Seen row level s (Power (sizeOf row s) (factsOf (kindOf row s) s .mode))
+  a-medium : refusalOf row level s ≡ 0 → isKnown level (kindOf row s) ≡ true
+      → (eqb (kindOf row s) 5 ≡ false) × (eqb (kindOf row s) 6 ≡ false)
       → Seen row level s (listed (kindOf row s) (sizeOf row s) (factsOf (kindOf row s) s))
 
 pub seen : (row level : ℕ) (s : List ℕ) → Seen row level s (blockOf row level s)
 unfolding blockOf answered found pick
-seen row level s = go (refusalOf row level s) refl (isKnown level (kindOf row s)) refl (eqb (kindOf row s) 5) refl
+seen row level s =
+    go (refusalOf row level s) refl (isKnown level (kindOf row s)) refl (eqb (kindOf row s) 5) refl (eqb (kindOf row s) 6) refl
   where
+    facts : Facts
+    facts = factsOf (kindOf row s) s
+
     go : (n : ℕ) → refusalOf row level s ≡ n → (t : Bool) → isKnown level (kindOf row s) ≡ t → (u : Bool) → eqb (kindOf row s) 5 ≡ u
+        → (v : Bool) → eqb (kindOf row s) 6 ≡ v
         → Seen row level s
         (pick (eqb n 0)
-        (pick t (pick u (Reset (sizeOf row s)) (listed (kindOf row s) (sizeOf row s) (factsOf (kindOf row s) s)))
+        (pick t
+        (pick u (Reset (sizeOf row s)) (pick v (Power (sizeOf row s) (facts .mode)) (listed (kindOf row s) (sizeOf row s) facts)))
         (Unknown (sizeOf row s))) (Refused n))
-    go zero e true f true g = a-reset e f (eqb-true (kindOf row s) 5 g)
-    go zero e true f false g = a-medium e f g
-    go zero e false f u g = unknown e f
-    go (suc n) e t f u g = rw (eqb·suc-zero n) (refused (suc n) e (λ z. omega arith))
+    go zero e true f true g v h = a-reset e f (eqb-true (kindOf row s) 5 g)
+    go zero e true f false g true h = a-power e f (eqb-true (kindOf row s) 6 h)
+    go zero e true f false g false h = a-medium e f (g, h)
+    go zero e false f u g v h = unknown e f
+    go (suc n) e t f u g v h = rw (eqb·suc-zero n) (refused (suc n) e (λ z. omega arith))
 
 pub seen-number : {row level : ℕ} {s : List ℕ} {b : Block} → Seen row level s b → numberOf b ≡ refusalOf row level s
 seen-number (refused n e h) = sym e
 seen-number (unknown e f) = sym e
 seen-number (a-reset e f g) = sym e
+seen-number (a-power e f g) = sym e
 seen-number (a-medium e f g) = sym e
 
 pub seen-size : {row level : ℕ} {s : List ℕ} {b : Block} → Seen row level s b → numberOf b ≡ 0 → sizeIn b ≡ sizeOf row s
 seen-size (refused n e h) z = absurd (h z)
 seen-size (unknown e f) z = refl
 seen-size (a-reset e f g) z = refl
+seen-size (a-power e f g) z = refl
 seen-size (a-medium e f g) z = refl
 
 -- whether it is listed, and the kind in its entry
@@ -54,7 +66,8 @@ unfolding isListed
 seen-listed (refused n e h) z = absurd (h z)
 seen-listed (unknown e f) z = simp f
 seen-listed (a-reset e f g) z = let h = rw g at f in simp (g, h)
-seen-listed (a-medium e f g) z = simp (f, g)
+seen-listed (a-power e f g) z = let h = rw g at f in simp (g, h)
+seen-listed (a-medium e f g) z = simp (f, g .0, g .1)
 
 seen-entry : {row level : ℕ} {s : List ℕ} {b : Block} → Seen row level s b → numberOf b ≡ 0
     → kindIn b ≡ pick (isListed row level s) (kindOf row s) 0
@@ -62,13 +75,24 @@ unfolding isListed pick
 seen-entry (refused n e h) z = absurd (h z)
 seen-entry (unknown e f) z = simp f
 seen-entry (a-reset e f g) z = let h = rw g at f in simp (g, h)
-seen-entry (a-medium e f g) z = simp (f, g)
+seen-entry (a-power e f g) z = let h = rw g at f in simp (g, h)
+seen-entry (a-medium e f g) z = simp (f, g .0, g .1)
 
 pub seen-kind : {row level : ℕ} {s : List ℕ} {b : Block} → Seen row level s b → 0 < listedIn b → kindIn b ≡ kindOf row s
 seen-kind (refused n e h) l = absurd (omega arith)
 seen-kind (unknown e f) l = absurd (omega arith)
 seen-kind (a-reset e f g) l = absurd (omega arith)
+seen-kind (a-power e f g) l = absurd (omega arith)
 seen-kind (a-medium e f g) l = refl
+
+pub seen-mode : {row level : ℕ} {s : List ℕ} {b : Block} → Seen row level s b → numberOf b ≡ 0
+    → modeIn b ≡ pick (isPower row level s) (factsOf (kindOf row s) s .mode) 0
+unfolding isPower pick
+seen-mode (refused n e h) z = absurd (h z)
+seen-mode (unknown e f) z = simp f
+seen-mode (a-reset e f g) z = let h = rw g at f in simp (g, h)
+seen-mode (a-power e f g) z = let h = rw g at f in simp (g, h)
+seen-mode (a-medium e f g) z = simp (f, g .1)
 
 pub answers-refusal : AnswersRefusal
 answers-refusal row level s =
@@ -80,6 +104,18 @@ answers-entry row level s e =
     let v = seen row level s in
     let z = seen-number v ∙ e in
     (sym (seen-listed v z), seen-entry v z)
+
+pub answers-mode : AnswersMode
+unfolding isPower factsOf sequence pick
+answers-mode row level s e =
+    let v = seen row level s in
+    seen-mode v (seen-number v ∙ e) ∙ go (isKnown level (kindOf row s)) (eqb (kindOf row s) 6) (eqb-true (kindOf row s) 6)
+  where
+    go : (k t : Bool) → (t ≡ true → kindOf row s ≡ 6)
+        → pick (k && t) (factsOf (kindOf row s) s .mode) 0 ≡ pick (k && t) (byteAt s 2) 0
+    go true true h = rw (h refl)
+    go true false h = refl
+    go false t h = refl
 
 -- an accepted block lies in the rest
 pub fits : (row level : ℕ) (s : List ℕ) → refusalOf row level s ≡ 0 → sizeOf row s ≤ length s

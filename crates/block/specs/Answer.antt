@@ -1,11 +1,11 @@
--- What a block is found to be, as the enum `Block`, and document 01's number and values for each of its cases.
+-- What a block is found to be, as the enum `Block`, and the number and values of documents 01 and 02 for each of its cases.
 use Prim.Native.Nat.{ℕ}
 use mathlib.Core.List.{List}
 use lib.Dec.{eqb}
 use Rattle.rom.specs.Bytes.{pick}
 use Rattle.block.specs.declared.Block.{Block}
 use Rattle.block.specs.declared.Medium.{Medium}
-use Rattle.block.specs.declared.Block.the-variants.{Listed, Reset, Unknown, Refused}
+use Rattle.block.specs.declared.Block.the-variants.{Listed, Reset, Power, Unknown, Refused}
 use Rattle.format.specs.Block.{Facts, sizeOf, kindOf, isKnown, factsOf, refusalOf}
 
 -- ## The cases
@@ -18,9 +18,9 @@ mediumOf kind size f =
 abbrev pub listed : ℕ → ℕ → Facts → Block
 listed kind size f = Listed (mediumOf kind size f)
 
--- known blocks but type 5 are listed
+-- known blocks but types 5 and 6 are listed
 unfoldable pub found : ℕ → ℕ → Facts → Block
-found kind size f = pick (eqb kind 5) (Reset size) (listed kind size f)
+found kind size f = pick (eqb kind 5) (Reset size) (pick (eqb kind 6) (Power size (f .mode)) (listed kind size f))
 
 -- a refusal has its number and no more
 unfoldable pub answered : ℕ → Block → Block
@@ -38,6 +38,7 @@ blockOf row level s =
 abbrev pub numberOf : Block → ℕ
 numberOf (Listed m) = 0
 numberOf (Reset size) = 0
+numberOf (Power size mode) = 0
 numberOf (Unknown size) = 0
 numberOf (Refused n) = n
 
@@ -45,6 +46,7 @@ numberOf (Refused n) = n
 abbrev pub sizeIn : Block → ℕ
 sizeIn (Listed m) = m .size
 sizeIn (Reset size) = size
+sizeIn (Power size mode) = size
 sizeIn (Unknown size) = size
 sizeIn (Refused n) = 0
 
@@ -52,6 +54,7 @@ sizeIn (Refused n) = 0
 abbrev pub listedIn : Block → ℕ
 listedIn (Listed m) = 1
 listedIn (Reset size) = 0
+listedIn (Power size mode) = 0
 listedIn (Unknown size) = 0
 listedIn (Refused n) = 0
 
@@ -59,5 +62,14 @@ listedIn (Refused n) = 0
 abbrev pub kindIn : Block → ℕ
 kindIn (Listed m) = m .kind
 kindIn (Reset size) = 0
+kindIn (Power size mode) = 0
 kindIn (Unknown size) = 0
 kindIn (Refused n) = 0
+
+-- the mode byte of a power block, 0 where it is none
+abbrev pub modeIn : Block → ℕ
+modeIn (Listed m) = 0
+modeIn (Reset size) = 0
+modeIn (Power size mode) = mode
+modeIn (Unknown size) = 0
+modeIn (Refused n) = 0

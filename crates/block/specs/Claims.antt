@@ -4,9 +4,9 @@ use mathlib.Core.Path.{_≡_}
 use mathlib.Core.Bool.{true}
 use mathlib.Core.List.{List}
 use lib.ListN.{take}
-use Rattle.rom.specs.Bytes.{pick, one, Bytes}
-use Rattle.format.specs.Block.{sizeOf, kindOf, isKnown, factsOf, isListed, refusalOf}
-use Rattle.block.specs.Answer.{blockOf, numberOf, sizeIn, listedIn, kindIn}
+use Rattle.rom.specs.Bytes.{pick, one, byteAt, Bytes}
+use Rattle.format.specs.Block.{sizeOf, kindOf, isKnown, factsOf, isListed, isPower, refusalOf}
+use Rattle.block.specs.Answer.{blockOf, numberOf, sizeIn, listedIn, kindIn, modeIn}
 
 -- the answer's number is the block's refusal, and an accepted block has its size
 abbrev pub AnswersRefusal : Type 0
@@ -19,6 +19,11 @@ abbrev pub AnswersEntry : Type 0
 AnswersEntry = (row level : ℕ) (s : List ℕ) → refusalOf row level s ≡ 0 →
     (listedIn (blockOf row level s) ≡ one (isListed row level s))
     × (kindIn (blockOf row level s) ≡ pick (isListed row level s) (kindOf row s) 0)
+
+-- and the mode byte of a power block, which is behind its type
+abbrev pub AnswersMode : Type 0
+AnswersMode = (row level : ℕ) (s : List ℕ) → refusalOf row level s ≡ 0
+    → modeIn (blockOf row level s) ≡ pick (isPower row level s) (byteAt s 2) 0
 
 -- a level matters only by whether it knows the block
 abbrev pub OnlyKnown : Type 0

@@ -1,4 +1,5 @@
-// The chips and what each takes: one row a chip, at the same place in every table (document 01, 'Leaf and blocks').
+// The chips and what each takes: one row a chip, at the same place in every table (document 01, 'Leaf and blocks'; document 02,
+// request 3).
 use super::KIND_21041;
 use super::KIND_COMPACT;
 use super::search::is_in;
@@ -98,12 +99,12 @@ const CONNECTIONS_21142: [u16; 20] = [
 ];
 
 // Permitted kinds of blocks. A row that lists fewer repeats its first kind.
-const PERMITTED: [[u16; 4]; 5] = [
-    [KIND_21041, KIND_21041, KIND_21041, KIND_21041],
-    [KIND_COMPACT, 0, 1, 5],
-    [2, 3, 5, 2],
-    [2, 3, 4, 5],
-    [2, 3, 4, 5],
+const PERMITTED: [[u16; 5]; 5] = [
+    [KIND_21041, KIND_21041, KIND_21041, KIND_21041, KIND_21041],
+    [KIND_COMPACT, 0, 1, 5, KIND_COMPACT],
+    [2, 3, 5, 2, 2],
+    [2, 3, 4, 5, 6],
+    [2, 3, 4, 5, 6],
 ];
 
 // The row of a chip, or 5 where it is none of them.

@@ -1,4 +1,4 @@
-// One block of an info leaf: its size, kind, flags and refusal (document 01, 'Leaf and blocks').
+// One block of an info leaf: its size, kind, flags and refusal (document 01, 'Leaf and blocks'; document 02, request 3).
 pub mod chip;
 mod search;
 pub mod shape;
@@ -13,9 +13,9 @@ ghost use mathlib.Core.Bool.{false};
 ghost use Prim.Native.Nat.{ℕ, _+_, _≤_, _<_};
 ghost use Rattle.rom.specs.Bytes.{byteAt, bit};
 ghost use Rattle.format.specs.Chips.{row21041, newestLevel};
-ghost use Rattle.format.specs.Block.{lengthOf, siaSize, countsAsDefault, exceeds, lengthFor, isWrong, sia, port, symbol, phy, reset};
-ghost use Rattle.block.specs.Inside.{asMedium, judged, judgedAs, phyLength};
-ghost use Rattle.block.specs.Answer.{blockOf, numberOf, sizeIn, listedIn};
+ghost use Rattle.format.specs.Block.{lengthOf, siaSize, countsAsDefault, exceeds, lengthFor, isWrong, sia, port, symbol, phy, sequence};
+ghost use Rattle.block.specs.Inside.{asMedium, asPower, judged, judgedAs, phyLength};
+ghost use Rattle.block.specs.Answer.{blockOf, numberOf, sizeIn, listedIn, modeIn};
 
 // The kind of a compact block. An extended block's kind is its type.
 pub const KIND_COMPACT: u16 = 256;
@@ -23,8 +23,8 @@ pub const KIND_COMPACT: u16 = 256;
 // The kind of a 21041 block.
 pub const KIND_21041: u16 = 257;
 
-// How many extended types there are to know: 0 to 5.
-pub const NEWEST_LEVEL: u8 = 6;
+// How many extended types there are to know: 0 to 6.
+pub const NEWEST_LEVEL: u8 = 7;
 
 // Bits of a code byte and of a command word.
 const EXT: u16 = 6;
@@ -55,6 +55,7 @@ pub struct Medium {
 pub enum Block {
     Listed(Medium),
     Reset { size: usize },
+    Power { size: usize, mode: u8 },
     Unknown { size: usize },
     Refused(u8),
 }
@@ -66,6 +67,7 @@ pub fn number_of(block: Block) -> u8
     match block {
         Block::Listed(_) => refusal::ACCEPTED,
         Block::Reset { size: _ } => refusal::ACCEPTED,
+        Block::Power { size: _, mode: _ } => refusal::ACCEPTED,
         Block::Unknown { size: _ } => refusal::ACCEPTED,
         Block::Refused(number) => number,
     }
@@ -78,6 +80,7 @@ pub fn size_of(block: Block) -> usize
     match block {
         Block::Listed(medium) => medium.size,
         Block::Reset { size } => size,
+        Block::Power { size, mode: _ } => size,
         Block::Unknown { size } => size,
         Block::Refused(_) => 0,
     }
@@ -90,6 +93,20 @@ pub fn listed_of(block: Block) -> usize
     match block {
         Block::Listed(_) => 1,
         Block::Reset { size: _ } => 0,
+        Block::Power { size: _, mode: _ } => 0,
+        Block::Unknown { size: _ } => 0,
+        Block::Refused(_) => 0,
+    }
+}
+
+// The mode byte of a power block; 0 where it is none.
+pub fn mode_of(block: Block) -> u8
+    ensures { λ r. ⌜ r ≡ modeIn block ⌝ }
+{
+    match block {
+        Block::Listed(_) => 0,
+        Block::Reset { size: _ } => 0,
+        Block::Power { size: _, mode } => mode,
         Block::Unknown { size: _ } => 0,
         Block::Refused(_) => 0,
     }
@@ -250,13 +267,29 @@ fn judge_type_4(rest: &[u8], len: usize) -> Block
 // Type 5, length 2r+2: r, r words.
 fn judge_type_5(rest: &[u8], len: usize) -> Block
     requires { ⌜ (len ≡ lengthOf (now rest)) × (len < 128) ⌝ }
-    ensures { λ r. ⌜ r ≡ judged (reset (isWrong 5 (now (rest .entry)))) (Block.Reset (1 + len)) ⌝ }
+    ensures { λ r. ⌜ r ≡ judged (sequence (isWrong 5 (now (rest .entry))) 0) (Block.Reset (1 + len)) ⌝ }
 {
     let resets = count_at(rest, 2);
     if len != 2 * resets + 2 {
         return Block::Refused(refusal::BLOCK_LENGTH);
     }
     Block::Reset { size: 1 + len }
+}
+
+// Type 6, length 2g+3: a mode byte, which is not judged, g, g words.
+fn judge_type_6(rest: &[u8], len: usize) -> Block
+    requires { ⌜ (len ≡ lengthOf (now rest)) × (len < 128) ⌝ }
+    ensures { λ r. ⌜ r ≡ asPower (1 + len) (now (rest .entry)) ⌝ }
+{
+    let words = count_at(rest, 3);
+    if len != 2 * words + 3 {
+        return Block::Refused(refusal::BLOCK_LENGTH);
+    }
+    let mode = rom::byte_at(rest, ByteOffset(2));
+    Block::Power {
+        size: 1 + len,
+        mode,
+    }
 }
 
 // Types 1 and 3, g and r counting units of one byte or two: length 12+g+r or 13+2g+2r. A count past the block's end asks for more than
@@ -299,7 +332,8 @@ fn judge_type(rest: &[u8], kind: u8, len: usize) -> Block
         2 => judge_type_2(rest, len),
         3 => judge_phy(rest, len, 3, 2),
         4 => judge_type_4(rest, len),
-        _ => judge_type_5(rest, len),
+        5 => judge_type_5(rest, len),
+        _ => judge_type_6(rest, len),
     }
 }
 

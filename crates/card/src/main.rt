@@ -45,7 +45,7 @@ print words (0x08:  2034 0104); - is standard input. CHIP is 21041, 21140,
 21142, 21143 or 21145. OUT is not written over without --force.
 
 OPTIONS are --controller N, which counts from 0 and is 0 where it is not given,
---level N, 0 to 6, how many extended types the reader knows, which is the
+--level N, 0 to 7, how many extended types the reader knows, which is the
 newest where it is not given, and --magic, for a card that is laid out with a
 Magic Packet block. Options stand anywhere behind the command.
 
@@ -71,7 +71,7 @@ fn show_number(number: u8) {
 // No call is refused with 28.
 fn refusals() -> u8 {
     let mut number = 0u8;
-    while number <= refusal::MAGIC_RESERVED {
+    while number <= refusal::REPEATED_MODE {
         if number != 28 {
             show_number(number);
         }

@@ -142,7 +142,7 @@ impl Words {
         self.wrong(
             what,
             place,
-            b"--controller N counts from 0, and --level N is 0 to 6",
+            b"--controller N counts from 0, and --level N is 0 to 7",
         )
     }
 

@@ -15,7 +15,7 @@ use Rattle.rom.specs.Bytes.{byteAt, wordAt}
 use Rattle.rom.proofs.Layouts.{geometry}
 use Rattle.crc.specs.Crc.{xorIf, step, crc8Polynomial, crc8Bits, word, crc8Words, crc8, idCrc, magicCrc, ones}
 use Rattle.crc.specs.Claims.{RegisterIsZero, WordsLeaveZero, IdLeavesZero, MagicLeavesZero}
-use Rattle.crc.proofs.Below.{allBelow, below}
+use Rattle.rom.proofs.Below.{allBelow, below}
 use Rattle.crc.proofs.Xor.{xor-assoc, xorIf-linear, step-lt}
 
 -- ## Linear

@@ -1,4 +1,3 @@
-pub mod Below
 pub mod Tabulated
 pub mod Xor
 pub mod Eight

@@ -17,6 +17,11 @@ const WIDTH: usize = 5;
 // The blocks that one sentence names.
 const NAMED: u8 = 6;
 
+// The types of blocks that no reader lists.
+const RESET: u16 = 5;
+
+const POWER: u16 = 6;
+
 fn at_level(arguments: Arguments, level: u8) -> Arguments {
     let mut other = arguments;
     other.level = level;
@@ -49,8 +54,8 @@ fn entry_at(offsets: &[u16], start: u16) -> u64 {
     e as u64
 }
 
-// What a level makes of a block: the number of its entry, a reset, or '-' where it does not know the type. Nothing where it
-// refuses the image.
+// What a level makes of a block: the number of its entry, a reset, a power block, or '-' where it does not know the type.
+// Nothing where it refuses the image.
 fn cell(line: Line, image: &[u8], arguments: Arguments, place: Place) -> Line {
     let mut kinds = [0u16; 255];
     let mut offsets = [0u16; 255];
@@ -63,8 +68,11 @@ fn cell(line: Line, image: &[u8], arguments: Arguments, place: Place) -> Line {
     if !known {
         return line.right_text(b"-", end);
     }
-    if place.kind == 5 {
+    if place.kind == RESET {
         return line.right_text(b"rst", end);
+    }
+    if place.kind == POWER {
+        return line.right_text(b"pwr", end);
     }
     line.right(entry_at(&offsets, place.start), end)
 }
@@ -81,8 +89,11 @@ fn cells(line: Line, image: &[u8], arguments: Arguments, place: Place) -> Line {
 }
 
 fn block_words(line: Line, bytes: &[u8], kind: u16) -> Line {
-    if kind == 5 {
+    if kind == RESET {
         return line.text(b"reset");
+    }
+    if kind == POWER {
+        return line.text(b"power");
     }
     let known = report::is_known(kind, NEWEST_LEVEL);
     if !known {
@@ -126,9 +137,11 @@ const LISTED: u8 = 1;
 
 const RESETS: u8 = 2;
 
-const SKIPPED: u8 = 3;
+const POWERS: u8 = 3;
 
-const DEFAULT: u8 = 4;
+const SKIPPED: u8 = 4;
+
+const DEFAULT: u8 = 5;
 
 fn default_cell(line: Line, number: u8, end: usize) -> Line {
     if number == rom::NONE {
@@ -142,6 +155,7 @@ fn count_cell(line: Line, answer: Answer, shown: u8, end: usize) -> Line {
         VERDICT => line.right_text(b"ok", end),
         LISTED => line.right(answer.listed as u64, end),
         RESETS => line.right(answer.resets as u64, end),
+        POWERS => line.right(answer.power as u64, end),
         SKIPPED => line.right(answer.skipped as u64, end),
         _ => default_cell(line, answer.default_number, end),
     }
@@ -186,6 +200,7 @@ fn show_columns(image: &[u8], arguments: Arguments, blocks: u8) {
     show_blocks(image, arguments, blocks);
     show_row(b"listed", image, arguments, LISTED);
     show_row(b"resets", image, arguments, RESETS);
+    show_row(b"power", image, arguments, POWERS);
     show_row(b"stepped over", image, arguments, SKIPPED);
     show_row(b"default block", image, arguments, DEFAULT);
 }
@@ -198,7 +213,10 @@ fn is_removed(kind: u16, level: u8, older: u8) -> bool {
     if known {
         return false;
     }
-    if kind == 5 {
+    if kind == RESET {
+        return false;
+    }
+    if kind == POWER {
         return false;
     }
     report::is_known(kind, level)
@@ -294,6 +312,14 @@ fn is_for_block(number: u8) -> bool {
     number < refusal::CLASH
 }
 
+// What is promised of older readers where the newest refuses a card with 31.
+fn show_read_below() {
+    line::of(
+        b"Readers below level # do not know power blocks, and all of them read this card.",
+        [NEWEST_LEVEL as u64, 0, 0, 0],
+    ).print();
+}
+
 fn show_no_promise(level: u8, number: u8) {
     if is_for_block(number) {
         say(b"Blocks behind the refused one are not shown.");
@@ -326,6 +352,8 @@ pub fn show(image: &[u8], arguments: Arguments) -> bool {
     say(b"");
     if accepted {
         show_sentences(image, arguments, answer);
+    } else if answer.number == refusal::REPEATED_MODE {
+        show_read_below();
     } else {
         show_no_promise(arguments.level, answer.number);
     }

@@ -8,14 +8,7 @@ use mathlib.Core.Logic.{_⊎_, inl, inr, ⊎-elim}
 use lib.Dec.{T, eqb, eqb→eq}
 use lib.ListN.{length, getD}
 use Rattle.rom.specs.Bytes.{isIn}
-
-pub both-left : (a b : Bool) → T (a && b) → T a
-both-left true b t = tt
-both-left false b t = t
-
-pub both-right : (a b : Bool) → T (a && b) → T b
-both-right true b t = t
-both-right false b t = absurd t
+use Rattle.rom.proofs.Below.{both-left, both-right}
 
 either : (a b : Bool) → T (a || b) → T a ⊎ T b
 either true b t = inl t

@@ -1,5 +1,5 @@
--- One block, given as the leaf's rest `s` from its first byte on (document 01, 'Leaf and blocks'). Its size, its kind and what its fields
--- say take no level: the level decides only which of the causes 14 to 17 count.
+-- One block, given as the leaf's rest `s` from its first byte on (document 01, 'Leaf and blocks'; document 02, request 3). Its size, its
+-- kind and what its fields say take no level: the level decides only which of the causes 14 to 17 count.
 use Prim.Native.Nat.{ℕ, _+_, _*_, _/_, _%_}
 use mathlib.Core.List.{List, [], _∷_}
 use mathlib.Core.Bool.{Bool, false, _||_, _&&_, not}
@@ -48,7 +48,7 @@ isKnown level kind = leb kindCompact kind || ltb kind level
 -- ## The length of each type
 
 -- types 1 and 3: PHY number, g, g units, r, r units, then the words capabilities, advertisement, full duplex, threshold; a unit is a byte
--- in type 1 and a word in type 3
+-- in type 1 and a word in type 3. Type 6: a mode byte, g, g words
 unfoldable pub gCount : List ℕ → ℕ
 gCount s = byteAt s 3
 
@@ -66,7 +66,8 @@ lengthFor kind s =
     (pick (eqb kind 2) (pick (hasExt (byteAt s 2)) 12 6)
     (pick (eqb kind 3) (13 + 2 * gCount s + 2 * rCount 2 s)
     (pick (eqb kind 4) 8
-    (2 * byteAt s 2 + 2)))))
+    (pick (eqb kind 5) (2 * byteAt s 2 + 2)
+    (2 * gCount s + 3))))))
 
 -- a count past the block's end asks for more than the block has, so its length is wrong too
 unfoldable pub isWrong : ℕ → List ℕ → Bool
@@ -81,6 +82,7 @@ pub record Facts : Type 0 where
   pub activeInvalid : Bool
   pub isDefault : Bool
   pub resetsPhy : Bool
+  pub mode : ℕ
 
 -- a code byte with EXT: bit 7 is reserved
 unfoldable pub badSiaCode : ℕ → Bool
@@ -115,6 +117,7 @@ sia wrong at s =
       activeInvalid = false;
       isDefault = false;
       resetsPhy = false;
+      mode = 0;
     }
 
 -- compact and type 0: code byte, port data, command word from byte `at` on
@@ -126,6 +129,7 @@ port wrong at s = record {
   activeInvalid = bit 15 (wordAt s (at + 2));
   isDefault = countsAsDefault (mediaCode (byteAt s at)) (wordAt s (at + 2));
   resetsPhy = false;
+  mode = 0;
 }
 
 -- type 4: code byte, two words, command word
@@ -137,6 +141,7 @@ symbol wrong s = record {
   activeInvalid = bit 15 (wordAt s 7);
   isDefault = countsAsDefault (mediaCode (byteAt s 2)) (wordAt s 7);
   resetsPhy = false;
+  mode = 0;
 }
 
 -- types 1 and 3: a PHY is reset with r above 0
@@ -148,14 +153,23 @@ phy wrong unit s = record {
   activeInvalid = false;
   isDefault = false;
   resetsPhy = ltb 0 (rCount unit s);
+  mode = 0;
 }
 
--- type 5: nothing but its length is judged
-unfoldable pub reset : Bool → Facts
-reset wrong =
-    record { wrongLength = wrong; badCode = false; advertisesTooMuch = false; activeInvalid = false; isDefault = false; resetsPhy = false }
+-- types 5 and 6: nothing but the length is judged; type 6 has a mode byte
+unfoldable pub sequence : Bool → ℕ → Facts
+sequence wrong mode =
+    record {
+      wrongLength = wrong;
+      badCode = false;
+      advertisesTooMuch = false;
+      activeInvalid = false;
+      isDefault = false;
+      resetsPhy = false;
+      mode = mode;
+    }
 
--- types past 5 are permitted on no chip, so what is said of them is never asked
+-- types past 6 are permitted on no chip, so what is said of them is never asked
 unfoldable pub factsOf : ℕ → List ℕ → Facts
 factsOf kind s =
     pick (eqb kind kind21041) (sia false 0 s)
@@ -165,16 +179,24 @@ factsOf kind s =
     (pick (eqb kind 2) (sia (isWrong 2 s) 2 s)
     (pick (eqb kind 3) (phy (isWrong 3 s) 2 s)
     (pick (eqb kind 4) (symbol (isWrong 4 s) s)
-    (reset (isWrong 5 s))))))))
+    (pick (eqb kind 5) (sequence (isWrong 5 s) 0)
+    (sequence (isWrong 6 s) (byteAt s 2)))))))))
 
 -- ## How a level sees a block
 
--- known blocks but type 5 are listed
+-- a medium or a PHY: every kind but types 5 and 6
+abbrev pub isMedium : ℕ → Bool
+isMedium kind = not (eqb kind 5 || eqb kind 6)
+
+-- known blocks but types 5 and 6 are listed
 unfoldable pub isListed : ℕ → ℕ → List ℕ → Bool
-isListed row level s = isKnown level (kindOf row s) && not (eqb (kindOf row s) 5)
+isListed row level s = isKnown level (kindOf row s) && isMedium (kindOf row s)
 
 unfoldable pub isReset : ℕ → ℕ → List ℕ → Bool
 isReset row level s = isKnown level (kindOf row s) && eqb (kindOf row s) 5
+
+unfoldable pub isPower : ℕ → ℕ → List ℕ → Bool
+isPower row level s = isKnown level (kindOf row s) && eqb (kindOf row s) 6
 
 -- an unknown type is stepped over
 unfoldable pub isSkipped : ℕ → ℕ → List ℕ → Bool
@@ -185,6 +207,10 @@ isDefault row level s = isKnown level (kindOf row s) && factsOf (kindOf row s) s
 
 unfoldable pub resetsPhy : ℕ → ℕ → List ℕ → Bool
 resetsPhy row level s = isKnown level (kindOf row s) && factsOf (kindOf row s) s .resetsPhy
+
+-- whether a power block sets bit k of its mode byte
+unfoldable pub setsMode : ℕ → ℕ → ℕ → List ℕ → Bool
+setsMode row level k s = isPower row level s && bit k (factsOf (kindOf row s) s .mode)
 
 -- ## Why a reader of a level refuses the block (document 01, 'Why a call is refused', 13 to 17)
 

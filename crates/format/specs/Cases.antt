@@ -1,14 +1,15 @@
--- Blocks of every form, and what is said of each: those of document 01, 'Blocks to prove', and others on its rules.
+-- Blocks of every form, and what is said of each: those of document 01, 'Blocks to prove', and others on its rules and on those of
+-- document 02, request 3.
 use Prim.Native.Nat.{ℕ}
-use mathlib.Core.List.{List, [], _∷_, _++_}
+use mathlib.Core.List.{List, [], _∷_}
 use mathlib.Core.Bool.{Bool, true, false, _&&_}
 use lib.Dec.{eqb}
 use lib.ListN.{replicate}
 use Rattle.format.specs.Chips.{rowOf}
-use Rattle.format.specs.Block.{sizeOf, kindOf, factsOf, isListed, isDefault, resetsPhy, refusalOf}
+use Rattle.format.specs.Block.{sizeOf, kindOf, factsOf, isListed, isPower, isDefault, resetsPhy, refusalOf}
 
 -- a chip, a level, the rest of a leaf, and what is said of its first block: the refusal's number, the size, whether it is
--- listed and then has Active_Invalid, is a default and resets a PHY
+-- listed and then has Active_Invalid, is a default and resets a PHY, and whether it counts as power
 pub record BlockCase : Type 0 where
   pub chip : ℕ
   pub level : ℕ
@@ -19,6 +20,7 @@ pub record BlockCase : Type 0 where
   pub invalid : Bool
   pub default : Bool
   pub resets : Bool
+  pub power : Bool
 
 -- of a refused block nothing is said but its number and its size
 unfoldable pub said : BlockCase → BlockCase
@@ -35,6 +37,7 @@ said c =
       invalid = accepted && isListed row (c .level) (c .rest) && factsOf (kindOf row (c .rest)) (c .rest) .activeInvalid;
       default = accepted && isDefault row (c .level) (c .rest);
       resets = accepted && resetsPhy row (c .level) (c .rest);
+      power = accepted && isPower row (c .level) (c .rest);
     }
 
 abbrev mediumBlock : ℕ → ℕ → List ℕ → ℕ → Bool → Bool → Bool → BlockCase
@@ -49,6 +52,7 @@ mediumBlock chip level rest size invalid default resets =
       invalid = invalid;
       default = default;
       resets = resets;
+      power = false;
     }
 
 -- without an entry in the table: refused, or with number 0 of type 5 or of an unknown type
@@ -64,6 +68,22 @@ unlistedBlock chip level rest size number =
       invalid = false;
       default = false;
       resets = false;
+      power = false;
+    }
+
+abbrev powerBlock : ℕ → ℕ → List ℕ → ℕ → BlockCase
+powerBlock chip level rest size =
+    record {
+      chip = chip;
+      level = level;
+      rest = rest;
+      number = 0;
+      size = size;
+      listed = false;
+      invalid = false;
+      default = false;
+      resets = false;
+      power = true;
     }
 
 unfoldable pub blockCases : List BlockCase
@@ -112,6 +132,17 @@ blockCases =
     ∷ unlistedBlock 21142 6 (0x84 ∷ 0x05 ∷ 0x01 ∷ 0x00 ∷ 0x00 ∷ []) 5 0
     ∷ unlistedBlock 21143 6 (0x83 ∷ 0x05 ∷ 0x00 ∷ 0x00 ∷ []) 4 15
     ∷ unlistedBlock 21143 6 (0x82 ∷ 0x05 ∷ 0x01 ∷ []) 3 15
+    -- type 6: its length is that of its count, also on the 21145; not judged below level 7
+    ∷ powerBlock 21143 7 (0x83 ∷ 0x06 ∷ 0xFF ∷ 0x00 ∷ []) 4
+    ∷ powerBlock 21145 7 (0x87 ∷ 0x06 ∷ 0x01 ∷ 0x02 ∷ replicate 4 0) 8
+    ∷ unlistedBlock 21143 6 (0x83 ∷ 0x06 ∷ 0xFF ∷ 0x00 ∷ []) 4 0
+    ∷ unlistedBlock 21143 7 (0x83 ∷ 0x06 ∷ 0x01 ∷ 0x01 ∷ []) 4 15
+    ∷ unlistedBlock 21143 7 (0x84 ∷ 0x06 ∷ 0x01 ∷ 0x00 ∷ 0x00 ∷ []) 5 15
+    ∷ unlistedBlock 21143 7 (0x82 ∷ 0x06 ∷ 0x01 ∷ []) 3 15
+    ∷ unlistedBlock 21143 7 (0x81 ∷ 0x06 ∷ []) 2 15
+    ∷ unlistedBlock 21142 7 (0x83 ∷ 0x06 ∷ 0x01 ∷ 0x00 ∷ []) 4 14
+    ∷ unlistedBlock 21140 7 (0x83 ∷ 0x06 ∷ 0x01 ∷ 0x00 ∷ []) 4 14
+    ∷ unlistedBlock 21142 6 (0x81 ∷ 0x06 ∷ []) 2 0
     -- length 0; unknown types of every length, unjudged; and the end of the rest
     ∷ unlistedBlock 21143 0 (0x80 ∷ []) 1 14
     ∷ unlistedBlock 21143 6 (0x81 ∷ 0x09 ∷ []) 2 0

@@ -1,4 +1,5 @@
--- The chips and what each takes (document 01, 'Leaf and blocks'): one row a chip, at the same place in every table.
+-- The chips and what each takes (document 01, 'Leaf and blocks'; document 02, request 3): one row a chip, at the same place in
+-- every table.
 use Prim.Native.Nat.{ℕ, _+_}
 use mathlib.Core.List.{List, [], _∷_, _++_}
 use mathlib.Core.Bool.{Bool}
@@ -57,12 +58,17 @@ kindCompact = 256
 abbrev pub kind21041 : ℕ
 kind21041 = 257
 
--- how many extended types there are to know: 0 to 5
+-- how many extended types there are to know: 0 to 6
 abbrev pub newestLevel : ℕ
-newestLevel = 6
+newestLevel = 7
 
 unfoldable pub permittedRows : List (List ℕ)
-permittedRows = (kind21041 ∷ []) ∷ (kindCompact ∷ 0 ∷ 1 ∷ 5 ∷ []) ∷ (2 ∷ 3 ∷ 5 ∷ []) ∷ (2 ∷ 3 ∷ 4 ∷ 5 ∷ []) ∷ (2 ∷ 3 ∷ 4 ∷ 5 ∷ []) ∷ []
+permittedRows =
+    (kind21041 ∷ [])
+    ∷ (kindCompact ∷ 0 ∷ 1 ∷ 5 ∷ [])
+    ∷ (2 ∷ 3 ∷ 5 ∷ [])
+    ∷ (2 ∷ 3 ∷ 4 ∷ 5 ∷ 6 ∷ [])
+    ∷ (2 ∷ 3 ∷ 4 ∷ 5 ∷ 6 ∷ []) ∷ []
 
 -- whether the chip at a row permits blocks of the kind
 unfoldable pub isPermitted : ℕ → ℕ → Bool

@@ -32,6 +32,7 @@ fn print_answer(answer: Answer) {
     print_count(answer.listed);
     print_count(answer.resets);
     print_count(answer.skipped);
+    print_count(answer.power);
     print_count(answer.default_number);
 }
 

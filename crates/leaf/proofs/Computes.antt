@@ -1,11 +1,13 @@
 -- The definitions of a leaf's blocks, opened together for what computes: `unfolding leaf-computes`.
 use Rattle.rom.specs.Geometry.{imageLength, magicAt, boardLength, leavesEnd}
-use Rattle.format.specs.Block.{isReset, isSkipped}
+use Rattle.rom.specs.Bytes.{anyBelow}
+use Rattle.format.specs.Block.{isReset, isSkipped, setsMode}
 use Rattle.format.proofs.Computes.{block-computes}
-use Rattle.leaf.specs.Leaf.{cut, countOf, firstFrom, clash, blockCauses, clashCause, leafCauses, placed, keep, table, tableOf}
+use Rattle.leaf.specs.Leaf.{cut, countOf, firstFrom, clash, blockCauses, clashCause, modeCause, wholeCauses, leafCauses}
+use Rattle.leaf.specs.Leaf.{placed, keep, table, tableOf}
 use Rattle.leaf.specs.Tally.{noTally, counts, tallyOf}
 
 unfoldable pub leaf-computes : Unit {0}
-unfolding block-computes imageLength magicAt boardLength leavesEnd isReset isSkipped
-    cut countOf firstFrom clash blockCauses clashCause leafCauses placed keep table noTally counts tallyOf tableOf
+unfolding block-computes imageLength magicAt boardLength leavesEnd anyBelow isReset isSkipped setsMode
+    cut countOf firstFrom clash blockCauses clashCause modeCause wholeCauses leafCauses placed keep table noTally counts tallyOf tableOf
 leaf-computes = tt

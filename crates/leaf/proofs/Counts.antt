@@ -8,20 +8,23 @@ use mathlib.Core.Path.{_≡_, refl, ap, sym, _∙_}
 use mathlib.Core.Bool.{Bool, true, false, _||_, _&&_, not}
 use lib.Dec.{eqb, ltb, lit<, eqb·suc-zero}
 use lib.ListN.{length, take, drop}
+use lib.Bits.{bitAnd, bitOr}
 use borrow.Author.Tests.{ltb-false, eqb-true, ne-eqb}
 use Rattle.rom.specs.Geometry.{none}
-use Rattle.rom.specs.Bytes.{pick, one}
+use Rattle.rom.specs.Bytes.{pick, one, bit}
 use Rattle.rom.specs.Refusal.{firstMet}
 use Rattle.rom.proofs.First.{none-here, after-accepted, after-refused}
 use Rattle.rom.proofs.Truth.{or-false}
 use Rattle.block.specs.declared.Block.{Block}
-use Rattle.block.specs.declared.Block.the-variants.{Listed, Reset, Unknown, Refused}
-use Rattle.format.specs.Block.{kindOf, isKnown, factsOf, reset, causes, refusalOf, isListed, isReset, isSkipped, isDefault, resetsPhy}
-use Rattle.block.specs.Answer.{blockOf, numberOf, sizeIn}
+use Rattle.block.specs.declared.Block.the-variants.{Listed, Reset, Power, Unknown, Refused}
+use Rattle.format.specs.Block.{kindOf, isKnown, factsOf, sequence, causes, refusalOf, isListed, isReset, isPower, isSkipped, isDefault}
+use Rattle.format.specs.Block.{resetsPhy}
+use Rattle.block.specs.Answer.{blockOf, numberOf, sizeIn, modeIn}
 use Rattle.format.proofs.Exact.{causes-numbered}
-use Rattle.block.proofs.Seen.{Seen, refused, unknown, a-reset, a-medium, seen, seen-number, seen-size}
+use Rattle.block.proofs.Seen.{Seen, refused, unknown, a-reset, a-power, a-medium, seen, seen-number, seen-size}
+use Rattle.leaf.proofs.Modes.{Modes, modes-more, modes-end, mode-bit}
 use Rattle.leaf.specs.declared.Tally.{Tally}
-use Rattle.leaf.specs.Leaf.{cut, countOf, firstFrom, clash, blockCauses, clashCause, leafCauses}
+use Rattle.leaf.specs.Leaf.{cut, countOf, firstFrom, clash, blockCauses, clashCause, modeCause, wholeCauses, leafCauses}
 use Rattle.leaf.specs.Inside.{startTally, firstNumber, plus}
 use Rattle.leaf.specs.Tally.{noTally, counts, tallyOf}
 use Rattle.leaf.specs.Claims.{SortsAddUp}
@@ -45,11 +48,11 @@ tally-accepted row level bs e = rw e
 
 -- two defaults are a clash
 pub accepted-defaults : (row level : ℕ) (bs : List (List ℕ)) → firstMet (leafCauses row level bs) ≡ 0 → countOf (isDefault row level) bs ≤ 1
-unfolding clashCause clash
+unfolding wholeCauses clashCause clash
 accepted-defaults row level bs e =
     ltb-false 1 _
     (or-false (ltb 1 resets || ltb 0 resets && ltb 0 phys) (ltb 1 defaults)
-    (none-here (clashCause row level bs) [] (lit< tt) (leaf-accepted row level bs e .1) .0) .1)
+    (none-here (clashCause row level bs) (modeCause row level bs ∷ []) (lit< tt) (leaf-accepted row level bs e .1) .0) .1)
   where
     resets : ℕ
     resets = countOf (isReset row level) bs
@@ -63,17 +66,22 @@ accepted-defaults row level bs e =
 -- ## One block more
 
 -- each block is of one sort
-pub one-sort : (row level : ℕ) (s : List ℕ) → one (isListed row level s) + one (isReset row level s) + one (isSkipped row level s) ≡ 1
-unfolding isListed isReset isSkipped
-one-sort row level s = go (isKnown level (kindOf row s)) (eqb (kindOf row s) 5)
+pub one-sort : (row level : ℕ) (s : List ℕ)
+    → one (isListed row level s) + one (isReset row level s) + one (isSkipped row level s) + one (isPower row level s) ≡ 1
+unfolding isListed isReset isPower isSkipped
+one-sort row level s = go (isKnown level (kindOf row s)) (eqb (kindOf row s) 5) refl (eqb (kindOf row s) 6) refl
   where
-    go : (k r : Bool) → one (k && not r) + one (k && r) + one (not k) ≡ 1
-    go true true = refl
-    go true false = refl
-    go false r = refl
+    go : (k r : Bool) → eqb (kindOf row s) 5 ≡ r → (p : Bool) → eqb (kindOf row s) 6 ≡ p
+        → one (k && not (r || p)) + one (k && r) + one (not k) + one (k && p) ≡ 1
+    go true true e true f = absurd (omega (arith, eqb-true (kindOf row s) 5 e, eqb-true (kindOf row s) 6 f))
+    go true true e false f = refl
+    go true false e true f = refl
+    go true false e false f = refl
+    go false r e p f = refl
 
 sorts-length : (row level : ℕ) (bs : List (List ℕ))
-    → countOf (isListed row level) bs + countOf (isReset row level) bs + countOf (isSkipped row level) bs ≡ length bs
+    → countOf (isListed row level) bs + countOf (isReset row level) bs + countOf (isSkipped row level) bs + countOf (isPower row level) bs
+    ≡ length bs
 unfolding countOf
 sorts-length row level [] = refl
 sorts-length row level (s ∷ bs) = omega (arith, one-sort row level s, sorts-length row level bs)
@@ -87,6 +95,7 @@ pub record Grown (row level : ℕ) (s : List ℕ) (k : ℕ) (t u : Tally) : Type
   pub listed : u .listed ≡ t .listed + one (isListed row level s)
   pub resets : u .resets ≡ t .resets + one (isReset row level s)
   pub skipped : u .skipped ≡ t .skipped + one (isSkipped row level s)
+  pub power : u .power ≡ t .power + one (isPower row level s)
   pub phys : u .phys ≡ t .phys + one (resetsPhy row level s)
   pub defaults : u .defaults ≡ t .defaults + one (isDefault row level s)
   pub «default» : u .«default_number» ≡ firstNumber (t .«default_number») (isDefault row level s) k
@@ -102,13 +111,14 @@ kept old k = go (eqb old none) (eqb-true old none)
 
 pub grown : {row level : ℕ} {s : List ℕ} {b : Block} (k : ℕ) (t : Tally) → Seen row level s b → numberOf b ≡ 0
     → Grown row level s k t (plus t b k)
-unfolding isListed isReset isSkipped isDefault resetsPhy factsOf reset pick
+unfolding isListed isReset isPower isSkipped isDefault resetsPhy factsOf sequence pick
 grown k t (refused n e h) z = absurd (h z)
 grown k t (unknown e f) z = record {
   number = refl;
   listed = simp f (omega arith);
   resets = simp f (omega arith);
   skipped = simp f;
+  power = simp f (omega arith);
   phys = simp f (omega arith);
   defaults = simp f (omega arith);
   «default» = simp f (kept _ k);
@@ -119,20 +129,33 @@ grown k t (a-reset e f′ g) z = let f = rw g at f′ in record {
   listed = simp (f, g) (omega arith);
   resets = simp (f, g);
   skipped = simp (f, g) (omega arith);
+  power = simp (f, g) (omega arith);
   phys = simp (f, g) (omega arith);
   defaults = simp (f, g) (omega arith);
   «default» = simp (f, g) (kept _ k);
   few = (simp (f, g) (le-refl _), simp (f, g) (le-refl _));
 }
-grown {row} {level} {s} k t (a-medium e f g) z = record {
+grown k t (a-power e f′ g) z = let f = rw g at f′ in record {
   number = refl;
-  listed = simp (f, g);
+  listed = simp (f, g) (omega arith);
   resets = simp (f, g) (omega arith);
+  skipped = simp (f, g) (omega arith);
+  power = simp (f, g);
+  phys = simp (f, g) (omega arith);
+  defaults = simp (f, g) (omega arith);
+  «default» = simp (f, g) (kept _ k);
+  few = (simp (f, g) (le-refl _), simp (f, g) (le-refl _));
+}
+grown {row} {level} {s} k t (a-medium e f g) z = let l : one (isListed row level s) ≡ 1 = simp (f, g .0, g .1) in record {
+  number = refl;
+  listed = simp (f, g .0, g .1);
+  resets = simp (f, g .0) (omega arith);
   skipped = simp f (omega arith);
+  power = simp (f, g .1) (omega arith);
   phys = simp f;
   defaults = simp f;
   «default» = simp f;
-  few = (simp (f, g) (few-one (factsOf (kindOf row s) s .resetsPhy)), simp (f, g) (few-one (factsOf (kindOf row s) s .isDefault)));
+  few = (omega (arith, l, few-one (resetsPhy row level s)), omega (arith, l, few-one (isDefault row level s)));
 }
 
 -- what is counted is refused as the block is
@@ -140,12 +163,14 @@ plus-number : (t : Tally) (b : Block) (k : ℕ) → t .number ≡ 0 → plus t b
 unfolding noTally
 plus-number t (Listed m) k e = e
 plus-number t (Reset size) k e = e
+plus-number t (Power size mode) k e = e
 plus-number t (Unknown size) k e = e
 plus-number t (Refused n) k e = refl
 
 plus-refused : (t : Tally) (b : Block) (k : ℕ) → (numberOf b ≡ 0 → ⊥) → plus t b k ≡ noTally (numberOf b)
 plus-refused t (Listed m) k h = absurd (h refl)
 plus-refused t (Reset size) k h = absurd (h refl)
+plus-refused t (Power size mode) k h = absurd (h refl)
 plus-refused t (Unknown size) k h = absurd (h refl)
 plus-refused t (Refused n) k h = refl
 
@@ -163,15 +188,16 @@ default-more old k n w d h e = go (eqb old none) d refl e
 -- What the loop of `judge` keeps: k blocks are passed, with the tally t of them.
 pub record Counted (row level : ℕ) (whole bs : List (List ℕ)) (k : ℕ) (t : Tally) : Type 0 where
   pub number : t .number ≡ 0
-  pub first : firstMet (blockCauses row level bs ++ clashCause row level whole ∷ []) ≡ firstMet (leafCauses row level whole)
+  pub first : firstMet (blockCauses row level bs ++ wholeCauses row level whole) ≡ firstMet (leafCauses row level whole)
   pub listed : t .listed + countOf (isListed row level) bs ≡ countOf (isListed row level) whole
   pub resets : t .resets + countOf (isReset row level) bs ≡ countOf (isReset row level) whole
   pub skipped : t .skipped + countOf (isSkipped row level) bs ≡ countOf (isSkipped row level) whole
+  pub power : t .power + countOf (isPower row level) bs ≡ countOf (isPower row level) whole
   pub phys : t .phys + countOf (resetsPhy row level) bs ≡ countOf (resetsPhy row level) whole
   pub defaults : t .defaults + countOf (isDefault row level) bs ≡ countOf (isDefault row level) whole
   pub «default» : pick (eqb (t .«default_number») none) (firstFrom (isDefault row level) k bs) (t .«default_number»)
       ≡ firstFrom (isDefault row level) 0 whole
-  pub sorts : t .listed + t .resets + t .skipped ≡ k
+  pub sorts : t .listed + t .resets + t .skipped + t .power ≡ k
   pub few : (t .phys ≤ t .listed) × (t .defaults ≤ t .listed)
 
 pub counted-start : (row level : ℕ) (bs : List (List ℕ)) → Counted row level bs bs 0 startTally
@@ -183,6 +209,7 @@ counted-start row level bs =
       listed = omega arith;
       resets = omega arith;
       skipped = omega arith;
+      power = omega arith;
       phys = omega arith;
       defaults = omega arith;
       «default» = refl;
@@ -200,10 +227,11 @@ module _ {row level : ℕ} {whole bs : List (List ℕ)} {s : List ℕ} {k : ℕ}
     listed = omega (arith, g .listed, c .listed);
     resets = omega (arith, g .resets, c .resets);
     skipped = omega (arith, g .skipped, c .skipped);
+    power = omega (arith, g .power, c .power);
     phys = omega (arith, g .phys, c .phys);
     defaults = omega (arith, g .defaults, c .defaults);
     «default» = rw (g .«default») (default-more (t .«default_number») k _ _ (isDefault row level s) h (c .«default»));
-    sorts = omega (arith, g .listed, g .resets, g .skipped, one-sort row level s, c .sorts);
+    sorts = omega (arith, g .listed, g .resets, g .skipped, g .power, one-sort row level s, c .sorts);
     few = (omega (arith, g .phys, g .listed, g .few, c .few), omega (arith, g .defaults, g .listed, g .few, c .few));
   }
 
@@ -216,29 +244,45 @@ module _ {row level : ℕ} {whole bs : List (List ℕ)} {s : List ℕ} {k : ℕ}
 
 module _ {row level : ℕ} {whole : List (List ℕ)} {k : ℕ} {t : Tally} (c : Counted row level whole [] k t) where
   at-end : (clash (t .resets) (t .phys) (t .defaults) ≡ clashCause row level whole .met)
-      × (firstMet (leafCauses row level whole) ≡ pick (clashCause row level whole .met) 18 0)
-  unfolding clashCause blockCauses countOf firstMet
+      × (firstMet (leafCauses row level whole)
+      ≡ pick (clashCause row level whole .met) 18 (pick (modeCause row level whole .met) 31 0))
+  unfolding wholeCauses clashCause modeCause blockCauses countOf firstMet
   at-end =
       let r : t .resets ≡ countOf (isReset row level) whole = omega (arith, c .resets) in
       let p : t .phys ≡ countOf (resetsPhy row level) whole = omega (arith, c .phys) in
       let d : t .defaults ≡ countOf (isDefault row level) whole = omega (arith, c .defaults) in
       (rw (r, p, d), sym (c .first))
 
-  pub tally-18 : clash (t .resets) (t .phys) (t .defaults) ≡ true → noTally 18 ≡ tallyOf row level whole
+  tally-18 : clash (t .resets) (t .phys) (t .defaults) ≡ true → noTally 18 ≡ tallyOf row level whole
   unfolding tallyOf pick
   tally-18 e = rw (at-end .1, ← (at-end .0), e)
 
-  pub tally-done : clash (t .resets) (t .phys) (t .defaults) ≡ false → t ≡ tallyOf row level whole
-  unfolding tallyOf counts pick countOf firstFrom firstNumber
-  tally-done e =
-      let l : t .listed ≡ countOf (isListed row level) whole = omega (arith, c .listed) in
-      let r : t .resets ≡ countOf (isReset row level) whole = omega (arith, c .resets) in
-      let s : t .skipped ≡ countOf (isSkipped row level) whole = omega (arith, c .skipped) in
-      let p : t .phys ≡ countOf (resetsPhy row level) whole = omega (arith, c .phys) in
-      let d : t .defaults ≡ countOf (isDefault row level) whole = omega (arith, c .defaults) in
-      let f : t .«default_number» ≡ firstFrom (isDefault row level) 0 whole = kept (t .«default_number») k ∙ c .«default» in
-      rw (at-end .1, ← (at-end .0), e)
-      (λ i. record { number = c .number i; listed = l i; resets = r i; skipped = s i; phys = p i; defaults = d i; «default_number» = f i })
+  module _ {modes repeated : ℕ} (m : Modes row level whole [] modes repeated) (e : clash (t .resets) (t .phys) (t .defaults) ≡ false) where
+    tally-31 : (repeated ≡ 0 → ⊥) → noTally 31 ≡ tallyOf row level whole
+    unfolding tallyOf pick
+    tally-31 n = rw (at-end .1, ← (at-end .0), e, ← (modes-end m), ne-eqb repeated 0 n)
+
+    tally-done : repeated ≡ 0 → t ≡ tallyOf row level whole
+    unfolding tallyOf counts pick countOf firstFrom firstNumber
+    tally-done n =
+        let l : t .listed ≡ countOf (isListed row level) whole = omega (arith, c .listed) in
+        let r : t .resets ≡ countOf (isReset row level) whole = omega (arith, c .resets) in
+        let s : t .skipped ≡ countOf (isSkipped row level) whole = omega (arith, c .skipped) in
+        let w : t .power ≡ countOf (isPower row level) whole = omega (arith, c .power) in
+        let p : t .phys ≡ countOf (resetsPhy row level) whole = omega (arith, c .phys) in
+        let d : t .defaults ≡ countOf (isDefault row level) whole = omega (arith, c .defaults) in
+        let f : t .«default_number» ≡ firstFrom (isDefault row level) 0 whole = kept (t .«default_number») k ∙ c .«default» in
+        rw (at-end .1, ← (at-end .0), e, ← (modes-end m), n)
+        (λ i. record {
+          number = c .number i;
+          listed = l i;
+          resets = r i;
+          skipped = s i;
+          power = w i;
+          phys = p i;
+          defaults = d i;
+          «default_number» = f i;
+        })
 
 -- ## The steps of `judge` in its own terms: b is the block that was judged, u the tally with it, z its size.
 
@@ -268,9 +312,20 @@ module _ (row level count : ℕ) (rest : List ℕ) {whole : List (List ℕ)} {k 
           rw (rest-part, ez, seen-size view fine, eu)
           (counted-more (rw cut-more at inv) (sym (seen-number view) ∙ fine) (omega arith) (grown k t view fine))
 
-  pub judge-18 : {m : Bool} {u : Tally} → count ≤ k → m ≡ clash (t .resets) (t .phys) (t .defaults) → m ≡ true → u ≡ noTally 18
-      → u ≡ tallyOf row level whole
-  judge-18 h em e eu = eu ∙ tally-18 (rw cut-none at inv) (sym em ∙ e)
+      -- m is its mode
+      pub judge-modes : {modes repeated m : ℕ} → Modes row level whole (cut row (count - k) rest) modes repeated → m ≡ modeIn b → m < 256
+          → Modes row level whole (cut row (count - (k + 1)) (take (length rest - z) (drop z rest))) (bitOr modes m)
+          (bitOr repeated (bitAnd modes m))
+      judge-modes told em byte =
+          rw (rest-part, ez, seen-size view fine) (modes-more (rw cut-more at told) byte (λ j. ap (bit j) em ∙ mode-bit view fine j))
 
-  pub judge-done : {m : Bool} → count ≤ k → m ≡ clash (t .resets) (t .phys) (t .defaults) → m ≡ false → t ≡ tallyOf row level whole
-  judge-done h em e = tally-done (rw cut-none at inv) (sym em ∙ e)
+  module _ (h : count ≤ k) {m : Bool} (em : m ≡ clash (t .resets) (t .phys) (t .defaults)) where
+    pub judge-18 : {u : Tally} → m ≡ true → u ≡ noTally 18 → u ≡ tallyOf row level whole
+    judge-18 e eu = eu ∙ tally-18 (rw cut-none at inv) (sym em ∙ e)
+
+    module _ (e : m ≡ false) {modes repeated : ℕ} (told : Modes row level whole (cut row (count - k) rest) modes repeated) where
+      pub judge-31 : {u : Tally} → (repeated ≡ 0 → ⊥) → u ≡ noTally 31 → u ≡ tallyOf row level whole
+      judge-31 n eu = eu ∙ tally-31 (rw cut-none at inv) (rw cut-none at told) (sym em ∙ e) n
+
+      pub judge-done : repeated ≡ 0 → t ≡ tallyOf row level whole
+      judge-done n = tally-done (rw cut-none at inv) (rw cut-none at told) (sym em ∙ e) n

@@ -15,7 +15,7 @@ use Rattle.format.specs.Block.{sizeOf, causes, refusalOf}
 use Rattle.block.specs.Answer.{blockOf, numberOf, sizeIn}
 use Rattle.format.proofs.Exact.{causes-numbered}
 use Rattle.block.proofs.Seen.{Seen, seen, seen-number, seen-size, fits}
-use Rattle.leaf.specs.Leaf.{cut, blockCauses, clashCause, leafCauses}
+use Rattle.leaf.specs.Leaf.{cut, blockCauses, clashCause, modeCause, wholeCauses, leafCauses}
 use Rattle.leaf.specs.Claims.{ExactLeaf}
 
 -- ## The cut
@@ -48,22 +48,22 @@ part-ends s at n h k = rw rest-part (omega (arith, length-drop n s))
 
 -- ## Causes
 
-blocks-numbered : (row level : ℕ) (bs : List (List ℕ)) → Numbered (blockCauses row level bs)
+pub blocks-numbered : (row level : ℕ) (bs : List (List ℕ)) → Numbered (blockCauses row level bs)
 unfolding blockCauses
 blocks-numbered row level [] = tt
 blocks-numbered row level (s ∷ bs) =
     numbered-append (causes row level s) (blockCauses row level bs) (causes-numbered row level s) (blocks-numbered row level bs)
 
 pub leaf-numbered : (row level : ℕ) (bs : List (List ℕ)) → Numbered (leafCauses row level bs)
-unfolding leafCauses clashCause
-leaf-numbered row level bs = numbered-append (blockCauses row level bs) _ (blocks-numbered row level bs) (lit< tt, tt)
+unfolding leafCauses wholeCauses clashCause modeCause
+leaf-numbered row level bs = numbered-append (blockCauses row level bs) _ (blocks-numbered row level bs) (lit< tt, (lit< tt, tt))
 
 pub exact-leaf : ExactLeaf
 exact-leaf row level bs = exact (leafCauses row level bs) (leaf-numbered row level bs) .0
 
--- an accepted leaf's blocks are accepted, and its clash is not met
+-- an accepted leaf's blocks are accepted, and what is tested over them all is not met
 pub leaf-accepted : (row level : ℕ) (bs : List (List ℕ)) → firstMet (leafCauses row level bs) ≡ 0
-    → (firstMet (blockCauses row level bs) ≡ 0) × (firstMet (clashCause row level bs ∷ []) ≡ 0)
+    → (firstMet (blockCauses row level bs) ≡ 0) × (firstMet (wholeCauses row level bs) ≡ 0)
 unfolding leafCauses
 leaf-accepted row level bs = both-accepted (blockCauses row level bs) _ (blocks-numbered row level bs)
 

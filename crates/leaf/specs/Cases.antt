@@ -1,5 +1,5 @@
--- Cases a to j of document 01, 'Blocks to prove', and others on its rules, over the definitions; and where blocks start (document
--- 02, request 2).
+-- Cases a to j of document 01, 'Blocks to prove', and others on its rules, over the definitions; power blocks (document 02, request
+-- 3); and where blocks start (request 2).
 use Prim.Native.Nat.{ℕ, suc, _-_}
 use mathlib.Core.List.{List, [], _∷_, _++_, map}
 use lib.Dec.{eqb}
@@ -11,7 +11,7 @@ use Rattle.leaf.specs.Leaf.{cut, startByStepping, runningStart, tableOf,
 use Rattle.leaf.specs.Tally.{tallyOf}
 
 -- a chip, a level, a leaf's bytes from byte 30 of the image on, and what is answered: the refusal's number, how many blocks
--- are listed, resets and skipped, and the table's kinds and starts; 0 and empty where the leaf is refused
+-- are listed, resets, skipped and power, and the table's kinds and starts; 0 and empty where the leaf is refused
 pub record LeafCase : Type 0 where
   pub chip : ℕ
   pub level : ℕ
@@ -20,6 +20,7 @@ pub record LeafCase : Type 0 where
   pub listed : ℕ
   pub resets : ℕ
   pub skipped : ℕ
+  pub power : ℕ
   pub kinds : List ℕ
   pub starts : List ℕ
 
@@ -53,14 +54,15 @@ runLeaf c =
       listed = tally .listed;
       resets = tally .resets;
       skipped = tally .skipped;
+      power = tally .power;
       kinds = map (kindAt row) table;
       starts = map startAt table;
     }
 
 -- ## The cases
 
-abbrev pub accepted : ℕ → ℕ → List ℕ → ℕ → ℕ → ℕ → List ℕ → List ℕ → LeafCase
-accepted chip level leaf listed resets skipped kinds starts =
+abbrev pub powered : ℕ → ℕ → List ℕ → ℕ → ℕ → ℕ → ℕ → List ℕ → List ℕ → LeafCase
+powered chip level leaf listed resets skipped power kinds starts =
     record {
       chip = chip;
       level = level;
@@ -69,13 +71,29 @@ accepted chip level leaf listed resets skipped kinds starts =
       listed = listed;
       resets = resets;
       skipped = skipped;
+      power = power;
       kinds = kinds;
       starts = starts;
     }
 
+-- without power blocks
+abbrev pub accepted : ℕ → ℕ → List ℕ → ℕ → ℕ → ℕ → List ℕ → List ℕ → LeafCase
+accepted chip level leaf listed resets skipped kinds starts = powered chip level leaf listed resets skipped 0 kinds starts
+
 abbrev pub refused : ℕ → ℕ → List ℕ → ℕ → LeafCase
 refused chip level leaf number =
-    record { chip = chip; level = level; leaf = leaf; number = number; listed = 0; resets = 0; skipped = 0; kinds = []; starts = [] }
+    record {
+      chip = chip;
+      level = level;
+      leaf = leaf;
+      number = number;
+      listed = 0;
+      resets = 0;
+      skipped = 0;
+      power = 0;
+      kinds = [];
+      starts = [];
+    }
 
 abbrev dots : ℕ → List ℕ
 dots n = replicate n 0
@@ -147,6 +165,53 @@ furtherCases =
     ∷ refused 21143 6 (leafReset (0x8F ∷ 0x03 ∷ 0x00 ∷ 0x00 ∷ 0x01 ∷ dots 11)) 18
     ∷ accepted 21143 6 (leafReset (0x8D ∷ 0x03 ∷ 0x00 ∷ 0x00 ∷ 0x00 ∷ dots 9)) 1 1 0 (3 ∷ []) (36 ∷ [])
     ∷ accepted 21143 5 leafI 0 0 2 [] []
+    ∷ []
+
+-- ## Power blocks
+
+-- two power blocks with these modes
+abbrev leafModes : ℕ → ℕ → List ℕ
+leafModes first second = 0x00 ∷ 0x08 ∷ 0x02 ∷ 0x83 ∷ 0x06 ∷ first ∷ 0x00 ∷ 0x83 ∷ 0x06 ∷ second ∷ 0x00 ∷ []
+
+-- a SYM medium that is the default
+abbrev symDefault : List ℕ
+symDefault = 0x88 ∷ 0x04 ∷ 0x03 ∷ 0x00 ∷ 0x00 ∷ 0x00 ∷ 0x00 ∷ 0x00 ∷ 0x40 ∷ []
+
+-- two power blocks with a mode in common, and two defaults
+abbrev leafClashes : List ℕ
+leafClashes = 0x00 ∷ 0x08 ∷ 0x04 ∷ 0x83 ∷ 0x06 ∷ 0x01 ∷ 0x00 ∷ 0x83 ∷ 0x06 ∷ 0x01 ∷ 0x00 ∷ symDefault ++ symDefault
+
+-- a power block between media
+abbrev pub leafBetween : List ℕ
+leafBetween = 0x00 ∷ 0x08 ∷ 0x03 ∷ symDefault ++ 0x83 ∷ 0x06 ∷ 0x01 ∷ 0x00 ∷ 0x86 ∷ 0x02 ∷ dots 5
+
+-- document 02, request 3
+unfoldable pub powerCases : List LeafCase
+powerCases =
+    -- g 0 and g 2
+    powered 21143 7 (0x00 ∷ 0x08 ∷ 0x01 ∷ 0x83 ∷ 0x06 ∷ 0x01 ∷ 0x00 ∷ []) 0 0 0 1 [] []
+    ∷ powered 21143 7 (0x00 ∷ 0x08 ∷ 0x01 ∷ 0x87 ∷ 0x06 ∷ 0x01 ∷ 0x02 ∷ dots 4) 0 0 0 1 [] []
+    -- no bit set twice; no bit at all; a bit set twice, which level 6 does not see; a reserved one; on the 21145
+    ∷ powered 21143 7 (leafModes 0x01 0x0E) 0 0 0 2 [] []
+    ∷ powered 21143 7 (leafModes 0x00 0x00) 0 0 0 2 [] []
+    ∷ refused 21143 7 (leafModes 0x03 0x02) 31
+    ∷ accepted 21143 6 (leafModes 0x03 0x02) 0 0 2 [] []
+    ∷ refused 21143 7 (leafModes 0x81 0x80) 31
+    ∷ refused 21145 7 (leafModes 0x03 0x02) 31
+    -- the first and the third, and a block refused behind them, which comes first
+    ∷ refused 21143 7 (0x00 ∷ 0x08 ∷ 0x03 ∷ 0x83 ∷ 0x06 ∷ 0x01 ∷ 0x00 ∷ 0x83 ∷ 0x06 ∷ 0x02 ∷ 0x00 ∷ 0x83 ∷ 0x06 ∷ 0x09 ∷ 0x00 ∷ []) 31
+    ∷ refused 21143 7 (0x00 ∷ 0x08 ∷ 0x03 ∷ 0x83 ∷ 0x06 ∷ 0x01 ∷ 0x00 ∷ 0x83 ∷ 0x06 ∷ 0x01 ∷ 0x00 ∷ 0x80 ∷ []) 14
+    -- two defaults and a bit set twice
+    ∷ refused 21143 7 leafClashes 18
+    -- the 21142 has none
+    ∷ refused 21142 7 (leafModes 0x01 0x02) 14
+    ∷ accepted 21142 6 (leafModes 0x01 0x02) 0 0 2 [] []
+    -- length 3 with g 1, and length 2
+    ∷ refused 21143 7 (0x00 ∷ 0x08 ∷ 0x01 ∷ 0x83 ∷ 0x06 ∷ 0x01 ∷ 0x01 ∷ []) 15
+    ∷ refused 21143 7 (0x00 ∷ 0x08 ∷ 0x01 ∷ 0x82 ∷ 0x06 ∷ 0x01 ∷ []) 15
+    -- not listed, where the blocks around it are
+    ∷ powered 21143 7 leafBetween 2 0 0 1 (2 ∷ 4 ∷ []) (46 ∷ 33 ∷ [])
+    ∷ accepted 21143 6 leafBetween 2 0 1 (2 ∷ 4 ∷ []) (46 ∷ 33 ∷ [])
     ∷ []
 
 -- ## Where blocks start

@@ -4,19 +4,19 @@ use mathlib.Core.Path.{_≡_}
 use mathlib.Core.List.{List, _++_, map}
 use lib.ListN.{drop, getD}
 use Rattle.rom.specs.Refusal.{firstMet, Exact}
-use Rattle.format.specs.Block.{isListed, isReset, isSkipped}
-use Rattle.leaf.specs.Cases.{runLeaf, paperCases, furtherCases, runStepped, runKept, startsCases}
+use Rattle.format.specs.Block.{isListed, isReset, isPower, isSkipped}
+use Rattle.leaf.specs.Cases.{runLeaf, paperCases, furtherCases, powerCases, runStepped, runKept, startsCases}
 use Rattle.leaf.specs.Leaf.{cut, countOf, leafCauses, Place, placed, placeByStepping, startByStepping, runningStart}
 
 -- a leaf's refusal is exact: other than 0, its cause is met and none before it is; 0, none is met
 abbrev pub ExactLeaf : Type 0
 ExactLeaf = (row level : ℕ) (bs : List (List ℕ)) → Exact (leafCauses row level bs) (firstMet (leafCauses row level bs))
 
--- listed, resets and skipped, each counted by its own rule, add up to the block count at every level
+-- listed, resets, skipped and power, each counted by its own rule, add up to the block count at every level
 abbrev pub SortsAddUp : Type 0
 SortsAddUp = (row level count : ℕ) (s : List ℕ) →
     countOf (isListed row level) (cut row count s) + countOf (isReset row level) (cut row count s)
-    + countOf (isSkipped row level) (cut row count s) ≡ count
+    + countOf (isSkipped row level) (cut row count s) + countOf (isPower row level) (cut row count s) ≡ count
 
 -- each block is placed where stepping from the first one leads
 abbrev pub PlacedByStepping : Type 0
@@ -31,6 +31,9 @@ RunningStart = (row first k : ℕ) (image : List ℕ) → runningStart row first
 -- each worked case is answered as it says
 abbrev pub LeavesWorked : Type 0
 LeavesWorked = map runLeaf (paperCases ++ furtherCases) ≡ paperCases ++ furtherCases
+
+abbrev pub PowersWorked : Type 0
+PowersWorked = map runLeaf powerCases ≡ powerCases
 
 abbrev pub StartsWorked : Type 0
 StartsWorked = (map runStepped startsCases ≡ startsCases) × (map runKept startsCases ≡ startsCases)

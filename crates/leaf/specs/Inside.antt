@@ -5,12 +5,12 @@ use lib.Dec.{eqb}
 use Rattle.rom.specs.Geometry.{none}
 use Rattle.rom.specs.Bytes.{pick, one}
 use Rattle.block.specs.declared.Block.{Block}
-use Rattle.block.specs.declared.Block.the-variants.{Listed, Reset, Unknown, Refused}
+use Rattle.block.specs.declared.Block.the-variants.{Listed, Reset, Power, Unknown, Refused}
 use Rattle.leaf.specs.declared.Tally.{Tally}
 use Rattle.leaf.specs.Tally.{noTally}
 
 unfoldable pub startTally : Tally
-startTally = record { number = 0; listed = 0; resets = 0; skipped = 0; phys = 0; defaults = 0; «default_number» = none }
+startTally = record { number = 0; listed = 0; resets = 0; skipped = 0; power = 0; phys = 0; defaults = 0; «default_number» = none }
 
 -- the number of the first default, where `old` is that of the blocks before, or none
 unfoldable pub firstNumber : ℕ → Bool → ℕ → ℕ
@@ -23,6 +23,7 @@ plus t (Listed m) number = record {
   listed = t .listed + 1;
   resets = t .resets;
   skipped = t .skipped;
+  power = t .power;
   phys = t .phys + one (m .«resets_phy»);
   defaults = t .defaults + one (m .«is_default»);
   «default_number» = firstNumber (t .«default_number») (m .«is_default») number;
@@ -33,6 +34,18 @@ plus t (Reset size) number =
       listed = t .listed;
       resets = t .resets + 1;
       skipped = t .skipped;
+      power = t .power;
+      phys = t .phys;
+      defaults = t .defaults;
+      «default_number» = t .«default_number»;
+    }
+plus t (Power size mode) number =
+    record {
+      number = t .number;
+      listed = t .listed;
+      resets = t .resets;
+      skipped = t .skipped;
+      power = t .power + 1;
       phys = t .phys;
       defaults = t .defaults;
       «default_number» = t .«default_number»;
@@ -43,6 +56,7 @@ plus t (Unknown size) number =
       listed = t .listed;
       resets = t .resets;
       skipped = t .skipped + 1;
+      power = t .power;
       phys = t .phys;
       defaults = t .defaults;
       «default_number» = t .«default_number»;

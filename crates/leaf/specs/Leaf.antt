@@ -1,4 +1,4 @@
--- The blocks of a leaf (document 01, 'Leaf and blocks', 'Levels and the table'; document 02, request 2). Each is given as the
+-- The blocks of a leaf (document 01, 'Leaf and blocks', 'Levels and the table'; document 02, requests 2 and 3). Each is given as the
 -- leaf's rest from its first byte on. No level changes where they are cut: the level only judges and lists.
 use Prim.Native.Nat.{ℕ, zero, suc, _+_}
 use mathlib.Core.List.{List, [], _∷_, _++_, reverse}
@@ -6,9 +6,9 @@ use mathlib.Core.Bool.{Bool, _||_, _&&_}
 use lib.ListN.{drop}
 use lib.Dec.{ltb}
 use Rattle.rom.specs.Geometry.{none}
-use Rattle.rom.specs.Bytes.{pick, one}
+use Rattle.rom.specs.Bytes.{pick, one, anyBelow}
 use Rattle.rom.specs.Refusal.{Cause, _⇒_}
-use Rattle.format.specs.Block.{sizeOf, kindOf, isListed, isReset, isDefault, resetsPhy, causes}
+use Rattle.format.specs.Block.{sizeOf, kindOf, isListed, isReset, isDefault, resetsPhy, setsMode, causes}
 
 -- so many blocks, numbered from 0 as they stand
 unfoldable pub cut : ℕ → ℕ → List ℕ → List (List ℕ)
@@ -27,7 +27,7 @@ unfoldable pub firstFrom : (List ℕ → Bool) → ℕ → List (List ℕ) → �
 firstFrom p k [] = none
 firstFrom p k (s ∷ bs) = pick (p s) k (firstFrom p (k + 1) bs)
 
--- ## Why a leaf's blocks are refused: one after another, 18 last
+-- ## Why a leaf's blocks are refused: one after another, then 18 and 31 over them all
 
 -- two type 5 blocks, or one and a PHY block with r above 0, or two defaults
 unfoldable pub clash : ℕ → ℕ → ℕ → Bool
@@ -41,8 +41,15 @@ blockCauses row level (s ∷ bs) = causes row level s ++ blockCauses row level b
 unfoldable pub clashCause : ℕ → ℕ → List (List ℕ) → Cause
 clashCause row level bs = 18 ⇒ clash (countOf (isReset row level) bs) (countOf (resetsPhy row level) bs) (countOf (isDefault row level) bs)
 
+-- a bit of the mode byte set in two power blocks, among known blocks
+unfoldable pub modeCause : ℕ → ℕ → List (List ℕ) → Cause
+modeCause row level bs = 31 ⇒ anyBelow (λ k. ltb 1 (countOf (setsMode row level k) bs)) 8
+
+unfoldable pub wholeCauses : ℕ → ℕ → List (List ℕ) → List Cause
+wholeCauses row level bs = clashCause row level bs ∷ modeCause row level bs ∷ []
+
 unfoldable pub leafCauses : ℕ → ℕ → List (List ℕ) → List Cause
-leafCauses row level bs = blockCauses row level bs ++ clashCause row level bs ∷ []
+leafCauses row level bs = blockCauses row level bs ++ wholeCauses row level bs
 
 -- ## The table
 

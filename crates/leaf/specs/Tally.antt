@@ -5,12 +5,12 @@ use lib.Dec.{eqb}
 use Rattle.rom.specs.Bytes.{pick}
 use Rattle.rom.specs.Refusal.{firstMet}
 use Rattle.leaf.specs.declared.Tally.{Tally}
-use Rattle.format.specs.Block.{isListed, isReset, isSkipped, isDefault, resetsPhy}
+use Rattle.format.specs.Block.{isListed, isReset, isPower, isSkipped, isDefault, resetsPhy}
 use Rattle.leaf.specs.Leaf.{countOf, firstFrom, leafCauses}
 
 -- a refusal's number and zeros
 unfoldable pub noTally : ℕ → Tally
-noTally n = record { number = n; listed = 0; resets = 0; skipped = 0; phys = 0; defaults = 0; «default_number» = 0 }
+noTally n = record { number = n; listed = 0; resets = 0; skipped = 0; power = 0; phys = 0; defaults = 0; «default_number» = 0 }
 
 unfoldable pub counts : ℕ → ℕ → List (List ℕ) → Tally
 counts row level bs = record {
@@ -18,6 +18,7 @@ counts row level bs = record {
   listed = countOf (isListed row level) bs;
   resets = countOf (isReset row level) bs;
   skipped = countOf (isSkipped row level) bs;
+  power = countOf (isPower row level) bs;
   phys = countOf (resetsPhy row level) bs;
   defaults = countOf (isDefault row level) bs;
   «default_number» = firstFrom (isDefault row level) 0 bs;

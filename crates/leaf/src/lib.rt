@@ -1,4 +1,4 @@
-// The blocks of a leaf, judged one after another (document 01, 'Leaf and blocks').
+// The blocks of a leaf, judged one after another (document 01, 'Leaf and blocks'; document 02, request 3).
 use block::Block;
 use rom::refusal;
 ghost use mathlib.Core.Path.{_≡_};
@@ -14,6 +14,7 @@ pub struct Tally {
     pub listed: u8,
     pub resets: u8,
     pub skipped: u8,
+    pub power: u8,
     pub phys: u8,
     pub defaults: u8,
     pub default_number: u8,
@@ -27,6 +28,7 @@ fn refused_tally(number: u8) -> Tally
         listed: 0,
         resets: 0,
         skipped: 0,
+        power: 0,
         phys: 0,
         defaults: 0,
         default_number: 0,
@@ -57,6 +59,7 @@ fn start_tally() -> Tally
         listed: 0,
         resets: 0,
         skipped: 0,
+        power: 0,
         phys: 0,
         defaults: 0,
         default_number: rom::NONE,
@@ -87,7 +90,7 @@ fn first_number(old: u8, marked: bool, number: u8) -> u8
 
 // A tally with block `number` more, or a refused one's number and zeros.
 fn counted(t: Tally, b: Block, number: u8) -> Tally
-    requires { ⌜ (t .listed < 255) × (t .resets < 255) × (t .skipped < 255) × (t .phys < 255) × (t .defaults < 255) ⌝ }
+    requires { ⌜ (t .listed < 255) × (t .resets < 255) × (t .skipped < 255) × (t .power < 255) × (t .phys < 255) × (t .defaults < 255) ⌝ }
     ensures { λ r. ⌜ r ≡ plus t b number ⌝ }
 {
     let mut next = t;
@@ -101,6 +104,9 @@ fn counted(t: Tally, b: Block, number: u8) -> Tally
         Block::Reset { size: _ } => {
             next.resets = t.resets + 1;
         }
+        Block::Power { size: _, mode: _ } => {
+            next.power = t.power + 1;
+        }
         Block::Unknown { size: _ } => {
             next.skipped = t.skipped + 1;
         }
@@ -111,19 +117,25 @@ fn counted(t: Tally, b: Block, number: u8) -> Tally
     next
 }
 
-// The tally of a leaf's blocks, or the first refusal of one, or 18.
+// The tally of a leaf's blocks, or the first refusal of one, or 18, or 31: a bit of the mode byte set in two power blocks.
 pub fn judge(blocks: &[u8], count: u8, row: usize, level: u8) -> Tally
     ensures { λ r. ⌜ r ≡ tallyOf row level (cut row count (now (blocks .entry))) ⌝ }
 {
     let mut rest = blocks;
     let mut k = 0u8;
     let mut t = start_tally();
+    // Bits of the mode byte that a power block has set so far, and that two have.
+    let mut modes = 0u8;
+    let mut repeated = 0u8;
     while k < count {
         let b = block::judge_block(rest, row, level);
         t = counted(t, b, k);
         if t.number != refusal::ACCEPTED {
             return t;
         }
+        let mode = block::mode_of(b);
+        repeated |= modes & mode;
+        modes |= mode;
         let step = block::size_of(b);
         rest = &rest[step..];
         k += 1;
@@ -131,6 +143,9 @@ pub fn judge(blocks: &[u8], count: u8, row: usize, level: u8) -> Tally
     let clash = clashes(t.resets, t.phys, t.defaults);
     if clash {
         return refused_tally(refusal::CLASH);
+    }
+    if repeated != 0 {
+        return refused_tally(refusal::REPEATED_MODE);
     }
     t
 }

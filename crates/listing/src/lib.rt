@@ -38,14 +38,16 @@ fn show_counts(arguments: Arguments, answer: Answer) {
         line::of(b"  control byte     0x%", [answer.control as u64, 0, 0, 0]).print();
     }
     line::of(
-        b"  blocks           #: # listed, # resets, # stepped over",
-        [
-            answer.blocks as u64,
-            answer.listed as u64,
-            answer.resets as u64,
-            answer.skipped as u64,
-        ],
-    ).print();
+            b"  blocks           #: # listed, # resets, # power",
+            [
+                answer.blocks as u64,
+                answer.listed as u64,
+                answer.resets as u64,
+                answer.power as u64,
+            ],
+        )
+        .with(b", # stepped over", [answer.skipped as u64, 0, 0, 0])
+        .print();
     if answer.default_number == rom::NONE {
         say(b"  default medium   none");
     } else {
@@ -209,6 +211,7 @@ fn marks(line: Line, b: Block) -> Line {
             line
         }
         Block::Reset { size: _ } => line,
+        Block::Power { size: _, mode: _ } => line,
         Block::Unknown { size: _ } => line,
         Block::Refused(_) => line,
     }
@@ -259,11 +262,24 @@ fn show_table(image: &[u8], arguments: Arguments, answer: Answer, offsets: &[u16
     show_entries(image, arguments, answer, offsets);
 }
 
-// ## Resets, and what is stepped over
+// ## Resets, power blocks, and what is stepped over
+
+// The sorts of blocks that have no entry.
+const RESET: u8 = 0;
+
+const POWER: u8 = 1;
+
+const UNKNOWN: u8 = 2;
 
 fn show_reset(place: Place, number: u8, bytes: &[u8]) {
     report::place_words(Line::new().to(2), number, place).print();
     show_sequence(b"reset sequence", from(bytes, 3), 2);
+}
+
+fn show_power(place: Place, number: u8, mode: u8, bytes: &[u8]) {
+    report::place_words(Line::new().to(2), number, place).print();
+    words::mode_words(field(b"modes"), mode).print();
+    show_sequence(b"GPR sequence", from(bytes, 4), 2);
 }
 
 fn show_unknown(place: Place, number: u8, bytes: &[u8]) {
@@ -273,17 +289,22 @@ fn show_unknown(place: Place, number: u8, bytes: &[u8]) {
     report::show_bytes(bytes);
 }
 
-// A block, where it is of the sort that is shown: a reset, or one that is stepped over.
-fn show_if(place: Place, number: u8, b: Block, bytes: &[u8], resets: bool) {
+// A block, where it is of the sort that is shown.
+fn show_if(place: Place, number: u8, b: Block, bytes: &[u8], sort: u8) {
     match b {
         Block::Listed(_) => {}
         Block::Reset { size: _ } => {
-            if resets {
+            if sort == RESET {
                 show_reset(place, number, bytes);
             }
         }
+        Block::Power { size: _, mode } => {
+            if sort == POWER {
+                show_power(place, number, mode, bytes);
+            }
+        }
         Block::Unknown { size: _ } => {
-            if !resets {
+            if sort == UNKNOWN {
                 show_unknown(place, number, bytes);
             }
         }
@@ -291,13 +312,13 @@ fn show_if(place: Place, number: u8, b: Block, bytes: &[u8], resets: bool) {
     }
 }
 
-fn show_sort(image: &[u8], arguments: Arguments, blocks: u8, resets: bool) {
+fn show_sort(image: &[u8], arguments: Arguments, blocks: u8, sort: u8) {
     let mut k = 0u8;
     while k < blocks {
         let place = survey::block_place(image, arguments, k);
         let b = report::block_at(image, arguments, place.start);
         let bytes = report::block_bytes(image, arguments.layout, place);
-        show_if(place, k, b, bytes, resets);
+        show_if(place, k, b, bytes, sort);
         k += 1;
     }
 }
@@ -306,7 +327,12 @@ fn show_unlisted(image: &[u8], arguments: Arguments, answer: Answer) {
     if 0 < answer.resets {
         say(b"");
         say(b"Reset, before any medium is selected");
-        show_sort(image, arguments, answer.blocks, true);
+        show_sort(image, arguments, answer.blocks, RESET);
+    }
+    if 0 < answer.power {
+        say(b"");
+        say(b"Power, by which a driver shuts the PHY down");
+        show_sort(image, arguments, answer.blocks, POWER);
     }
     if 0 < answer.skipped {
         say(b"");
@@ -314,7 +340,7 @@ fn show_unlisted(image: &[u8], arguments: Arguments, answer: Answer) {
             b"STEPPED OVER, of types that a reader of level # does not know",
             [arguments.level as u64, 0, 0, 0],
         ).print();
-        show_sort(image, arguments, answer.blocks, false);
+        show_sort(image, arguments, answer.blocks, UNKNOWN);
     }
 }
 

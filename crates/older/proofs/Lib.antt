@@ -8,3 +8,4 @@ pub mod Order
 pub mod RemovedNumbers
 pub mod Counting
 pub mod Standing
+pub mod Repeated

@@ -3,15 +3,15 @@ use Prim.Native.Nat.{ℕ, zero, suc, _+_, _-_, _≤_}
 use native.Mathlib.Omega.{arith}
 use native.Mathlib.Nat.{le-of-suc-le-suc, not-suc-le-zero}
 use mathlib.Core.List.{List, [], _∷_, _++_, map}
-use mathlib.Core.Path.{_≡_, refl, sym, _∙_}
-use mathlib.Core.Bool.{Bool, true, false, _&&_, not}
+use mathlib.Core.Path.{_≡_, refl, ap, sym, _∙_}
+use mathlib.Core.Bool.{Bool, true, false, _||_, _&&_, not}
 use lib.Dec.{eqb}
 use lib.ListN.{length, getD, replicate}
 use borrow.Author.Tests.{eqb-true}
 use Rattle.rom.specs.Geometry.{none}
 use Rattle.rom.specs.Bytes.{pick, one}
 use Rattle.rom.proofs.Truth.{true-false}
-use Rattle.format.specs.Block.{kindOf, isKnown, factsOf, reset, isListed, isDefault}
+use Rattle.format.specs.Block.{kindOf, isKnown, factsOf, sequence, isMedium, isListed, isDefault}
 use Rattle.format.proofs.Levels.{known-up}
 use Rattle.leaf.specs.Leaf.{firstFrom}
 use Rattle.walk.specs.Walk.{blockIs, flags, flagAt, isInvalid}
@@ -70,7 +70,7 @@ listed-level : (row older newest : ℕ) → older ≤ newest → (s : List ℕ) 
     → isListed row older s ≡ isListed row newest s
 unfolding isListed
 listed-level row older newest h s =
-    go (isKnown newest (kindOf row s)) (isKnown older (kindOf row s)) (not (eqb (kindOf row s) 5)) (known-up older newest (kindOf row s) h)
+    go (isKnown newest (kindOf row s)) (isKnown older (kindOf row s)) (isMedium (kindOf row s)) (known-up older newest (kindOf row s) h)
   where
     go : (k l x : Bool) → (l ≡ true → k ≡ true) → ((k && x) && not l) ≡ false → (l && x) ≡ (k && x)
     go k true x u e = rw (u refl)
@@ -95,18 +95,22 @@ module _ (row older newest : ℕ) (h : older ≤ newest) (bs : List (List ℕ)) 
 
 -- ## The default
 
--- a default's block is listed: type 5 has none
+-- a default's block is listed: types 5 and 6 have none
 pub default-listed : (row level : ℕ) (s : List ℕ) → isDefault row level s ≡ true → isListed row level s ≡ true
-unfolding isDefault isListed factsOf reset pick
-default-listed row level s e = go (eqb (kindOf row s) 5) refl (isKnown level (kindOf row s)) e
+unfolding isDefault isListed factsOf sequence pick
+default-listed row level s e = go (eqb (kindOf row s) 5) refl (eqb (kindOf row s) 6) refl (isKnown level (kindOf row s)) e
   where
-    go : (t : Bool) → eqb (kindOf row s) 5 ≡ t → (k : Bool) → (k && factsOf (kindOf row s) s .isDefault) ≡ true → (k && not t) ≡ true
-    go t f false g = g
-    go false f true g = refl
-    go true f true g =
-        let five = eqb-true (kindOf row s) 5 f in
-        let g′ : factsOf 5 s .isDefault ≡ true = rw five at g in
-        true-false (sym g′)
+    never : (n : ℕ) → factsOf n s .isDefault ≡ false → eqb (kindOf row s) n ≡ true → factsOf (kindOf row s) s .isDefault ≡ true
+        → true ≡ false
+    never n z f g = sym g ∙ ap (λ (kind : ℕ). factsOf kind s .isDefault) (eqb-true (kindOf row s) n f) ∙ z
+
+    go : (t : Bool) → eqb (kindOf row s) 5 ≡ t → (u : Bool) → eqb (kindOf row s) 6 ≡ u → (k : Bool)
+        → (k && factsOf (kindOf row s) s .isDefault) ≡ true
+        → (k && not (t || u)) ≡ true
+    go t f u h false g = g
+    go false f false h true g = refl
+    go true f u h true g = true-false (never 5 refl f g)
+    go false f true h true g = true-false (never 6 refl h g)
 
 -- the number that is found is that of a block that p takes, or none
 pub data Found (p : List ℕ → Bool) (k : ℕ) (bs : List (List ℕ)) : ℕ → Type 0 where

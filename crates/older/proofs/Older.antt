@@ -1,19 +1,19 @@
 -- The older table is a filter after a filter, of a reversed list; acceptance goes down since each cause can only vanish.
 -- Assumes nothing.
-use Prim.Native.Nat.{ℕ, _+_, _≤_}
+use Prim.Native.Nat.{ℕ, zero, suc, _+_, _≤_}
 use native.Mathlib.Omega.{arith}
 use native.Mathlib.Nat.{le-refl}
 use mathlib.Core.List.{List, [], _∷_, _++_, reverse, reverse-cons, append-nil}
 use mathlib.Core.Path.{_≡_, refl, ap, sym, _∙_}
-use mathlib.Core.Bool.{Bool, true, false, _||_, _&&_, not}
+use mathlib.Core.Bool.{Bool, true, false, _||_, _&&_}
 use lib.Dec.{eqb, ltb}
 use borrow.Author.Tests.{ltb-false, le-ltb}
-use Rattle.rom.specs.Bytes.{pick, one}
+use Rattle.rom.specs.Bytes.{pick, one, bit, anyBelow}
 use Rattle.rom.proofs.Fewer.{Fewer, end, and, fewer, fewer-append}
 use Rattle.rom.proofs.Truth.{true-false}
-use Rattle.format.specs.Block.{kindOf, isKnown, factsOf, isListed, isReset, isDefault, resetsPhy}
+use Rattle.format.specs.Block.{kindOf, isKnown, factsOf, isMedium, isListed, isReset, isPower, isDefault, resetsPhy, setsMode}
 use Rattle.format.proofs.Levels.{known-up, causes-down}
-use Rattle.leaf.specs.Leaf.{Place, keep, table, countOf, clash, blockCauses, clashCause, leafCauses}
+use Rattle.leaf.specs.Leaf.{Place, keep, table, countOf, clash, blockCauses, clashCause, modeCause, wholeCauses, leafCauses}
 use Rattle.leaf.proofs.Cuts.{leaf-numbered}
 use Rattle.older.specs.Claims.{OlderTable, OlderAccepts}
 use Rattle.older.specs.Levels.{isKept}
@@ -57,7 +57,7 @@ unfolding table isListed
 older-table row older newest bs h =
     ap reverse
     (keep-keep _ (isKept row older) _
-    (λ b. both (isKnown newest (kindOf row (b .rest))) (isKnown older (kindOf row (b .rest))) (not (eqb (kindOf row (b .rest)) 5))
+    (λ b. both (isKnown newest (kindOf row (b .rest))) (isKnown older (kindOf row (b .rest))) (isMedium (kindOf row (b .rest)))
     (known-up older newest (kindOf row (b .rest)) h)) bs)
     ∙ sym (keep-reverse (isKept row older) _)
 
@@ -66,7 +66,11 @@ one-down : (k l x : Bool) → (l ≡ true → k ≡ true) → one (l && x) ≤ o
 one-down k true x h = rw (h refl) (le-refl _)
 one-down k false x h = omega arith
 
-count-down : (p q : List ℕ → Bool) → ((s : List ℕ) → one (q s) ≤ one (p s)) → (bs : List (List ℕ)) → countOf q bs ≤ countOf p bs
+one-down-both : (k l x y : Bool) → (l ≡ true → k ≡ true) → one (l && x && y) ≤ one (k && x && y)
+one-down-both k true x y h = rw (h refl) (le-refl _)
+one-down-both k false x y h = omega arith
+
+pub count-down : (p q : List ℕ → Bool) → ((s : List ℕ) → one (q s) ≤ one (p s)) → (bs : List (List ℕ)) → countOf q bs ≤ countOf p bs
 unfolding countOf
 count-down p q h [] = omega arith
 count-down p q h (s ∷ bs) = omega (arith, h s, count-down p q h bs)
@@ -81,6 +85,9 @@ and-mono false q r s f g e = rw (f refl)
 and-mono true q true s f g e = g e
 and-mono true q false s f g e = refl
 
+low : (n a x : ℕ) → x ≤ a → ltb n a ≡ false → ltb n x ≡ false
+low n a x h e = le-ltb n x (omega (arith, ltb-false n a e))
+
 clash-down : (a b c x y z : ℕ) → x ≤ a → y ≤ b → z ≤ c → clash a b c ≡ false → clash x y z ≡ false
 unfolding clash
 clash-down a b c x y z h g k =
@@ -88,20 +95,37 @@ clash-down a b c x y z h g k =
     (or-mono (ltb 1 a) (ltb 0 a && ltb 0 b) (ltb 1 x) (ltb 0 x && ltb 0 y) (low 1 a x h)
     (and-mono (ltb 0 a) (ltb 0 b) (ltb 0 x) (ltb 0 y) (low 0 a x h) (low 0 b y g)))
     (low 1 c z k)
-  where
-    low : (n a x : ℕ) → x ≤ a → ltb n a ≡ false → ltb n x ≡ false
-    low n a x h e = le-ltb n x (omega (arith, ltb-false n a e))
 
-blocks-down : (row older newest : ℕ) → older ≤ newest → (bs : List (List ℕ)) → Fewer (blockCauses row newest bs) (blockCauses row older bs)
+any-down : (p q : ℕ → Bool) (n : ℕ) → ((k : ℕ) → p k ≡ false → q k ≡ false) → anyBelow p n ≡ false → anyBelow q n ≡ false
+unfolding anyBelow
+any-down p q zero h e = refl
+any-down p q (suc n) h e = or-mono (p n) (anyBelow p n) (q n) (anyBelow q n) (h n) (any-down p q n h) e
+
+pub blocks-down : (row older newest : ℕ) → older ≤ newest → (bs : List (List ℕ))
+    → Fewer (blockCauses row newest bs) (blockCauses row older bs)
 unfolding blockCauses
 blocks-down row older newest h [] = end
 blocks-down row older newest h (s ∷ bs) = fewer-append (causes-down row older newest s h) (blocks-down row older newest h bs)
 
+-- what is tested over all blocks, at an older level
+module _ (row older newest : ℕ) (bs : List (List ℕ)) (h : older ≤ newest) where
+  pub clash-vanishes : clashCause row newest bs .met ≡ false → clashCause row older bs .met ≡ false
+  unfolding clashCause isReset isDefault resetsPhy
+  clash-vanishes =
+      clash-down _ _ _ _ _ _
+      (count-down _ _ (λ s. one-down _ _ (eqb (kindOf row s) 5) (known-up older newest (kindOf row s) h)) bs)
+      (count-down _ _ (λ s. one-down _ _ (factsOf (kindOf row s) s .resetsPhy) (known-up older newest (kindOf row s) h)) bs)
+      (count-down _ _ (λ s. one-down _ _ (factsOf (kindOf row s) s .isDefault) (known-up older newest (kindOf row s) h)) bs)
+
+  mode-vanishes : modeCause row newest bs .met ≡ false → modeCause row older bs .met ≡ false
+  unfolding modeCause setsMode isPower
+  mode-vanishes = any-down _ _ 8 (λ k. low 1 _ _
+      (count-down _ _
+      (λ s. one-down-both _ _ (eqb (kindOf row s) 6) (bit k (factsOf (kindOf row s) s .mode)) (known-up older newest (kindOf row s) h)) bs))
+
 pub older-accepts : OlderAccepts
-unfolding leafCauses clashCause isReset isDefault resetsPhy
-older-accepts row older newest bs h = fewer (leaf-numbered row newest bs) (fewer-append (blocks-down row older newest h bs) (and
-    (clash-down _ _ _ _ _ _
-    (count-down _ _ (λ s. one-down _ _ (eqb (kindOf row s) 5) (known-up older newest (kindOf row s) h)) bs)
-    (count-down _ _ (λ s. one-down _ _ (factsOf (kindOf row s) s .resetsPhy) (known-up older newest (kindOf row s) h)) bs)
-    (count-down _ _ (λ s. one-down _ _ (factsOf (kindOf row s) s .isDefault) (known-up older newest (kindOf row s) h)) bs))
-    end))
+unfolding leafCauses wholeCauses
+older-accepts row older newest bs h =
+    fewer (leaf-numbered row newest bs)
+    (fewer-append (blocks-down row older newest h bs)
+    (and (clash-vanishes row older newest bs h) (and (mode-vanishes row older newest bs h) end)))

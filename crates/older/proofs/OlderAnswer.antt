@@ -11,7 +11,7 @@ use borrow.Author.Tests.{eqb-true}
 use Rattle.rom.specs.Geometry.{none}
 use Rattle.rom.specs.Bytes.{pick, one}
 use Rattle.rom.proofs.Truth.{true-false}
-use Rattle.format.specs.Block.{kindOf, isKnown, factsOf, isListed, isReset, isSkipped, isDefault}
+use Rattle.format.specs.Block.{kindOf, isKnown, factsOf, isMedium, isListed, isReset, isPower, isSkipped, isDefault}
 use Rattle.format.proofs.Levels.{known-up, and-down}
 use Rattle.leaf.specs.Leaf.{countOf, firstFrom}
 use Rattle.older.specs.Claims.{OlderCounts, OlderDefault}
@@ -47,21 +47,21 @@ skipped-more k true h = rw (h refl)
 skipped-more true false h = refl
 skipped-more false false h = refl
 
-type-5 : (older newest kind : ℕ) → older ≤ newest
-    → (isKnown older kind && eqb kind 5) ≡ (ltb 5 older && (isKnown newest kind && eqb kind 5))
-unfolding isKnown
-type-5 older newest kind h = go (eqb kind 5) (eqb-true kind 5)
+-- blocks of a type n, at the older level as at the newest where it knows n, and else none
+of-type : (n older newest kind : ℕ) → isKnown older n ≡ ltb n older → older ≤ newest
+    → (isKnown older kind && eqb kind n) ≡ (ltb n older && (isKnown newest kind && eqb kind n))
+of-type n older newest kind z h = go (eqb kind n) (eqb-true kind n)
   where
-    at-5 : (isKnown older 5 && true) ≡ (ltb 5 older && (isKnown newest 5 && true))
-    at-5 = five (ltb 5 older) (ltb 5 newest) (known-up older newest 5 h)
+    here : (isKnown older n && true) ≡ (ltb n older && (isKnown newest n && true))
+    here = rw (← z) (known (isKnown older n) (isKnown newest n) (known-up older newest n h))
       where
-        five : (l k : Bool) → (l ≡ true → k ≡ true) → (l && true) ≡ (l && (k && true))
-        five true k g = rw (g refl)
-        five false k g = refl
+        known : (l k : Bool) → (l ≡ true → k ≡ true) → (l && true) ≡ (l && (k && true))
+        known true k g = rw (g refl)
+        known false k g = refl
 
-    go : (t : Bool) → (t ≡ true → kind ≡ 5) → (isKnown older kind && t) ≡ (ltb 5 older && (isKnown newest kind && t))
-    go true e = rw (e refl) at-5
-    go false e = never (isKnown older kind) (isKnown newest kind) (ltb 5 older)
+    go : (t : Bool) → (t ≡ true → kind ≡ n) → (isKnown older kind && t) ≡ (ltb n older && (isKnown newest kind && t))
+    go true e = rw (e refl) here
+    go false e = never (isKnown older kind) (isKnown newest kind) (ltb n older)
       where
         never : (a b c : Bool) → (a && false) ≡ (c && (b && false))
         never true true true = refl
@@ -74,14 +74,15 @@ type-5 older newest kind h = go (eqb kind 5) (eqb-true kind 5)
         never false false false = refl
 
 pub older-counts : OlderCounts
-unfolding isListed isReset isSkipped
+unfolding isListed isReset isPower isSkipped isKnown
 older-counts row older newest bs h = (
-  count-if (ltb 5 older) _ _ (λ s. type-5 older newest (kindOf row s) h) bs,
+  count-if (ltb 5 older) _ _ (λ s. of-type 5 older newest (kindOf row s) refl h) bs,
   count-sum _ _ _
-      (λ s. kept-removed (isKnown newest (kindOf row s)) (isKnown older (kindOf row s)) (not (eqb (kindOf row s) 5))
+      (λ s. kept-removed (isKnown newest (kindOf row s)) (isKnown older (kindOf row s)) (isMedium (kindOf row s))
       (known-up older newest (kindOf row s) h)) bs,
   count-sum _ _ _
       (λ s. skipped-more (isKnown newest (kindOf row s)) (isKnown older (kindOf row s)) (known-up older newest (kindOf row s) h)) bs,
+  count-if (ltb 6 older) _ _ (λ s. of-type 6 older newest (kindOf row s) refl h) bs,
 )
 
 -- ## The default number

@@ -25,7 +25,7 @@ use Rattle.reader.specs.Table.{tabled}
 use Rattle.reader.specs.Reading.{blocksFor, tableFor, leafCausesFor, judgeCauses, readCauses, acceptedAnswer, answerFor, readAnswer}
 use Rattle.reader.specs.Reading.{readInto, readKinds, readOffsets}
 use Rattle.older.specs.Levels.{isKept, removedBlock}
-use Rattle.older.specs.Written.{Arrays, Room, TableEntry, entries, answerOf, tableIn, those, removed, kept}
+use Rattle.older.specs.Written.{Arrays, Room, TableEntry, asEntry, entries, answerOf, tableIn, those, removed, kept}
 use Rattle.older.specs.Claims.{ReadsAgree}
 use Rattle.older.proofs.Older.{older-accepts, older-table}
 use Rattle.older.proofs.OlderAnswer.{older-counts, older-default}
@@ -37,7 +37,7 @@ same : (cs : List Cause) → Fewer cs cs
 same [] = end
 same (c ∷ cs) = and (λ e. e) (same cs)
 
-header-down : (image : List ℕ) (a : Arguments) (older newest : ℕ) → older ≤ newest
+pub header-down : (image : List ℕ) (a : Arguments) (older newest : ℕ) → older ≤ newest
     → Fewer (headerCauses image (atLevel a newest)) (headerCauses image (atLevel a older))
 unfolding headerCauses argumentCauses
 header-down image a older newest h =
@@ -64,13 +64,10 @@ judge-down image a older newest h e =
 
 -- ## What an accepted reading answers and writes
 
-abbrev pub entry : ℕ → Place → TableEntry
-entry row p = record { kind = kindAt row p; start = startAt p }
-
-entries-map : (row : ℕ) (t : List Place) → entries (map (kindAt row) t) (map startAt t) ≡ map (entry row) t
+entries-map : (row : ℕ) (t : List Place) → entries (map (kindAt row) t) (map startAt t) ≡ map (asEntry row) t
 unfolding entries
 entries-map row [] = refl
-entries-map row (p ∷ t) = ap (λ (es : List TableEntry). entry row p ∷ es) (entries-map row t)
+entries-map row (p ∷ t) = ap (λ (es : List TableEntry). asEntry row p ∷ es) (entries-map row t)
 
 take-tabled : (f : Place → ℕ) (t : List Place) (array : List ℕ) (n : ℕ) → n ≡ length t → take n (tabled f t array) ≡ map f t
 unfolding tabled
@@ -85,11 +82,11 @@ module _ (image : List ℕ) (a : Arguments) (e : firstMet (judgeCauses image a) 
       ∙ simp (le-ltb (length (arrays .kinds)) (countFor image a) (room .0), le-ltb (length (arrays .offsets)) (countFor image a) (room .1))
       (b .1)
 
-  answer-is : answerOf image a arrays ≡ acceptedAnswer image a
+  pub answer-is : answerOf image a arrays ≡ acceptedAnswer image a
   unfolding answerOf readAnswer answerFor pick
   answer-is = rw no-cause
 
-  pub table-is : tableIn image a arrays ≡ map (entry (rowFor a)) (tableFor image a)
+  pub table-is : tableIn image a arrays ≡ map (asEntry (rowFor a)) (tableFor image a)
   unfolding tableIn readKinds readOffsets readInto pick acceptedAnswer
   table-is =
       let n : countOf (isListed (rowFor a) (a .level)) (blocksFor image a) ≡ length (tableFor image a) =
@@ -104,15 +101,15 @@ module _ (image : List ℕ) (a : Arguments) (e : firstMet (judgeCauses image a) 
 
 -- ## The older table
 
-those-map : (row older : ℕ) (t : List Place) → map (entry row) (keep (isKept row older) t) ≡ those (kept older) (map (entry row) t)
+those-map : (row older : ℕ) (t : List Place) → map (asEntry row) (keep (isKept row older) t) ≡ those (kept older) (map (asEntry row) t)
 unfolding keep those pick
 those-map row older [] = refl
 those-map row older (p ∷ t) = go (isKept row older p) (those-map row older t)
   where
-    go : (x : Bool) → map (entry row) (keep (isKept row older) t) ≡ those (kept older) (map (entry row) t)
-        → map (entry row) (pick x (p ∷ keep (isKept row older) t) (keep (isKept row older) t))
-        ≡ pick x (entry row p ∷ those (kept older) (map (entry row) t)) (those (kept older) (map (entry row) t))
-    go true ih = ap (λ (es : List TableEntry). entry row p ∷ es) ih
+    go : (x : Bool) → map (asEntry row) (keep (isKept row older) t) ≡ those (kept older) (map (asEntry row) t)
+        → map (asEntry row) (pick x (p ∷ keep (isKept row older) t) (keep (isKept row older) t))
+        ≡ pick x (asEntry row p ∷ those (kept older) (map (asEntry row) t)) (those (kept older) (map (asEntry row) t))
+    go true ih = ap (λ (es : List TableEntry). asEntry row p ∷ es) ih
     go false ih = ih
 
 both-lengths : (older : ℕ) (es : List TableEntry) → length (those (kept older) es) + length (those (removed older) es) ≡ length es
@@ -147,17 +144,18 @@ module _ (image : List ℕ) (a : Arguments) (older : ℕ) (h : older < newestLev
       (accepted-defaults (rowFor a) newestLevel (blocksFor image a) (parts image new e .1))
       ∙ default-kept (rowFor a) older newestLevel (blocksFor image a)
 
-  filtered : map (entry (rowFor a)) (tableFor image old) ≡ those (kept older) (map (entry (rowFor a)) (tableFor image new))
+  filtered : map (asEntry (rowFor a)) (tableFor image old) ≡ those (kept older) (map (asEntry (rowFor a)) (tableFor image new))
   unfolding tableOf
-  filtered = ap (map (entry (rowFor a))) (older-table (rowFor a) older newestLevel _ down) ∙ those-map (rowFor a) older (tableFor image new)
+  filtered =
+      ap (map (asEntry (rowFor a))) (older-table (rowFor a) older newestLevel _ down) ∙ those-map (rowFor a) older (tableFor image new)
 
-  listed-table : (b : Arguments) → length (map (entry (rowFor b)) (tableFor image b)) ≡ acceptedAnswer image b .listed
+  listed-table : (b : Arguments) → length (map (asEntry (rowFor b)) (tableFor image b)) ≡ acceptedAnswer image b .listed
   unfolding acceptedAnswer
   listed-table b = length-map (tableFor image b) _
       ∙ listed-length (rowFor b) (b .level) (countFor image b) (startFor image b) (restFrom (b .layout) image (startFor image b))
 
   pub reads-agree : ReadsAgree image a older
-  unfolding acceptedAnswer
+  unfolding acceptedAnswer pick
   reads-agree n o rn ro =
       let e′ = judge-down image a older newestLevel down e in
       let counts = older-counts (rowFor a) older newestLevel (blocksFor image a) down in
@@ -175,9 +173,10 @@ module _ (image : List ℕ) (a : Arguments) (older : ℕ) (h : older < newestLev
               arith,
               listed-table old,
               ap length filtered,
-              both-lengths older (map (entry (rowFor a)) (tableFor image new)),
+              both-lengths older (map (asEntry (rowFor a)) (tableFor image new)),
               listed-table new,
             );
         skipped = sym (counts .2);
+        power = counts .3 ∙ rw (le-ltb 6 older (omega arith));
         table = filtered;
       })

@@ -17,9 +17,9 @@ use Rattle.leaf.specs.Leaf.{Place, placed}
 use Rattle.reader.specs.Reading.{blocksFor}
 use Rattle.walk.specs.Walk.{blockIs}
 use Rattle.older.specs.Levels.{isRemoved}
-use Rattle.older.specs.Written.{TableEntry, tableIn, removed, numbersOf}
+use Rattle.older.specs.Written.{asEntry, TableEntry, tableIn, removed, numbersOf}
 use Rattle.older.specs.Claims.{numbersFrom, entryNumbers, RemovedNumbers}
-use Rattle.older.proofs.OlderReadings.{entry, table-is}
+use Rattle.older.proofs.OlderReadings.{table-is}
 use Rattle.older.proofs.Order.{table-numbers}
 
 -- ## Tests
@@ -121,8 +121,8 @@ removed-numbers image a older e n room k =
     let whole = placed row (startFor image a) bs in
     let d : Place = record { start = 0; rest = [] } in
     let ks = entryNumbers image new in
-    let table : tableIn image new n ≡ map (λ j. entry row (getD whole j d)) ks =
-    table-is image new e n room ∙ ap (map (entry row)) (table-numbers image new) ∙ map-twice (entry row) (λ j. getD whole j d) ks in
+    let table : tableIn image new n ≡ map (λ j. asEntry row (getD whole j d)) ks =
+    table-is image new e n room ∙ ap (map (asEntry row)) (table-numbers image new) ∙ map-twice (asEntry row) (λ j. getD whole j d) ks in
     let member : isIn k ks ≡ blockIs (isListed row newestLevel) bs k =
     in-reverse k (numbersFrom (isListed row newestLevel) 0 bs)
     ∙ ap (λ (j : ℕ). isIn j (numbersFrom (isListed row newestLevel) 0 bs)) (sym (zero-add k))
@@ -131,5 +131,5 @@ removed-numbers image a older e n room k =
     ap (kindOf row) (placed-rest row (startFor image a) bs k d refl) in
     removed-listed row older newestLevel bs k
     ∙ sym (ap (λ (es : List TableEntry). isIn k (numbersOf (removed older) es ks)) table
-    ∙ in-numbers (removed older) (λ j. entry row (getD whole j d)) ks k
+    ∙ in-numbers (removed older) (λ j. asEntry row (getD whole j d)) ks k
     ∙ rw (kind, member))

@@ -10,17 +10,17 @@ use Rattle.rom.specs.Geometry.{none}
 use Rattle.rom.specs.Bytes.{pick, one, isIn}
 use Rattle.rom.specs.Refusal.{firstMet}
 use Rattle.format.specs.Chips.{newestLevel}
-use Rattle.format.specs.Block.{kindOf, isKnown, isListed, isReset, isSkipped, isDefault}
+use Rattle.format.specs.Block.{kindOf, isKnown, isListed, isReset, isPower, isSkipped, isDefault}
 use Rattle.header.specs.declared.Arguments.{Arguments}
 use Rattle.header.specs.Header.{rowFor, startFor, atLevel}
 use Rattle.leaf.specs.Leaf.{Place, placed, keep, table, countOf, firstFrom, leafCauses}
 use Rattle.reader.specs.declared.Answer.{Answer}
-use Rattle.reader.specs.Reading.{blocksFor, tableFor, judgeCauses, judgeAnswer}
+use Rattle.reader.specs.Reading.{blocksFor, tableFor, judgeCauses, acceptedAnswer, judgeAnswer}
 use Rattle.walk.specs.declared.Walk.{Walk}
 use Rattle.walk.specs.Walk.{rowLength, blockIs, flagAt, isInvalid, isUp, freshWalk, loadedWalk, firstUp, lookFor}
 use Rattle.older.specs.Levels.{isKept, onlyNewest, isRemoved, removedBlock}
 use Rattle.older.specs.Calls.{Call, look, DownAt, Down, seen, run}
-use Rattle.older.specs.Written.{Arrays, Room, answerOf, TableEntry, tableIn, those, removed, kept, numbersOf}
+use Rattle.older.specs.Written.{Arrays, Room, answerOf, TableEntry, asEntry, tableIn, those, removed, kept, numbersOf}
 use Rattle.older.specs.FromFresh.{FromFresh}
 use Rattle.older.specs.Alike.{DefaultKept, StandAlike}
 
@@ -37,6 +37,7 @@ pub record OlderReads (image : List ℕ) (a : Arguments) (older : ℕ) (new old 
   pub resets : old .resets ≡ pick (ltb 5 older) (new .resets) 0
   pub listed : old .listed + length (those (removed older) newTable) ≡ new .listed
   pub skipped : old .skipped ≡ new .skipped + countOf (onlyNewest (rowFor a) older newestLevel) (blocksFor image a)
+  pub power : old .power ≡ 0
   pub table : oldTable ≡ those (kept older) newTable
 
 -- as `read` answers and writes them, each into arrays no shorter than the block count
@@ -63,6 +64,17 @@ OlderReader =
     firstMet (judgeCauses image (atLevel a newestLevel)) ≡ 0 →
     ReadsAgree image a older × WalksAgree image a older
 
+-- an image that the newest reader refuses with 31 is read at every level below, with the answer and the table that the level
+-- defines (document 02, request 3)
+abbrev pub ReadBelow : Type 0
+ReadBelow =
+    (image : List ℕ) (a : Arguments) (older : ℕ) → older < newestLevel →
+    firstMet (judgeCauses image (atLevel a newestLevel)) ≡ 31 →
+    (judgeAnswer image (atLevel a older) ≡ acceptedAnswer image (atLevel a older))
+    × ((o : Arrays) → Room image a o →
+    (answerOf image (atLevel a older) o ≡ acceptedAnswer image (atLevel a older))
+    × (tableIn image (atLevel a older) o ≡ map (asEntry (rowFor a)) (tableFor image (atLevel a older))))
+
 -- what is seen of loaded walks tells all that is compared of them
 abbrev pub SeenTells : Type 0
 SeenTells = (v w : Walk) → v .loaded ≡ true → w .loaded ≡ true → seen v ≡ seen w →
@@ -80,12 +92,13 @@ abbrev pub OlderTable : Type 0
 OlderTable = (row older newest : ℕ) (bs : List Place) → older ≤ newest → table row older bs ≡ keep (isKept row older) (table row newest bs)
 
 -- the older counts: the same resets if it knows type 5, else 0; listed lower by the removed entries; skipped higher by the
--- blocks of types that only the newest knows
+-- blocks of types that only the newest knows; the same power if it knows type 6, else 0
 abbrev pub OlderCounts : Type 0
 OlderCounts = (row older newest : ℕ) (bs : List (List ℕ)) → older ≤ newest →
     (countOf (isReset row older) bs ≡ pick (ltb 5 older) (countOf (isReset row newest) bs) 0)
     × (countOf (isListed row older) bs + countOf (isRemoved row older newest) bs ≡ countOf (isListed row newest) bs)
     × (countOf (isSkipped row newest) bs + countOf (onlyNewest row older newest) bs ≡ countOf (isSkipped row older) bs)
+    × (countOf (isPower row older) bs ≡ pick (ltb 6 older) (countOf (isPower row newest) bs) 0)
 
 -- the older default number is the newest one's, or none if that is a removed entry's; at most one block is a default, as in a
 -- leaf that the newest accepts

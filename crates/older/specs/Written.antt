@@ -7,6 +7,7 @@ use Rattle.rom.specs.Bytes.{pick}
 use Rattle.format.specs.Block.{isKnown}
 use Rattle.header.specs.declared.Arguments.{Arguments}
 use Rattle.header.specs.Header.{countFor}
+use Rattle.leaf.specs.Leaf.{Place, kindAt, startAt}
 use Rattle.reader.specs.declared.Answer.{Answer}
 use Rattle.reader.specs.Reading.{readAnswer, readKinds, readOffsets}
 
@@ -30,6 +31,10 @@ unfoldable pub entries : List ℕ → List ℕ → List TableEntry
 entries [] starts = []
 entries (k ∷ kinds) [] = []
 entries (k ∷ kinds) (s ∷ starts) = record { kind = k; start = s } ∷ entries kinds starts
+
+-- an entry of the table that the definitions give
+abbrev pub asEntry : ℕ → Place → TableEntry
+asEntry row p = record { kind = kindAt row p; start = startAt p }
 
 -- as many as are listed, from the front of what `read` writes
 unfoldable pub tableIn : List ℕ → Arguments → Arrays → List TableEntry

@@ -41,25 +41,27 @@ const PHY: u8 = 10;
 
 const RESET: u8 = 11;
 
-const UNKNOWN: u8 = 12;
+const POWER: u8 = 12;
 
-const REFUSED: u8 = 13;
+const UNKNOWN: u8 = 13;
 
-const MAKER: u8 = 14;
+const REFUSED: u8 = 14;
 
-const SROM_CRC: u8 = 15;
+const MAKER: u8 = 15;
+
+const SROM_CRC: u8 = 16;
 
 // Of the Magic Packet block, whose reserved bytes are as the others.
-const PASSWORD: u8 = 16;
+const PASSWORD: u8 = 17;
 
-const WAKE_ADDRESS: u8 = 17;
+const WAKE_ADDRESS: u8 = 18;
 
-const COMMAND: u8 = 18;
+const COMMAND: u8 = 19;
 
-const MAGIC_CRC: u8 = 19;
+const MAGIC_CRC: u8 = 20;
 
 // How many there are.
-const FIELDS: u8 = 20;
+const FIELDS: u8 = 21;
 
 // How many a layout has: those of the Magic Packet block are the last.
 fn fields_of(layout: Layout) -> u8 {
@@ -83,14 +85,15 @@ fn field_words(line: Line, field: u8) -> Line {
 9 block: medium
 10 block: MII PHY
 11 block: reset
-12 block: UNKNOWN type
-13 block: REFUSED
-14 the maker's bytes
-15 SROM CRC
-16 SecureON password
-17 Magic's address
-18 Magic command
-19 Magic CRC
+12 block: power
+13 block: UNKNOWN type
+14 block: REFUSED
+15 the maker's bytes
+16 SROM CRC
+17 SecureON password
+18 Magic's address
+19 Magic command
+20 Magic CRC
 ",
         field as u64,
     ))
@@ -112,12 +115,13 @@ fn label(line: Line, field: u8, number: u8) -> Line {
 11 block #
 12 block #
 13 block #
-14 maker
-15 CRC
-16 password
-17 address
-18 command
-19 CRC
+14 block #
+15 maker
+16 CRC
+17 password
+18 address
+19 command
+20 CRC
 ",
         field as u64,
     );
@@ -138,14 +142,15 @@ fn colour(line: Line, field: u8) -> Line {
 9 #cdebc5
 10 #9fd5b5
 11 #fbd9a8
-12 #e0218a
-13 #d7301f
-14 #e6ded0
-15 #b8b8b8
-16 #a3dde0
-17 #c9eef0
-18 #7cc8cd
-19 #b8b8b8
+12 #e9a58d
+13 #e0218a
+14 #d7301f
+15 #e6ded0
+16 #b8b8b8
+17 #a3dde0
+18 #c9eef0
+19 #7cc8cd
+20 #b8b8b8
 ",
         field as u64,
     ))
@@ -219,6 +224,7 @@ fn field_of(b: Block) -> u8 {
             MEDIUM
         }
         Block::Reset { size: _ } => RESET,
+        Block::Power { size: _, mode: _ } => POWER,
         Block::Unknown { size: _ } => UNKNOWN,
         Block::Refused(_) => REFUSED,
     }
@@ -292,7 +298,7 @@ rect{stroke:#808080}
 .label{font-size:11px}
 .words{font-size:14px;text-anchor:start}
 .title{font-size:20px;text-anchor:start}
-.field12,.field13{stroke:#000000;stroke-width:3}
+.field13,.field14{stroke:#000000;stroke-width:3}
 .loud{fill:#ffffff;font-weight:bold}
 ",
     );
@@ -369,8 +375,8 @@ fn draw_offsets(file: i32) {
 }
 
 fn draw_key(file: i32, field: u8) {
-    let x = 60 + 256 * ((field % 4) as u64);
-    let y = 600 + 26 * ((field / 4) as u64);
+    let x = 60 + 212 * ((field % 5) as u64);
+    let y = 600 + 26 * ((field / 5) as u64);
     let line = line::of(
         b"<rect class=\"field#\" x=\"#\" y=\"#\"",
         [field as u64, x, y, 0],

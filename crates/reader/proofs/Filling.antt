@@ -10,10 +10,10 @@ use lib.ListN.{length, take, drop, set, length-append, length-set}
 use lib.Seq.{drop-cons, getD-set-same, drop-set-lt, lt-length-set}
 use Rattle.rom.specs.Bytes.{pick}
 use Rattle.block.specs.declared.Block.{Block}
-use Rattle.block.specs.declared.Block.the-variants.{Listed, Reset, Unknown, Refused}
+use Rattle.block.specs.declared.Block.the-variants.{Listed, Reset, Power, Unknown, Refused}
 use Rattle.format.specs.Block.{isListed}
 use Rattle.block.specs.Answer.{blockOf, numberOf, sizeIn, listedIn, kindIn}
-use Rattle.block.proofs.Seen.{Seen, refused, unknown, a-reset, a-medium, seen-size, seen-kind}
+use Rattle.block.proofs.Seen.{Seen, refused, unknown, a-reset, a-power, a-medium, seen-size, seen-kind}
 use Rattle.leaf.specs.Leaf.{cut, Place, placed, keep, table, tableOf, kindAt, startAt}
 use Rattle.leaf.proofs.Cuts.{rest-part, next-seen, next-fine}
 use Rattle.leaf.proofs.Stepping.{Passing, passing-more, placed-more, placed-none}
@@ -36,6 +36,7 @@ tabled-set f t x a h =
 pub stored-length : (v : ℕ) (b : Block) (free : ℕ) (a : List ℕ) → length (stored v b free a) ≡ length a
 stored-length v (Listed m) free a = length-set a _ _
 stored-length v (Reset s) free a = refl
+stored-length v (Power s m) free a = refl
 stored-length v (Unknown s) free a = refl
 stored-length v (Refused n) free a = refl
 
@@ -48,10 +49,11 @@ unfolding entry isListed pick
 tabled-more f v p ps free a (refused n e h) z w m l = absurd (h z)
 tabled-more {row} {level} f v p ps free a (unknown e g) z w m l = rw table-cons (simp (g, append-nil))
 tabled-more {row} {level} f v p ps free a (a-reset e g′ h) z w m l = let g = rw h at g′ in rw table-cons (simp (h, g, append-nil))
+tabled-more {row} {level} f v p ps free a (a-power e g′ h) z w m l = let g = rw h at g′ in rw table-cons (simp (h, g, append-nil))
 tabled-more {row} {level} f v p ps free a (a-medium e g h) z w m l =
     let n : free ≡ length (table row level ps) + 1 = m ∙ table-more p ps (a-medium e g h) refl in
     let o : free - 1 ≡ length (table row level ps) = omega arith in
-    rw (o, w (omega arith), table-cons) (simp (g, h) (tabled-set f (table row level ps) p a (omega arith)))
+    rw (o, w (omega arith), table-cons) (simp (g, h .0, h .1) (tabled-set f (table row level ps) p a (omega arith)))
 
 pub record Filled (row level : ℕ) (whole ps : List Place) (free : ℕ) (k₀ o₀ k o : List ℕ) : Type 0 where
   pub kinds : tabled (kindAt row) (table row level ps) k ≡ tabled (kindAt row) (table row level whole) k₀

@@ -16,10 +16,11 @@ ExactReading = (image : List ℕ) (a : Arguments) →
     Exact (judgeCauses image a) (judgeAnswer image a .number)
     × ((kinds offsets : ℕ) → Exact (readCauses image a kinds offsets) (readAnswer image a kinds offsets .number))
 
--- listed, resets and skipped, each counted by its own rule, make up the block count
+-- listed, resets, skipped and power, each counted by its own rule, make up the block count
 abbrev pub CountsAddUp : Type 0
 CountsAddUp = (image : List ℕ) (a : Arguments) →
-    acceptedAnswer image a .listed + acceptedAnswer image a .resets + acceptedAnswer image a .skipped ≡ acceptedAnswer image a .blocks
+    acceptedAnswer image a .listed + acceptedAnswer image a .resets + acceptedAnswer image a .skipped + acceptedAnswer image a .power
+    ≡ acceptedAnswer image a .blocks
 
 abbrev pub entryAt : List ℕ → Arguments → ℕ → Place
 entryAt image a e = getD (tableFor image a) e (record { start = 0; rest = [] })

@@ -4,7 +4,7 @@ use mathlib.Core.List.{List}
 use lib.ListN.{set}
 use Rattle.rom.specs.Refusal.{firstMet}
 use Rattle.block.specs.declared.Block.{Block}
-use Rattle.block.specs.declared.Block.the-variants.{Listed, Reset, Unknown, Refused}
+use Rattle.block.specs.declared.Block.the-variants.{Listed, Reset, Power, Unknown, Refused}
 use Rattle.header.specs.declared.Arguments.{Arguments}
 use Rattle.header.specs.declared.Header.{Header}
 use Rattle.leaf.specs.declared.Tally.{Tally}
@@ -23,6 +23,7 @@ answerFrom h t = record {
   listed = t .listed;
   resets = t .resets;
   skipped = t .skipped;
+  power = t .power;
   «default_number» = t .«default_number»;
 }
 
@@ -34,5 +35,6 @@ readingFor image a kinds offsets = readingWith (firstMet (readCauses image a kin
 abbrev pub stored : ℕ → Block → ℕ → List ℕ → List ℕ
 stored v (Listed m) free a = set a (free - 1) v
 stored v (Reset size) free a = a
+stored v (Power size mode) free a = a
 stored v (Unknown size) free a = a
 stored v (Refused n) free a = a

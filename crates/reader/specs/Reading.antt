@@ -1,5 +1,5 @@
 -- What is read of a controller's leaf with a chip, a controller and a level (document 01, 'Levels and the table', 'Why a call
--- is refused').
+-- is refused'; document 02, request 3).
 use Prim.Native.Nat.{ℕ, _+_}
 use mathlib.Core.List.{List, _∷_, _++_}
 use mathlib.Core.Bool.{_||_}
@@ -10,7 +10,7 @@ use Rattle.rom.specs.Refusal.{Cause, _⇒_, firstMet}
 use Rattle.header.specs.declared.Arguments.{Arguments}
 use Rattle.header.specs.Image.{addressOf, controlByte, restFrom}
 use Rattle.header.specs.Header.{rowFor, leafFor, startFor, countFor, headerCauses}
-use Rattle.format.specs.Block.{isListed, isReset, isSkipped, isDefault}
+use Rattle.format.specs.Block.{isListed, isReset, isPower, isSkipped, isDefault}
 use Rattle.leaf.specs.Leaf.{Place, cut, countOf, firstFrom, leafCauses, kindAt, startAt, tableOf}
 use Rattle.reader.specs.declared.Answer.{Answer}
 use Rattle.reader.specs.declared.Reading.{Reading}
@@ -29,7 +29,7 @@ tableFor image a = tableOf (rowFor a) (a .level) (countFor image a) (startFor im
 
 -- ## Why a reading is refused
 
--- 13 to 18, the blocks one after another
+-- 13 to 17, the blocks one after another, 18 and 31
 unfoldable pub leafCausesFor : List ℕ → Arguments → List Cause
 leafCausesFor image a = leafCauses (rowFor a) (a .level) (blocksFor image a)
 
@@ -47,7 +47,18 @@ readCauses image a kinds offsets =
 -- a refusal's other fields are 0
 unfoldable pub refusedAnswer : ℕ → Answer
 refusedAnswer n =
-    record { number = n; connection = 0; control = 0; address = 0; blocks = 0; listed = 0; resets = 0; skipped = 0; «default_number» = 0 }
+    record {
+      number = n;
+      connection = 0;
+      control = 0;
+      address = 0;
+      blocks = 0;
+      listed = 0;
+      resets = 0;
+      skipped = 0;
+      power = 0;
+      «default_number» = 0;
+    }
 
 unfoldable pub acceptedAnswer : List ℕ → Arguments → Answer
 acceptedAnswer image a = record {
@@ -59,6 +70,7 @@ acceptedAnswer image a = record {
   listed = countOf (isListed (rowFor a) (a .level)) (blocksFor image a);
   resets = countOf (isReset (rowFor a) (a .level)) (blocksFor image a);
   skipped = countOf (isSkipped (rowFor a) (a .level)) (blocksFor image a);
+  power = countOf (isPower (rowFor a) (a .level)) (blocksFor image a);
   «default_number» = firstFrom (isDefault (rowFor a) (a .level)) 0 (blocksFor image a);
 }
 

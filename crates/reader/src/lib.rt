@@ -23,6 +23,7 @@ pub struct Answer {
     pub listed: u8,
     pub resets: u8,
     pub skipped: u8,
+    pub power: u8,
     pub default_number: u8,
 }
 
@@ -55,6 +56,7 @@ fn refused_answer(number: u8) -> Answer
         listed: 0,
         resets: 0,
         skipped: 0,
+        power: 0,
         default_number: 0,
     }
 }
@@ -82,6 +84,7 @@ fn answer_of(h: Header, t: Tally) -> Answer
         listed: t.listed,
         resets: t.resets,
         skipped: t.skipped,
+        power: t.power,
         default_number: t.default_number,
     }
 }

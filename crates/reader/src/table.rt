@@ -25,6 +25,7 @@ fn place(b: Block, at: usize, free: usize, kinds: &mut [u16], offsets: &mut [u16
             next
         }
         Block::Reset { size: _ } => free,
+        Block::Power { size: _, mode: _ } => free,
         Block::Unknown { size: _ } => free,
         Block::Refused(_) => free,
     }

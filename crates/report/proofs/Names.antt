@@ -15,8 +15,8 @@ use Rattle.text.specs.Numbers.{placesFrom, numeral, decimalOf}
 use Rattle.text.specs.Written.{textOf, fitted}
 use Rattle.text.specs.declared.line.Line.{Line}
 use Rattle.text.proofs.Building.{Roomy, begun, finished, after}
-use Rattle.crc.proofs.Below.{allBelow, below}
-use Rattle.report.specs.Words.{mediaNames, mediaWords, bitNames}
+use Rattle.rom.proofs.Below.{allBelow, below}
+use Rattle.report.specs.Words.{mediaNames, mediaWords, nameInTable, nameInList, commandNames, modeNames}
 
 -- three pieces behind a line
 pub three : (line a b c : List ℕ) {u v w : List ℕ} → u ≡ fitted (line ++ a) → v ≡ fitted (u ++ b) → w ≡ fitted (v ++ c)
@@ -67,16 +67,26 @@ pub media-table : (code : ℕ) → code < 256 → wordsFor mediaTable (decimalOf
 unfolding mediaWords
 media-table = named mediaTable mediaNames media-tested
 
--- ## The bits of a Magic command
+-- ## The bits of a Magic command, and of a mode byte
 
-unfoldable pub bitTable : List ℕ
-bitTable =
+unfoldable pub commandTable : List ℕ
+commandTable =
     quoted "0 MAGIC_DIS\n1 Sec_ON_En\n2 bit 2\n3 BNC\n4 AUI/HR\n5 TP10\n6 MII\n7 SYM\n8 LOCK\n9 bit 9\n10 bit 10\n"
     ++ quoted "11 bit 11\n12 bit 12\n13 bit 13\n14 bit 14\n15 bit 15\n"
 
-bit-tested : T (allBelow (hasName bitTable bitNames) 256)
-unfolding hasName bitTable bitNames sameBytes wordsIn hasKey linesOf lineOf numeral placesFrom pick
-bit-tested = tt
+command-tested : T (allBelow (hasName commandTable commandNames) 256)
+unfolding hasName commandTable commandNames sameBytes wordsIn hasKey linesOf lineOf numeral placesFrom pick
+command-tested = tt
 
-pub bit-table : (bit : ℕ) → bit < 256 → wordsFor bitTable (decimalOf bit) ≡ quoted (getD bitNames bit "")
-bit-table = named bitTable bitNames bit-tested
+pub command-table : (bit : ℕ) → bit < 256 → nameInTable commandTable bit ≡ nameInList commandNames bit
+command-table = named commandTable commandNames command-tested
+
+unfoldable pub modeTable : List ℕ
+modeTable = quoted "0 link fail\n1 D1\n2 D2\n3 D3\n4 bit 4\n5 bit 5\n6 bit 6\n7 bit 7\n"
+
+mode-tested : T (allBelow (hasName modeTable modeNames) 256)
+unfolding hasName modeTable modeNames sameBytes wordsIn hasKey linesOf lineOf numeral placesFrom pick
+mode-tested = tt
+
+pub mode-table : (bit : ℕ) → bit < 256 → nameInTable modeTable bit ≡ nameInList modeNames bit
+mode-table = named modeTable modeNames mode-tested

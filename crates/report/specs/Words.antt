@@ -8,7 +8,7 @@ use Rattle.rom.specs.declared.Layout.{Layout}
 use Rattle.rom.specs.Bytes.{pick, byteAt}
 use Rattle.text.specs.Quoted.{quoted}
 use Rattle.text.specs.Numbers.{decimalOf}
-use Rattle.text.specs.Tables.{blank}
+use Rattle.text.specs.Tables.{wordsFor}
 use Rattle.text.specs.Written.{withValues, withFields}
 use Rattle.format.specs.Chips.{kindCompact, kind21041}
 use Rattle.header.specs.declared.Arguments.{Arguments}
@@ -62,20 +62,41 @@ startWords number place = says "block # at byte #, " (number ∷ place .start �
 unfoldable pub placeWords : ℕ → Place → List ℕ
 placeWords number place = startWords number place ++ (kindWords (place .kind) ++ says ", size #" (place .size ∷ 0 ∷ 0 ∷ 0 ∷ []))
 
--- the bits of a Magic command from bit 0 on, as 000 names them; one that must be 0 has its number alone
-unfoldable pub bitNames : List String
-bitNames =
+-- ## Bits by their names
+
+-- the names of the bits that are set, of so many from one on: the next behind one text, the others behind another
+unfoldable pub bitsFrom : (ℕ → List ℕ) → List ℕ → List ℕ → ℕ → ℕ → ℕ → List ℕ
+bitsFrom name next other zero bit bits = []
+bitsFrom name next other (suc left) bit bits =
+    pick (eqb (bits % 2) 1) ((next ++ name bit) ++ bitsFrom name other other left (bit + 1) (bits / 2))
+    (bitsFrom name next other left (bit + 1) (bits / 2))
+
+-- the name of a bit in a table of words, and in a list from bit 0 on
+abbrev pub nameInTable : List ℕ → ℕ → List ℕ
+nameInTable table bit = wordsFor table (decimalOf bit)
+
+abbrev pub nameInList : List String → ℕ → List ℕ
+nameInList names bit = quoted (getD names bit "")
+
+-- the bits of a word, named by the one and by the other
+abbrev pub tableWords : List ℕ → List ℕ → List ℕ → ℕ → List ℕ
+tableWords table first other bits = bitsFrom (nameInTable table) first other 16 0 bits
+
+abbrev pub listWords : List String → List ℕ → List ℕ → ℕ → List ℕ
+listWords names first other bits = bitsFrom (nameInList names) first other 16 0 bits
+
+-- the bits of a Magic command as 000 names them; one that must be 0 has its number alone
+unfoldable pub commandNames : List String
+commandNames =
     "MAGIC_DIS" ∷ "Sec_ON_En" ∷ "bit 2" ∷ "BNC" ∷ "AUI/HR" ∷ "TP10" ∷ "MII" ∷ "SYM" ∷ "LOCK" ∷ "bit 9" ∷ "bit 10" ∷ "bit 11" ∷ "bit 12"
     ∷ "bit 13" ∷ "bit 14" ∷ "bit 15" ∷ []
 
--- a bit's name behind a blank, where it is set
-unfoldable pub bitWords : ℕ → ℕ → List ℕ
-bitWords set bit = pick (eqb set 1) (blank ∷ quoted (getD bitNames bit "")) []
-
--- the bits that are set, of so many from one on
-unfoldable pub bitsFrom : ℕ → ℕ → ℕ → List ℕ
-bitsFrom zero bit bits = []
-bitsFrom (suc left) bit bits = bitWords (bits % 2) bit ++ bitsFrom left (bit + 1) (bits / 2)
-
 unfoldable pub commandWords : ℕ → List ℕ
-commandWords command = bitsFrom 16 0 command
+commandWords command = listWords commandNames (quoted " ") (quoted " ") command
+
+-- when a power block applies: the bits of a mode byte (000, section 7.5.2.1.5), in the same way
+unfoldable pub modeNames : List String
+modeNames = "link fail" ∷ "D1" ∷ "D2" ∷ "D3" ∷ "bit 4" ∷ "bit 5" ∷ "bit 6" ∷ "bit 7" ∷ []
+
+unfoldable pub modeWords : ℕ → List ℕ
+modeWords mode = pick (eqb mode 0) (quoted " none") (listWords modeNames (quoted " ") (quoted ", ") mode)

@@ -165,17 +165,48 @@ fn show_clashing(b: Block, line: Line) {
             }
         }
         Block::Reset { size: _ } => line.text(b", a reset").print(),
+        Block::Power { size: _, mode: _ } => {}
         Block::Unknown { size: _ } => {}
         Block::Refused(_) => {}
     }
 }
 
-fn show_clashes(image: &[u8], arguments: Arguments, blocks: u8) {
+// The modes that a power block shares with another; nothing is shown where there are none.
+fn show_shared(shared: u8, line: Line) {
+    if shared != 0 {
+        line.print();
+        words::mode_words(Line::new().text(b"      shared modes  "), shared).print();
+    }
+}
+
+// The bits of the mode byte that are set in more than one power block.
+fn repeated_modes(image: &[u8], arguments: Arguments, blocks: u8) -> u8 {
+    let mut modes = 0u8;
+    let mut repeated = 0u8;
+    let mut k = 0u8;
+    while k < blocks {
+        let start = survey::block_place(image, arguments, k).start;
+        let mode = block::mode_of(block_at(image, arguments, start));
+        repeated |= modes & mode;
+        modes |= mode;
+        k += 1;
+    }
+    repeated
+}
+
+// The blocks that refusal 18 is about, or 31.
+fn show_clashes(image: &[u8], arguments: Arguments, number: u8, blocks: u8) {
+    let repeated = repeated_modes(image, arguments, blocks);
     let mut k = 0u8;
     while k < blocks {
         let place = survey::block_place(image, arguments, k);
         let line = place_words(Line::new().to(2), k, place);
-        show_clashing(block_at(image, arguments, place.start), line);
+        let b = block_at(image, arguments, place.start);
+        if number == refusal::CLASH {
+            show_clashing(b, line);
+        } else {
+            show_shared(repeated & block::mode_of(b), line);
+        }
         k += 1;
     }
 }
@@ -385,6 +416,14 @@ fn show_block(image: &[u8], arguments: Arguments, number: u8) {
     }
 }
 
+// Whether a refusal is about several blocks.
+fn is_clash(number: u8) -> bool {
+    if number == refusal::CLASH {
+        return true;
+    }
+    number == refusal::REPEATED_MODE
+}
+
 // What a refusal of the reader is about: a field of the header, a block, the blocks that clash, or a field of the Magic
 // Packet block.
 fn show_where(image: &[u8], arguments: Arguments, number: u8) {
@@ -394,12 +433,9 @@ fn show_where(image: &[u8], arguments: Arguments, number: u8) {
         show_leaf_field(image, arguments, number);
     } else if number < refusal::CLASH {
         show_block(image, arguments, number);
-    } else if number == refusal::CLASH {
-        show_clashes(
-            image,
-            arguments,
-            header::read_header(image, arguments).blocks,
-        );
+    } else if is_clash(number) {
+        let blocks = header::read_header(image, arguments).blocks;
+        show_clashes(image, arguments, number, blocks);
     } else {
         show_magic_field(image, number);
     }

@@ -1,5 +1,5 @@
-// Words for numbers: the one table of each. Media, connection types and the bits of a Magic command are named as 000 names
-// them. Those of refusals and connection types end what they stand in, and go to a file.
+// Words for numbers: the one table of each. Media, connection types, the bits of a Magic command and those of a mode byte are
+// named as 000 names them. Those of refusals and connection types end what they stand in, and go to a file.
 use text::decimal_words;
 use text::hex_words;
 use text::line::Line;
@@ -7,7 +7,7 @@ use text::slice::byte_at;
 ghost use mathlib.Core.Path.{_≡_};
 ghost use mathlib.Core.List.{_++_};
 ghost use Rattle.text.specs.Written.{textOf, fitted};
-ghost use Rattle.report.specs.Words.{mediaWords, kindWords, mediumWords, bitWords, commandWords};
+ghost use Rattle.report.specs.Words.{mediaWords, kindWords, mediumWords, tableWords, commandWords, modeWords};
 
 // Document 01, 'Why a call is refused', and document 02; in words that fit every layout.
 pub fn show_refusal(number: u8, file: i32) {
@@ -20,7 +20,7 @@ pub fn show_refusal(number: u8, file: i32) {
 5 the controller count is 0 or too high, or the reserved byte is not 0
 6 the card has no such controller
 7 no such chip
-8 the level is over 6
+8 the level is over 7
 9 the controller's address is over 48 bits
 10 the leaf's header is outside its bounds
 11 the connection type is none of the chip's
@@ -42,6 +42,7 @@ pub fn show_refusal(number: u8, file: i32) {
 27 the image is not tidy, so a sheet would lose some of it
 29 the CRC of the Magic Packet block is wrong
 30 a reserved byte of the Magic Packet block is not 0
+31 a bit of the mode byte is set in two power blocks
 ",
         number as u64,
     );
@@ -122,14 +123,34 @@ pub fn medium_words(line: Line, bytes: &[u8], kind: u16) -> Line
     media_words(line, byte_at(bytes, 2) % 64)
 }
 
-// A bit of a Magic command, by its number, where it is set. One that must be 0 has no other name.
-fn bit_words(line: Line, set: u16, bit: u8) -> Line
-    ensures { λ r. ⌜ textOf r ≡ fitted (textOf line ++ bitWords set bit) ⌝ }
+// The names of the bits that are set, by a table: the first behind one text, the others behind another.
+fn bit_words<'a>(line: Line, bits: u16, table: &[u8], first: &'a [u8], other: &'a [u8]) -> Line
+    ensures { λ r. ⌜ textOf r ≡ fitted (textOf line ++ tableWords (now (table .entry)) (now (first .entry)) (now (other .entry)) bits) ⌝ }
 {
-    if set != 1 {
-        return line;
+    let mut line = line;
+    let mut before = first;
+    let mut bits = bits;
+    let mut bit = 0u8;
+    while bit < 16 {
+        let set = bits % 2 == 1;
+        let name = decimal_words(table, bit as u64);
+        bits = bits / 2;
+        bit += 1;
+        if set {
+            line = line.text(before).text(name);
+            before = other;
+        }
     }
-    line.byte(b' ').text(decimal_words(
+    line
+}
+
+// The bits of a Magic command that are set. One that must be 0 has its number alone.
+pub fn command_words(line: Line, command: u16) -> Line
+    ensures { λ r. ⌜ textOf r ≡ fitted (textOf line ++ commandWords command) ⌝ }
+{
+    bit_words(
+        line,
+        command,
         b"0 MAGIC_DIS
 1 Sec_ON_En
 2 bit 2
@@ -147,21 +168,31 @@ fn bit_words(line: Line, set: u16, bit: u8) -> Line
 14 bit 14
 15 bit 15
 ",
-        bit as u64,
-    ))
+        b" ",
+        b" ",
+    )
 }
 
-// The bits of a Magic command that are set, each behind a blank.
-pub fn command_words(line: Line, command: u16) -> Line
-    ensures { λ r. ⌜ textOf r ≡ fitted (textOf line ++ commandWords command) ⌝ }
+// When a power block applies: the bits of its mode byte that are set. One that must be 0 has its number alone.
+pub fn mode_words(line: Line, mode: u8) -> Line
+    ensures { λ r. ⌜ textOf r ≡ fitted (textOf line ++ modeWords mode) ⌝ }
 {
-    let mut line = line;
-    let mut bits = command;
-    let mut bit = 0u8;
-    while bit < 16 {
-        line = bit_words(line, bits % 2, bit);
-        bits = bits / 2;
-        bit += 1;
+    if mode == 0 {
+        return line.text(b" none");
     }
-    line
+    bit_words(
+        line,
+        mode as u16,
+        b"0 link fail
+1 D1
+2 D2
+3 D3
+4 bit 4
+5 bit 5
+6 bit 6
+7 bit 7
+",
+        b" ",
+        b", ",
+    )
 }

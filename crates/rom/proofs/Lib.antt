@@ -6,4 +6,5 @@ pub mod Layouts
 pub mod Reached
 pub mod Put
 pub mod Zeros
+pub mod Below
 pub mod Lists

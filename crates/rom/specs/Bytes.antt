@@ -36,6 +36,11 @@ unfoldable pub isIn : ℕ → List ℕ → Bool
 isIn x [] = false
 isIn x (y ∷ ys) = eqb y x || isIn x ys
 
+-- whether p takes a number below n
+unfoldable pub anyBelow : (ℕ → Bool) → ℕ → Bool
+anyBelow p zero = false
+anyBelow p (suc n) = p n || anyBelow p n
+
 unfoldable pub allZero : List ℕ → Bool
 allZero [] = true
 allZero (x ∷ s) = eqb x 0 && allZero s

@@ -59,3 +59,5 @@ pub const UNTIDY: u8 = 27;
 pub const MAGIC_CRC: u8 = 29;
 
 pub const MAGIC_RESERVED: u8 = 30;
+
+pub const REPEATED_MODE: u8 = 31;

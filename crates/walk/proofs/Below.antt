@@ -3,8 +3,8 @@ use Prim.Native.Nat.{ℕ, suc, _-_, _<_}
 use native.Mathlib.Omega.{arith}
 use mathlib.Core.Path.{_≡_, ap}
 use mathlib.Core.Bool.{Bool, _||_}
-use Rattle.rom.specs.Bytes.{pick}
-use Rattle.walk.specs.Walk.{lastBelow, anyBelow}
+use Rattle.rom.specs.Bytes.{pick, anyBelow}
+use Rattle.walk.specs.Walk.{lastBelow}
 
 one-less : (k : ℕ) → 0 < k → k ≡ suc (k - 1)
 one-less k h = omega arith

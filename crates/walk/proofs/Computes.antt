@@ -1,7 +1,7 @@
 -- The definitions of a look, opened together for what computes: `unfolding look-computes`.
-use Rattle.rom.specs.Bytes.{pick, isIn}
+use Rattle.rom.specs.Bytes.{pick, isIn, anyBelow}
 use Rattle.rom.specs.Refusal.{firstMet}
-use Rattle.walk.specs.Walk.{served, isServed, flagAt, lastBelow, anyBelow, stays, isCandidate, firstUp, upIn, chosen, switched}
+use Rattle.walk.specs.Walk.{served, isServed, flagAt, lastBelow, stays, isCandidate, firstUp, upIn, chosen, switched}
 use Rattle.walk.specs.Walk.{stepped, badReport, lookCauses, walkedTo, lookFor}
 
 unfoldable pub look-computes : Unit {0}

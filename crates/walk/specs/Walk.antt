@@ -6,7 +6,7 @@ use mathlib.Core.Bool.{Bool, true, false, _||_, _&&_, not}
 use lib.Dec.{eqb, ltb}
 use lib.ListN.{length, replicate}
 use Rattle.rom.specs.Geometry.{none}
-use Rattle.rom.specs.Bytes.{pick, byteAt, isIn, one}
+use Rattle.rom.specs.Bytes.{pick, byteAt, isIn, one, anyBelow}
 use Rattle.rom.specs.Refusal.{Cause, _⇒_, firstMet}
 use Rattle.format.specs.Block.{kindOf, factsOf, isListed}
 use Rattle.header.specs.declared.Arguments.{Arguments}
@@ -98,11 +98,6 @@ loadedWalk image a = record {
 unfoldable pub lastBelow : (ℕ → Bool) → ℕ → ℕ
 lastBelow p zero = none
 lastBelow p (suc n) = pick (p n) n (lastBelow p n)
-
--- whether p takes a number below n
-unfoldable pub anyBelow : (ℕ → Bool) → ℕ → Bool
-anyBelow p zero = false
-anyBelow p (suc n) = p n || anyBelow p n
 
 -- an entry is up if the byte at its block number is 1
 abbrev pub isUp : List ℕ → ℕ → Bool

@@ -1,4 +1,5 @@
--- Cases a to k of document 01, 'Blocks to prove', as whole images, read and walked. Cases a to j are those of crate `leaf`.
+-- Cases a to k of document 01, 'Blocks to prove', as whole images, read and walked, and a card with a power block. Cases a to j are
+-- those of crate `leaf`.
 use Prim.Native.Nat.{ℕ, _/_, _%_}
 use mathlib.Core.List.{List, [], _∷_, _++_, map}
 use mathlib.Core.Bool.{Bool, true, false}
@@ -66,6 +67,7 @@ readWhole l image c =
       listed = answer .listed;
       resets = answer .resets;
       skipped = answer .skipped;
+      power = answer .power;
       kinds = map (λ e. e .kind) table;
       starts = map (λ e. e .start) table;
     }
@@ -115,6 +117,17 @@ magicImageCases =
     map (read withMagic) (take 1 leaves.paperCases) ++ caseK withMagic
     ++ read withMagic (leaves.accepted 21143 6 (0x00 ∷ 0x08 ∷ 0x01 ∷ 0xBA ∷ 0x09 ∷ replicate 57 0) 0 0 1 [] [])
     ∷ read withMagic (leaves.refused 21143 6 (0x00 ∷ 0x08 ∷ 0x01 ∷ 0xBB ∷ 0x09 ∷ replicate 58 0) 13)
+    ∷ []
+
+-- a card with a power block, block 1: a link there is none, and the default is selected
+unfoldable pub powerImageCases : List ImageCase
+powerImageCases =
+    record {
+      layout = withoutMagic;
+      reading = leaves.powered 21143 7 leaves.leafBetween 2 0 0 1 (2 ∷ 4 ∷ []) (46 ∷ 33 ∷ []);
+      calls = load ∷ look (0 ∷ 1 ∷ 0 ∷ []) ∷ look (1 ∷ 1 ∷ 1 ∷ []) ∷ [];
+      seen = then false none 0 0 ∷ then false 0 1 1 ∷ then true 2 2 2 ∷ [];
+    }
     ∷ []
 
 -- ## The order of an image's causes, with a Magic Packet block

@@ -28,6 +28,10 @@ ImagesWorked = map whole.worked whole.imageCases ≡ whole.imageCases
 abbrev pub MagicImagesWorked : Type 0
 MagicImagesWorked = map whole.worked whole.magicImageCases ≡ whole.magicImageCases
 
+-- and so is a card with a power block
+abbrev pub PowerImagesWorked : Type 0
+PowerImagesWorked = map whole.worked whole.powerImageCases ≡ whole.powerImageCases
+
 -- 29 and 30 stand behind 4 and before 5
 abbrev pub OrderWorked : Type 0
 OrderWorked = map whole.order whole.orderCases ≡ whole.orderCases

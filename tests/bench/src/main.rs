@@ -31,12 +31,17 @@ fn main() {
         magic: Some(MagicBlock::valid(random)),
         ..typical_card()
     });
+    let powered = images(|random| Card {
+        private: random.bytes(),
+        ..powered_card()
+    });
     let (newest, newest_21041) = (Arguments::newest(21143), Arguments::newest(21041));
     contest_crcs(&typical, &waking);
     contest_magic(&waking);
     contest_reading("typical", newest, &typical);
     contest_reading("longest", newest_21041, &longest);
     contest_reading("magic", newest.laid_out(Layout::MAGIC), &waking);
+    contest_reading("power", newest, &powered);
     let tidy = images(|random| {
         let mut card = typical_card();
         card.private[..18].copy_from_slice(&random.bytes::<18>());
@@ -69,6 +74,15 @@ fn typical_card() -> Card {
         block::phy(3, &phy),
         block::reset(&[0x0821, 0x0001]),
     ];
+    Card::tidy(21143, 0x0800, blocks)
+}
+
+/// A leaf as a newer 21143 board has it: the media of the typical one, and two power blocks.
+fn powered_card() -> Card {
+    let mut blocks = typical_card().leaves.remove(0).blocks;
+    blocks.pop();
+    blocks.push(block::power(0x01, &[0x0821, 0x0000]));
+    blocks.push(block::power(0x0E, &[0x0821, 0x0020]));
     Card::tidy(21143, 0x0800, blocks)
 }
 

@@ -1,8 +1,9 @@
 //! The bench tool `./card`, run from the root of the repository.
 
 use second::layout::Layout;
-use second::reader::Arguments;
+use second::reader::{Arguments, EXTENDED, POWER, starts};
 use std::fs;
+use std::ops::Range;
 use std::path::{Path, PathBuf};
 use std::process::Command;
 
@@ -55,6 +56,34 @@ pub fn option(layout: Layout) -> &'static str {
 /// Runs `./card` with words that need no quotes.
 pub fn card(words: &str) -> Run {
     shell(&format!("./card {words}"), Path::new("/nowhere"))
+}
+
+/// A power block: its number, its places and its mode byte.
+#[derive(Debug, Clone)]
+pub struct PowerBlock {
+    pub number: usize,
+    pub places: Range<usize>,
+    pub mode: u8,
+}
+
+/// The power blocks of a leaf that a reader of level 6 accepts: "length 2g+3; a mode byte, g, g words"
+/// (document 02, request 3), so that the mode stands behind length and type.
+pub fn power_blocks(image: &[u8], arguments: Arguments) -> Vec<PowerBlock> {
+    let level_6 = Arguments {
+        level: 6,
+        ..arguments
+    };
+    let starts = starts(image, level_6).unwrap_or_default();
+    let block = |(number, start): (usize, usize)| PowerBlock {
+        number,
+        places: start..start + 1 + usize::from(image[start] & !EXTENDED),
+        mode: image[start + 2],
+    };
+    let is_power = |&(_, start): &(usize, usize)| {
+        image[start] & EXTENDED != 0 && u16::from(image[start + 1]) == POWER
+    };
+    let blocks = starts.into_iter().enumerate();
+    blocks.filter(is_power).map(block).collect()
 }
 
 /// A new empty folder for a test of this name.

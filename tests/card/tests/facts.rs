@@ -1,8 +1,8 @@
 //! What the bench tool says of a card, held to the second implementation.
 
-use card::{Run, card, option, samples, temporary, words};
+use card::{PowerBlock, Run, card, option, power_blocks, samples, temporary, words};
 use second::crc::{IMAGE_LENGTH, MAGIC_CRC_OFFSET, lay_srom_crc, magic_crc, srom_crc};
-use second::images::{Card, Image, MagicBlock, Sample};
+use second::images::{Card, Image, MagicBlock, Sample, block};
 use second::layout::{LAYOUTS, Layout};
 use second::magic::{LAST_RESERVED, Magic, RESERVED, read_magic, write_magic};
 use second::random::Random;
@@ -30,6 +30,9 @@ fn expected(image: &[u8], arguments: Arguments) -> Vec<String> {
     if answer.number != 0 {
         let mut facts = vec![format!("REFUSED {}", answer.number)];
         facts.extend(reasons(image, arguments.layout, answer.number));
+        if answer.number == 31 {
+            facts.extend(shared_modes(image, arguments));
+        }
         facts.extend(otherwise(image, arguments));
         return facts;
     }
@@ -37,17 +40,40 @@ fn expected(image: &[u8], arguments: Arguments) -> Vec<String> {
     facts.push(six(&answer.address.to_be_bytes()[2..]));
     facts.push(format!("0x{:04x}", answer.connection));
     facts.push(format!(
-        "{}: {} listed, {} resets, {} stepped over",
-        answer.blocks, answer.listed, answer.resets, answer.skipped
+        "{}: {} listed, {} resets, {} power, {} stepped over",
+        answer.blocks, answer.listed, answer.resets, answer.power, answer.skipped
     ));
     facts.push(default(&answer));
     if arguments.layout.magic {
-        facts.extend(block(read_magic(image).magic));
+        facts.extend(magic_lines(read_magic(image).magic));
     }
     for (entry, (kind, offset)) in entries.into_iter().enumerate() {
         facts.push(format!("{entry} {offset} {}", kind_words(kind)));
     }
+    if answer.power > 0 {
+        let blocks = power_blocks(image, arguments);
+        facts.extend(blocks.iter().map(|it| modes(it, it.mode)));
+    }
     facts
+}
+
+/// The line of a power block, and modes of it in words.
+fn modes(block: &PowerBlock, mode: u8) -> String {
+    let (number, start, size) = (block.number, block.places.start, block.places.len());
+    let words = match mode {
+        0 => "none".to_string(),
+        _ => bits(mode.into(), &MODE_BITS).join(", "),
+    };
+    format!("block {number} at byte {start}, type 6, size {size}: {words}")
+}
+
+/// "No bit of the mode byte may be set in two blocks": the blocks of which one is, and those bits of each.
+fn shared_modes(image: &[u8], arguments: Arguments) -> Vec<String> {
+    let blocks = power_blocks(image, arguments);
+    let is_shared = |bit: &u8| blocks.iter().filter(|it| it.mode & bit != 0).count() > 1;
+    let shared: u8 = (0..8).map(|bit| 1 << bit).filter(is_shared).sum();
+    let sharing = blocks.iter().filter(|it| it.mode & shared != 0);
+    sharing.map(|it| modes(it, it.mode & shared)).collect()
 }
 
 /// What is shown of a refusal that the layout has a say in, and of the CRC and the reserved bytes of the
@@ -127,19 +153,24 @@ const COMMAND_BITS: [(u32, &str); 8] = [
     (8, "LOCK"),
 ];
 
-/// The lines of a Magic Packet block, without their names.
-fn block(magic: Magic) -> [String; 3] {
-    let word = |bit: u32| match COMMAND_BITS.iter().find(|(it, _)| *it == bit) {
-        Some((_, name)) => format!(" {name}"),
-        None => format!(" bit {bit}"),
+/// The mode byte of a power block (000, section 7.5.2.1.5), in the same way.
+const MODE_BITS: [(u32, &str); 4] = [(0, "link fail"), (1, "D1"), (2, "D2"), (3, "D3")];
+
+/// The names of the bits that are set.
+fn bits(bits: u16, names: &[(u32, &str)]) -> Vec<String> {
+    let word = |bit: u32| match names.iter().find(|(it, _)| *it == bit) {
+        Some((_, name)) => name.to_string(),
+        None => format!("bit {bit}"),
     };
-    let bits = (0..16).filter(|bit| magic.command >> bit & 1 == 1);
-    let command = format!(
-        "0x{:04x}{}",
-        magic.command,
-        bits.map(word).collect::<String>()
-    );
-    [six(&magic.password), six(&magic.address), command]
+    let set = (0..16).filter(|bit| bits >> bit & 1 == 1);
+    set.map(word).collect()
+}
+
+/// The lines of a Magic Packet block, without their names.
+fn magic_lines(magic: Magic) -> [String; 3] {
+    let mut command = vec![format!("0x{:04x}", magic.command)];
+    command.extend(bits(magic.command, &COMMAND_BITS));
+    [six(&magic.password), six(&magic.address), command.join(" ")]
 }
 
 fn six(bytes: &[u8]) -> String {
@@ -166,6 +197,7 @@ fn shown(written: &str) -> Vec<String> {
         let lines = written.lines().map(str::trim_start);
         let is_fact = |line: &&str| BEGINS.iter().any(|begin| line.starts_with(begin));
         facts.extend(lines.filter(is_fact).map(str::to_string));
+        facts.extend(below_blocks(written, "shared modes"));
         return facts;
     }
     for name in [
@@ -201,7 +233,18 @@ fn shown(written: &str) -> Vec<String> {
         let (_, start) = place.split_once(" at byte ").unwrap();
         facts.push(format!("{entry} {start} {kind}"));
     }
+    facts.extend(below_blocks(written, "modes"));
     facts
+}
+
+/// The lines of blocks that have a name below them, with what stands behind it.
+fn below_blocks(written: &str, name: &str) -> Vec<String> {
+    let lines: Vec<_> = written.lines().map(str::trim_start).collect();
+    let both = |pair: &[&str]| {
+        let value = pair[1].strip_prefix(name)?.trim_start();
+        Some(format!("{}: {value}", pair[0]))
+    };
+    lines.windows(2).filter_map(both).collect()
 }
 
 /// The arguments that a sample is read with: at every level for two controllers and for the first in
@@ -253,6 +296,7 @@ fn readings() {
     for fact in ["accepted with --magic", "accepted without --magic"] {
         assert!(verdicts[fact] > 10, "{verdicts:?}");
     }
+    assert!(verdicts.contains_key("REFUSED 31"), "{verdicts:?}");
 }
 
 /// The same of random cards of both layouts, whose blocks say anything.
@@ -349,7 +393,7 @@ fn named_blocks() {
             // What older readers see is shown up to that block.
             let run = card(&format!("older {words}"));
             let rows = rows(&run.written);
-            let shown: Vec<_> = rows[2..rows.len() - 4]
+            let shown: Vec<_> = rows[2..rows.len() - 5]
                 .iter()
                 .map(|row| row.begin.split_whitespace().nth(1).unwrap().parse())
                 .collect();
@@ -357,6 +401,43 @@ fn named_blocks() {
             assert_eq!(shown, expected, "{arguments:?}\n{}", run.written);
         }
     }
+}
+
+/// Refusal 31 names the power blocks that share a mode, and which: cards with two to four power blocks
+/// of any modes, read by the newest reader and by one that does not know them.
+#[test]
+fn named_modes() {
+    let file = temporary("named_modes").join("card.rom");
+    let mut random = Random::new(21143);
+    let mut verdicts = BTreeMap::new();
+    let mut named = BTreeSet::new();
+    for _ in 0..80 {
+        let blocks = (0..2 + random.below(3)).flat_map(|_| {
+            let mode = (random.below(256) & random.below(256) & random.below(256)) as u8;
+            let words = vec![0x0821; random.below(4)];
+            [block::power(mode, &words), block::sia(0, None, 1, 2)]
+        });
+        let image = Card::tidy(21143, 0x0800, blocks.collect()).image();
+        fs::write(&file, image).unwrap();
+        for level in [NEWEST_LEVEL - 1, NEWEST_LEVEL] {
+            let arguments = Arguments::at_level(21143, level);
+            let run = card(&format!("read {} {}", file.display(), words(arguments)));
+            let facts = expected(&image, arguments);
+            assert_eq!(shown(&run.written), facts, "{arguments:?}\n{}", run.written);
+            assert!(run.written.lines().all(|line| line.len() <= 80));
+            let modes = below_blocks(&run.written, "shared modes");
+            named.extend(
+                modes
+                    .iter()
+                    .map(|it| it.split(": ").nth(1).unwrap().to_string()),
+            );
+            *verdicts.entry((level, facts[0].clone())).or_insert(0) += 1;
+        }
+    }
+    assert_eq!(verdicts.len(), 3, "{verdicts:?}");
+    assert!(verdicts.values().all(|&count| count > 10), "{verdicts:?}");
+    let most = named.iter().map(|modes| modes.split(", ").count()).max();
+    assert!(named.len() > 10 && most > Some(2), "{named:?}");
 }
 
 /// The sheet of every sample in both layouts, and the image of that sheet, with the sample's own block
@@ -520,7 +601,7 @@ fn magic_blocks() {
             continue;
         }
         assert_written(&run, &out, &image);
-        let [password, address, command] = block(magic);
+        let [password, address, command] = magic_lines(magic);
         let mut lines = vec![
             "Magic Packet block".to_string(),
             format!("  password         {password}"),
@@ -676,6 +757,7 @@ fn older_readers() {
             blocks @ ..,
             listed,
             resets,
+            power,
             skipped,
             default,
         ] = rows.as_slice()
@@ -687,6 +769,7 @@ fn older_readers() {
             (verdict, "verdict"),
             (listed, "listed"),
             (resets, "resets"),
+            (power, "power"),
             (skipped, "stepped over"),
             (default, "default block"),
         ] {
@@ -709,6 +792,7 @@ fn older_readers() {
             assert_eq!(cell(verdict), "ok", "{place}");
             assert_eq!(cell(listed), answer.listed.to_string(), "{place}");
             assert_eq!(cell(resets), answer.resets.to_string(), "{place}");
+            assert_eq!(cell(power), answer.power.to_string(), "{place}");
             assert_eq!(cell(skipped), answer.skipped.to_string(), "{place}");
             let default_words = self::default(&answer);
             assert_eq!(
@@ -735,8 +819,8 @@ fn older_readers() {
                 }
             }
             let often = |word| blocks.iter().filter(|row| cell(row) == word).count();
-            let others = (often("rst"), often("-"));
-            let expected = (answer.resets.into(), answer.skipped.into());
+            let others = [often("rst"), often("pwr"), often("-")];
+            let expected = [answer.resets, answer.power, answer.skipped].map(usize::from);
             if shown == starts.len() {
                 assert_eq!(others, expected, "{place}");
             }

@@ -1,6 +1,6 @@
 //! The picture of a ROM: well formed, a cell for each byte with its value and its field.
 
-use card::{card, option, samples, temporary, words};
+use card::{PowerBlock, card, option, power_blocks, samples, temporary, words};
 use second::crc::IMAGE_LENGTH;
 use second::layout::{LAYOUTS, Layout};
 use second::reader::{Arguments, COMPACT, read_all, view};
@@ -38,13 +38,14 @@ const RESERVED: usize = 7;
 const LEAF: usize = 8;
 const MEDIUM: usize = 9;
 const PHY: usize = 10;
-const UNKNOWN: usize = 12;
-const MAKER: usize = 14;
-const SROM_CRC: usize = 15;
-const PASSWORD: usize = 16;
-const WAKE_ADDRESS: usize = 17;
-const COMMAND: usize = 18;
-const MAGIC_CRC: usize = 19;
+const POWER: usize = 12;
+const UNKNOWN: usize = 13;
+const MAKER: usize = 15;
+const SROM_CRC: usize = 16;
+const PASSWORD: usize = 17;
+const WAKE_ADDRESS: usize = 18;
+const COMMAND: usize = 19;
+const MAGIC_CRC: usize = 20;
 
 /// The fields of a Magic Packet block in the legend, where there is one.
 const MAGIC_KEYS: [&str; 4] = [
@@ -74,9 +75,11 @@ fn cells(tags: &[String]) -> Vec<(u8, usize)> {
 
 /// Every sample of 128 bytes in both layouts, be it refused: its bytes in order, and what every image
 /// of the layout has in the same place. Where it is accepted, the bytes of each entry's block (document
-/// 01, "The image"), and those of the blocks that a reader of level 3 does not know.
+/// 01, "The image") and of each power block, and those of the blocks that a reader of level 3 does not
+/// know.
 #[test]
 fn every_sample() {
+    let mut power = 0;
     for layout in LAYOUTS {
         let folder = temporary(&format!("map{}", option(layout).trim()));
         let (mut known, mut unknown) = (0, 0);
@@ -84,17 +87,20 @@ fn every_sample() {
             let newest = own.laid_out(layout);
             let fields = fields(&folder, &name, newest, &image);
             known += held(&fields, &image, newest, |kind| Some(listed(kind)));
+            power += held_power(&fields, &image, newest, POWER);
             let older = Arguments { level: 3, ..newest };
             let fields = self::fields(&folder, &name, older, &image);
             unknown += held(&fields, &image, newest, |kind| {
                 (3..COMPACT).contains(&kind).then_some(UNKNOWN)
             });
+            unknown += held_power(&fields, &image, newest, UNKNOWN);
         }
         // Two samples have a Magic Packet block and are accepted.
         let least = if layout.magic { (5, 3) } else { (30, 10) };
         assert!(known >= least.0, "{layout:?}: {known} blocks are known");
         assert!(unknown >= least.1, "{layout:?}: {unknown} blocks are not");
     }
+    assert!(power >= 2, "{power} power blocks");
 }
 
 /// What stands where, whatever the image holds; by their sizes, the fields of a Magic Packet block.
@@ -179,6 +185,61 @@ fn held(
         }
     }
     count
+}
+
+/// How many power blocks an accepted image has: all bytes of each are of the field.
+fn held_power(fields: &[usize], image: &[u8], arguments: Arguments, field: usize) -> usize {
+    if read_all(image, arguments).0.number != 0 {
+        return 0;
+    }
+    let blocks = power_blocks(image, arguments);
+    for PowerBlock { number, places, .. } in &blocks {
+        let block = &fields[places.clone()];
+        assert!(
+            block.iter().all(|&it| it == field),
+            "block {number}: {fields:?}"
+        );
+    }
+    blocks.len()
+}
+
+/// The value of an attribute that is a number.
+fn attribute(tag: &str, name: &str) -> usize {
+    let (_, value) = tag.split_once(&format!(" {name}=\"")).unwrap();
+    value.split('"').next().unwrap().parse().unwrap()
+}
+
+/// The keys of the legend: each field has one, its words end before the next key of its row and before
+/// the page does, and all stand above the lines on blocks that are stepped over. A character of 14 pixels
+/// is 9 wide at most, and the first of those lines stands on 756.
+#[test]
+fn legend() {
+    let folder = temporary("legend");
+    for layout in LAYOUTS {
+        let path = folder.join(format!("{}.svg", layout.magic));
+        let words = format!("21143 {}{}", path.display(), option(layout));
+        card(&format!("map samples/power-21143.rom {words}"));
+        let tags = tags(&fs::read_to_string(&path).unwrap());
+        let keys: Vec<_> = tags
+            .windows(2)
+            .filter(|pair| pair[0].contains("width=\"26\""))
+            .map(|pair| {
+                let (x, y) = (attribute(&pair[0], "x"), attribute(&pair[0], "y"));
+                let words = pair[1].rsplit('>').next().unwrap();
+                (x, y, attribute(&pair[1], "x") + 9 * words.len(), words)
+            })
+            .collect();
+        assert_eq!(keys.len(), if layout.magic { 21 } else { 17 });
+        assert!(keys.iter().any(|key| key.3 == "block: power"), "{keys:?}");
+        for (place, &(x, y, end, words)) in keys.iter().enumerate() {
+            assert!(end <= 1120 && y + 18 <= 756 - 14, "{words}");
+            for &(other_x, other_y, ..) in &keys[place + 1..] {
+                let is_apart = y + 18 < other_y || y == other_y && end < other_x;
+                assert!(is_apart, "{words}: {keys:?}");
+            }
+            assert!(!words.is_empty() && x < end);
+        }
+    }
 }
 
 /// The replacement card: its unknown block has eight bytes, its PHY's 14, its two media's seven and

@@ -318,3 +318,35 @@ fn older_sentences() {
     let least = [whatever, while_down, no, fixed, long].into_iter().min();
     assert!(least > Some(2), "{tally:?}");
 }
+
+/// A card that is refused with 31 is read at every level below (document 02, request 3), and of the others nothing is
+/// promised.
+#[test]
+fn refused_cards() {
+    let mut repeated = 0;
+    for (name, newest, image) in samples() {
+        let number = read_all(&image, newest).0.number;
+        if number == 0 {
+            continue;
+        }
+        let run = card(&format!("older samples/{name} {}", words(newest)));
+        let said = run.written.lines().last().unwrap();
+        if number == 31 {
+            let read =
+                "Readers below level 7 do not know power blocks, and all of them read this card.";
+            assert_eq!(said, read);
+            let below = (0..NEWEST_LEVEL).map(|level| Arguments { level, ..newest });
+            assert!(
+                below
+                    .into_iter()
+                    .all(|it| read_all(&image, it).0.number == 0)
+            );
+            repeated += 1;
+        } else {
+            let refused =
+                "The newest reader refuses this card, so nothing is promised of older ones.";
+            assert_eq!(said, refused, "{name}");
+        }
+    }
+    assert!(repeated > 0);
+}

@@ -1,8 +1,8 @@
 //! Transcripts of the bench tool: each line that begins with `$ ` is run at the root, and what it
 //! writes and its exit status must be as stored. `TRANSCRIPTS=write cargo test -p card` stores
 //! them anew, so they guard against change alone; tests/facts.rs holds verdicts in both layouts,
-//! header fields, counts, tables, Magic Packet blocks, named blocks, walks, columns and sheets to the
-//! second implementation, and tests/sentences.rs what is said of older drivers.
+//! header fields, counts, tables, Magic Packet blocks, modes of power blocks, named blocks, walks,
+//! columns and sheets to the second implementation, and tests/sentences.rs what is said of older drivers.
 
 use card::{root, shell, temporary};
 use std::fs;
@@ -46,9 +46,12 @@ transcripts! {
     magic,
     /// Demand 3 in words: levels that walk alike, that do while a link is down, and that differ.
     older,
+    /// Cards with power blocks: read, also by a reader that does not know them, walked, drawn, written, and
+    /// refused for a mode that two blocks have.
+    power,
     /// A sample of every chip, and the replacement card.
     read,
-    /// Document 01, 'Why a call is refused': every number that a card, a sheet or a report can
+    /// Document 01, 'Why a call is refused', and document 02: every number that a card, a sheet or a report can
     /// cause, and the list of all.
     refusals,
     usage,
@@ -72,7 +75,7 @@ fn every_transcript() {
 #[test]
 fn every_refusal() {
     let stored = fs::read_to_string(folder().join("refusals.txt")).unwrap();
-    for number in (1..=27).chain([29, 30]) {
+    for number in (1..=27).chain(29..=31) {
         let is_caused = stored.contains(&format!("REFUSED {number}: "));
         assert_eq!(is_caused, ![12, 20, 21].contains(&number), "{number}");
         let is_listed = stored.contains(&format!("\n  {number:>2}  "));

@@ -20,7 +20,7 @@ const SPENT_RARITY: u64 = 1_024;
 const ROOMY: usize = 450;
 
 /// Known levels and two that are none.
-const LEVELS: [u8; 9] = [0, 1, 2, 3, 4, 5, 6, 7, 255];
+const LEVELS: [u8; 10] = [0, 1, 2, 3, 4, 5, 6, 7, 8, 255];
 
 /// Lengths that are no image's, one of them 128 in its low bits.
 const WRONG_LENGTHS: [usize; 8] = [0, 1, 64, 127, 129, 256, 300, IMAGE_LENGTH + (1 << 8)];

@@ -2,7 +2,7 @@
 
 use second::reader::NEWEST_LEVEL;
 
-const HIGHEST_REFUSAL: usize = 30;
+const HIGHEST_REFUSAL: usize = 31;
 
 /// The exported calls.
 #[derive(Debug, Clone, Copy)]

@@ -76,10 +76,12 @@ impl<'a> Older<'a> {
         } else {
             answer.resets
         };
+        // Power blocks are of a type that only the newest knows.
         let expected_answer = Answer {
             listed: answer.listed - removed,
             resets: answer.resets - lost_resets,
-            skipped: answer.skipped + removed + lost_resets,
+            skipped: answer.skipped + removed + lost_resets + answer.power,
+            power: 0,
             default_number: if self.is_default_removed {
                 NO_DEFAULT
             } else {

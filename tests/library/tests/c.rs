@@ -78,6 +78,7 @@ fn layout_source() -> String {
                 "listed",
                 "resets",
                 "skipped",
+                "power",
                 "default_number",
             ],
         ),
@@ -144,6 +145,7 @@ fn layout_expected() -> Vec<String> {
             listed,
             resets,
             skipped,
+            power,
             default_number
         ),
         layout!("srom_magic", Magic, password, address, command),
@@ -188,7 +190,7 @@ fn header_is_cpp17() {
 }
 
 /// The header's names for document 01's refusals, by their numbers, and document 02's from 29 on.
-const REFUSALS: [&str; 30] = [
+const REFUSALS: [&str; 31] = [
     "ACCEPTED",
     "BAD_IMAGE_LENGTH",
     "BAD_VERSION",
@@ -219,6 +221,7 @@ const REFUSALS: [&str; 30] = [
     "NOT_TIDY",
     "BAD_MAGIC_CRC",
     "BAD_MAGIC_RESERVED",
+    "REPEATED_MODE",
 ];
 
 /// Each number that the header names is the second implementation's, or the documents'.
@@ -503,8 +506,20 @@ fn probe_lists_the_replacement_card() {
     for (entry, (kind, offset)) in [(3, 57), (4, 48), (2, 33)].into_iter().enumerate() {
         expected.push(entry_line(&image, arguments, entry, kind, offset));
     }
-    expected.push("  0 resets, 1 blocks of unknown types stepped over".to_owned());
+    expected.push("  0 resets, 0 power blocks, 1 blocks of unknown types stepped over".to_owned());
     assert_eq!(lines(&output)[..5], expected);
+    assert_eq!(output.status.code(), Some(0));
+}
+
+/// Document 02, request 3: power blocks are counted, and not listed.
+#[test]
+fn probe_counts_power_blocks() {
+    let output = probe(&["samples/power-21143.rom", "21143", "0", "00000"]);
+    let printed = lines(&output);
+    let listed = printed.iter().filter(|line| line.starts_with("  entry "));
+    assert_eq!(listed.count(), 3);
+    let counts = "  0 resets, 2 power blocks, 0 blocks of unknown types stepped over";
+    assert!(printed.iter().any(|line| line == counts));
     assert_eq!(output.status.code(), Some(0));
 }
 
@@ -750,7 +765,7 @@ fn probe_shows_a_magic_packet_block() {
     for (entry, (kind, offset)) in entries.into_iter().enumerate() {
         expected.push(entry_line(&image, arguments, entry, kind, offset));
     }
-    expected.push("  1 resets, 0 blocks of unknown types stepped over".to_owned());
+    expected.push("  1 resets, 0 power blocks, 0 blocks of unknown types stepped over".to_owned());
     expected.push(format!(
         "wakes by address {}, password {}, command 0x{command:04x}",
         hex(&address),
@@ -778,9 +793,11 @@ fn probe_goes_by_the_layout() {
 
 #[test]
 fn probe_names_a_refusal() {
-    let output = probe(&["samples/case-d.rom", "21143", "0"]);
-    assert_eq!(lines(&output), ["refused 14"]);
-    assert_eq!(output.status.code(), Some(1));
+    for (name, number) in [("case-d", 14), ("damaged-power", 31)] {
+        let output = probe(&[&format!("samples/{name}.rom"), "21143", "0"]);
+        assert_eq!(lines(&output), [format!("refused {number}")]);
+        assert_eq!(output.status.code(), Some(1));
+    }
 }
 
 #[test]

@@ -101,9 +101,9 @@ int main(int count, char **words)
     show_checksums(image, ROW, arguments.layout);
     show_checksums(image + 1, ROW - 1, arguments.layout);
     srom_answer answer = srom_read(image, ROW, arguments, kinds, 255, offsets, 255);
-    printf("answer %u %u %u %llu %u %u %u %u %u\n", answer.number, answer.connection, answer.control,
+    printf("answer %u %u %u %llu %u %u %u %u %u %u\n", answer.number, answer.connection, answer.control,
            (unsigned long long)answer.address, answer.blocks, answer.listed, answer.resets, answer.skipped,
-           answer.default_number);
+           answer.power, answer.default_number);
     srom_part part = srom_view(image, ROW, arguments, 0);
     printf("part %zu %zu\n", part.start, part.length);
     show_magic(image);

@@ -14,20 +14,25 @@ use second::reader::{self, Arguments, CHIPS, NEWEST_LEVEL};
 const LEAST_CALLS: usize = 1_000_000;
 
 /// The numbers that reading can answer.
-const READ_NUMBERS: [usize; 21] = [
-    0, 1, 2, 3, 4, 29, 30, 5, 6, 7, 8, 9, 10, 11, 12, 13, 14, 15, 16, 17, 18,
+const READ_NUMBERS: [usize; 22] = [
+    0, 1, 2, 3, 4, 29, 30, 5, 6, 7, 8, 9, 10, 11, 12, 13, 14, 15, 16, 17, 18, 31,
 ];
 
 /// More elements than any block count, so that reading is never refused for the arrays.
 const ROOMY: usize = 300;
 
 /// Known levels and two that are none.
-const LEVELS: [u8; 9] = [0, 1, 2, 3, 4, 5, 6, 7, 255];
+const LEVELS: [u8; 10] = [0, 1, 2, 3, 4, 5, 6, 7, 8, 255];
 
-/// How often reading answered each number, and how many calls of the library were compared.
+/// Leaves with one power block, and with more, are read so often.
+const LEAST_POWER: usize = 1_000;
+
+/// How often reading answered each number, how often it counted one power block, and more, and how
+/// many calls of the library were compared.
 #[derive(Default)]
 struct Tally {
     numbers: Numbers,
+    power: [usize; 2],
     calls: usize,
 }
 
@@ -36,6 +41,8 @@ impl Tally {
     fn compare_read(&mut self, image: &[u8], arguments: Arguments, lengths: (usize, usize)) {
         let answer = agreed(compare::read(image, arguments, lengths)).answer;
         self.numbers[usize::from(answer.number)] += 1;
+        self.power[0] += usize::from(answer.power == 1);
+        self.power[1] += usize::from(answer.power > 1);
         self.calls += 1;
     }
 
@@ -131,7 +138,7 @@ fn array_lengths() -> Tally {
 /// "a refusal is exact": each field damaged, the CRCs mended, so that the reader comes to it.
 fn damaged_fields() -> Tally {
     let (mut tally, mut random) = (Tally::default(), Random::new(3));
-    for round in 0..64_000 {
+    for round in 0..68_000 {
         let mut sample = Sample::damaged(&mut random, DAMAGES[round % DAMAGES.len()]);
         let image = sample.card.image();
         tally.compare(&mut random, &image, sample.arguments);
@@ -200,7 +207,7 @@ fn random_bytes() -> Tally {
         };
         let arguments = Arguments {
             controller: random.pick(&[0, 0, 0, 1]),
-            level: random.pick(&[0, 1, 2, 3, 4, 5, 6, 6, 6]),
+            level: random.pick(&[0, 1, 2, 3, 4, 5, 6, 7, 7, 7]),
             ..arguments
         };
         tally.compare(&mut random, &image, arguments);
@@ -227,6 +234,27 @@ fn image_lengths() -> Tally {
     tally
 }
 
+/// "An image refused with 31 at level 7 is read at every level below it", with its power blocks
+/// skipped.
+#[test]
+fn repeated_modes_below_the_newest() {
+    let mut random = Random::new(8);
+    for _ in 0..2_000 {
+        let Sample { card, arguments } = Sample::damaged(&mut random, 31);
+        let image = card.image();
+        let answer_at = |level| {
+            let arguments = Arguments { level, ..arguments };
+            agreed(compare::read(&image, arguments, (ROOMY, ROOMY))).answer
+        };
+        assert_eq!(answer_at(NEWEST_LEVEL).number, 31);
+        for level in 0..NEWEST_LEVEL {
+            let answer = answer_at(level);
+            assert_eq!((answer.number, answer.power), (0, 0), "level {level}");
+            assert!(answer.skipped >= 2, "level {level}: {answer:?}");
+        }
+    }
+}
+
 /// A million calls, in which each refusal is met a thousand times. The table of them is shown.
 #[test]
 fn library_reads_as_second() {
@@ -244,6 +272,14 @@ fn library_reads_as_second() {
     let mut wrong = Vec::new();
     let numbers = tallies.each_ref().map(|tally| &tally.numbers);
     let mut table = numbers_table("number", &names, numbers, &READ_NUMBERS, &mut wrong);
+    for (place, title) in ["power 1", "power 2+"].into_iter().enumerate() {
+        let cells = tallies.each_ref().map(|tally| tally.power[place]);
+        let total: usize = cells.iter().sum();
+        table += &row(title, &cells, &total.to_string());
+        if total < LEAST_POWER {
+            wrong.push(format!("{title}: only {total} leaves"));
+        }
+    }
     let cells = tallies.each_ref().map(|tally| tally.calls);
     let calls: usize = cells.iter().sum();
     table += &row("calls", &cells, &calls.to_string());

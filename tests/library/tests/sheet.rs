@@ -19,12 +19,12 @@ const LEAST_INPUTS: usize = 300_000;
 
 /// The numbers that the writer can answer. The image to be written has right CRCs but for the Magic
 /// Packet block that it keeps, a right header and one controller, so the reader is left with few.
-const WRITE_NUMBERS: [usize; 15] = [0, 1, 2, 7, 11, 14, 15, 16, 17, 18, 24, 25, 26, 29, 30];
+const WRITE_NUMBERS: [usize; 16] = [0, 1, 2, 7, 11, 14, 15, 16, 17, 18, 24, 25, 26, 29, 30, 31];
 
 /// The numbers that the maker can answer: controller 0 is below every count, and its address is the
 /// base.
-const MAKE_NUMBERS: [usize; 19] = [
-    0, 1, 2, 3, 4, 5, 7, 10, 11, 12, 13, 14, 15, 16, 17, 18, 27, 29, 30,
+const MAKE_NUMBERS: [usize; 20] = [
+    0, 1, 2, 3, 4, 5, 7, 10, 11, 12, 13, 14, 15, 16, 17, 18, 27, 29, 30, 31,
 ];
 
 /// More bytes than any sheet of a tidy image has.

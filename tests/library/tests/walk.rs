@@ -12,7 +12,7 @@ use second::walk::NONE;
 use std::io::{self, Write as _};
 use std::thread;
 
-const HIGHEST_REFUSAL: usize = 30;
+const HIGHEST_REFUSAL: usize = 31;
 const LEAST_OFTEN: usize = 1_000;
 const LEAST_LISTS: usize = 200_000;
 const LEAST_OLDER_LISTS: usize = 100_000;
@@ -21,8 +21,8 @@ const LEAST_OLDER_LISTS: usize = 100_000;
 const LEAST_SEEN: usize = 500;
 
 /// The numbers that a load can answer: the reader's, 12 apart, and 21.
-const LOAD_NUMBERS: [usize; 21] = [
-    0, 21, 1, 2, 3, 4, 29, 30, 5, 6, 7, 8, 9, 10, 11, 13, 14, 15, 16, 17, 18,
+const LOAD_NUMBERS: [usize; 22] = [
+    0, 21, 1, 2, 3, 4, 29, 30, 5, 6, 7, 8, 9, 10, 11, 13, 14, 15, 16, 17, 18, 31,
 ];
 const LOOK_NUMBERS: [usize; 5] = [0, 19, 20, 22, 23];
 
@@ -197,6 +197,8 @@ fn case_k() {
 #[derive(Debug, Default)]
 struct Levels {
     lists: usize,
+    /// Lists on an image with power blocks, which no older level knows.
+    with_power: usize,
     /// Lists under both conditions with a removed entry in the newest table.
     with_removed: usize,
     /// Looks in those that were accepted, and that left a block selected.
@@ -218,6 +220,7 @@ fn older_levels(layout: Layout, images: usize) -> (Tally, [Levels; NEWEST_LEVEL 
         let sample = calls::accepted(&mut random, layout);
         let image = sample.card.image();
         let blocks = calls::block_count(&image, sample.arguments);
+        let (newest, _) = reader::read_all(&image, sample.arguments);
         for (level, seen) in levels.iter_mut().enumerate() {
             let older = Older::new(&image, sample.arguments, level as u8)
                 .expect("the newest reader accepts it");
@@ -230,6 +233,7 @@ fn older_levels(layout: Layout, images: usize) -> (Tally, [Levels; NEWEST_LEVEL 
                 agreed(older.run(list, |call, number| tally.count(call, number)))
             };
             seen.lists += 1;
+            seen.with_power += usize::from(newest.power > 0);
             let shown = run(&older.keep_down(list.clone()));
             if older.is_default_removed {
                 seen.with_default += 1;
@@ -254,7 +258,8 @@ fn older_levels(layout: Layout, images: usize) -> (Tally, [Levels; NEWEST_LEVEL 
 
 /// Demand 3: under its conditions both walks are alike after each call of every list, whatever the
 /// older level; with a removed default, or a removed entry up, differences are found at each level
-/// that removes entries. Level 5 removes none. "the older reader's promise covers both" layouts.
+/// that removes entries. Levels 5 and 6 remove none, since types 5 and 6 have none. "the older reader's
+/// promise covers both" layouts.
 #[test]
 fn older_walks_as_newest() {
     let seen = thread::scope(|scope| {
@@ -267,9 +272,10 @@ fn older_walks_as_newest() {
         for (level, seen) in levels.iter().enumerate() {
             assert!(seen.looks > LEAST_SEEN, "level {level}: {seen:?}");
             assert!(seen.selections > LEAST_SEEN, "level {level}: {seen:?}");
+            assert!(seen.with_power > LEAST_SEEN, "level {level}: {seen:?}");
             let often = [seen.with_removed, seen.default_differs, seen.up_differs];
             let are_right = match level {
-                5 => often == [0, 0, 0] && seen.with_default == 0 && seen.with_up == 0,
+                5 | 6 => often == [0, 0, 0] && seen.with_default == 0 && seen.with_up == 0,
                 _ => often[0] > LEAST_SEEN && often[1] > 0 && often[2] > LEAST_SEEN,
             };
             assert!(are_right, "level {level}: {seen:?}");
@@ -281,12 +287,13 @@ fn older_walks_as_newest() {
 /// A row for each older level.
 fn levels_table(levels: &[Levels]) -> String {
     let titles = [
-        "lists", "removed", "looks", "selected", "default", "differ", "up", "differ",
+        "lists", "power", "removed", "looks", "selected", "default", "differ", "up", "differ",
     ];
     let mut table = row("older", &titles);
     for (level, seen) in levels.iter().enumerate() {
         let cells = [
             seen.lists,
+            seen.with_power,
             seen.with_removed,
             seen.looks,
             seen.selections,

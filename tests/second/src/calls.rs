@@ -173,7 +173,7 @@ pub fn sample(random: &mut Random) -> Sample {
         serve(random, &mut sample.card);
     }
     mark(random, &mut sample.card);
-    sample.arguments.level = random.pick(&[0, 1, 2, 3, 4, 5, 6, 6, 6, 6, 6, 6]);
+    sample.arguments.level = random.pick(&[0, 1, 2, 3, 4, 5, 6, 7, 7, 7, 7, 7, 7]);
     sample
 }
 
@@ -238,7 +238,7 @@ mod tests {
     #[test]
     fn every_refusal() {
         let mut random = Random::new(1);
-        let (mut loads, mut looks) = ([0; 31], [0; 31]);
+        let (mut loads, mut looks) = ([0; 32], [0; 32]);
         for _ in 0..10_000 {
             let sample = sample(&mut random);
             let image = sample.card.image();
@@ -253,8 +253,8 @@ mod tests {
                 }
             }
         }
-        let met = |often: [usize; 31]| (0..31).filter(move |&number| often[number] > 10);
-        let numbers = (2..=11).chain(13..=18).chain([21, 29, 30]);
+        let met = |often: [usize; 32]| (0..32).filter(move |&number| often[number] > 10);
+        let numbers = (2..=11).chain(13..=18).chain([21, 29, 30, 31]);
         assert!(met(loads).eq([0].into_iter().chain(numbers)));
         assert!(met(looks).eq([0, 19, 20, 22]));
         assert!(looks[0] > 50_000, "{looks:?}");

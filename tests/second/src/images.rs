@@ -11,7 +11,7 @@ use crate::magic::{LAST_RESERVED, RESERVED};
 use crate::random::Random;
 use crate::reader::{
     ADDRESS_OFFSET, Arguments, CHIPS, CONTROLLERS_OFFSET, COUNT_OFFSET, NEWEST_LEVEL,
-    VERSION_OFFSET, connections, controller_offset, first_leaf, header_size, leaf,
+    VERSION_OFFSET, connections, controller_offset, first_leaf, header_size, leaf, read_all,
 };
 use block::Deck;
 
@@ -22,8 +22,8 @@ pub type Image = [u8; IMAGE_LENGTH];
 
 /// The refusals that one damaged field of an image or of its arguments can cause, in the reader's
 /// order: all but those for the image's length and for the arrays.
-pub const DAMAGES: [u8; 18] = [
-    2, 3, 4, 29, 30, 5, 6, 7, 8, 9, 10, 11, 13, 14, 15, 16, 17, 18,
+pub const DAMAGES: [u8; 19] = [
+    2, 3, 4, 29, 30, 5, 6, 7, 8, 9, 10, 11, 13, 14, 15, 16, 17, 18, 31,
 ];
 
 /// What the header says of one controller.
@@ -212,7 +212,7 @@ impl Card {
     /// A card whose header is right and whose leaf holds any bytes, with the starts of blocks among
     /// them.
     pub fn wild(random: &mut Random, chip: u16, layout: Layout) -> Self {
-        const STARTS: [&[u8]; 12] = [
+        const STARTS: [&[u8]; 15] = [
             &[0x80],
             &[0x85, 0x00],
             &[0x8C, 0x01, 0x00, 0x00, 0x00],
@@ -225,6 +225,9 @@ impl Card {
             &[0x82, 0x05, 0x00],
             &[0x84, 0x05, 0x01],
             &[0x81, 0x06],
+            &[0x83, 0x06, 0x01, 0x00],
+            &[0x85, 0x06, 0x03, 0x01],
+            &[0x81, 0x07],
         ];
         let controllers = 1 + random.below(4);
         let first = first_leaf(controllers);
@@ -315,6 +318,17 @@ impl Sample {
         }
     }
 
+    /// A card of any layout with a power block that the newest reader accepts, and such a reader.
+    pub fn powered(random: &mut Random) -> Self {
+        loop {
+            let sample = Self::valid(random);
+            let (answer, _) = read_all(&sample.card.image(), sample.arguments);
+            if answer.power > 0 {
+                return sample;
+            }
+        }
+    }
+
     /// A card whose leaf holds any bytes, and the newest reader of it.
     pub fn wild(random: &mut Random) -> Self {
         let (chip, layout) = (random.pick(&CHIPS), random.pick(&LAYOUTS));
@@ -338,7 +352,7 @@ impl Sample {
         loop {
             let mut sample = Self::valid(random);
             if random.one_in(3) {
-                sample.arguments.level = random.below(7) as u8;
+                sample.arguments.level = level(random);
             }
             if sample.damage(random, number) {
                 return sample;
@@ -397,6 +411,11 @@ pub(crate) fn connection(random: &mut Random, chip: u16) -> u16 {
     random.pick(&connections(chip).collect::<Vec<_>>())
 }
 
+/// A level that there is.
+fn level(random: &mut Random) -> u8 {
+    random.below(usize::from(NEWEST_LEVEL) + 1) as u8
+}
+
 /// A base address that so many controllers can count on from, once in a while the highest.
 pub(crate) fn address(random: &mut Random, controllers: usize) -> u64 {
     let highest = (1 << 48) - controllers as u64;
@@ -409,7 +428,7 @@ pub(crate) fn address(random: &mut Random, controllers: usize) -> u64 {
 #[cfg(test)]
 mod tests {
     use super::*;
-    use crate::reader::{Answer, MEDIA_21041, MOST_BLOCKS, NO_DEFAULT, read, read_all};
+    use crate::reader::{Answer, MEDIA_21041, MOST_BLOCKS, NO_DEFAULT, read};
 
     fn answer(sample: &Sample) -> Answer {
         read_all(&sample.card.image(), sample.arguments).0
@@ -421,8 +440,8 @@ mod tests {
     #[test]
     fn valid_cards_are_accepted() {
         let mut random = Random::new(1);
-        let mut met = [[0; 5]; 2];
-        for _ in 0..10_000 {
+        let mut met = [[0; 7]; 2];
+        for _ in 0..12_000 {
             let mut sample = Sample::valid(&mut random);
             let newest = answer(&sample);
             assert_eq!(newest.number, 0, "{sample:02x?}");
@@ -433,6 +452,8 @@ mod tests {
                 usize::from(newest.default_number != NO_DEFAULT),
                 newest.resets.into(),
                 newest.skipped.into(),
+                newest.power.into(),
+                usize::from(newest.power > 1),
                 sample.card.leaves.iter().any(ends_last).into(),
             ];
             for (met, often) in met[usize::from(layout.magic)].iter_mut().zip(often) {
@@ -440,7 +461,7 @@ mod tests {
             }
             for controller in 0..sample.card.count {
                 sample.arguments.controller = controller;
-                sample.arguments.level = random.below(7) as u8;
+                sample.arguments.level = level(&mut random);
                 assert_eq!(answer(&sample).number, 0, "{sample:02x?}");
             }
         }
@@ -449,6 +470,8 @@ mod tests {
             "defaults",
             "resets",
             "unknown types",
+            "power blocks",
+            "leaves with two power blocks",
             "last places",
         ];
         for (layout, often) in LAYOUTS.into_iter().zip(met) {

@@ -1,6 +1,6 @@
 //! Reading an image: the header, the blocks of one leaf, the table and the block view (document 01,
 //! from "The image" to "Levels and the table"; document 02, request 1, for the layout with a Magic
-//! Packet block).
+//! Packet block, and request 3, for the power blocks).
 
 pub mod fast;
 
@@ -12,8 +12,8 @@ use std::fmt;
 /// The chips that a leaf can be for.
 pub const CHIPS: [u16; 5] = [21041, 21140, 21142, 21143, 21145];
 
-/// The level that knows all six extended types.
-pub const NEWEST_LEVEL: u8 = 6;
+/// The level that knows all seven extended types.
+pub const NEWEST_LEVEL: u8 = 7;
 
 /// The default number where no block is the default.
 pub const NO_DEFAULT: u8 = 255;
@@ -26,6 +26,9 @@ pub const MEDIA_21041: u16 = 257;
 
 /// The extended type of a reset sequence for the whole card.
 pub const RESET: u16 = 5;
+
+/// The extended type of a sequence for power states, which shuts the PHY down.
+pub const POWER: u16 = 6;
 
 /// The most blocks that an accepted leaf can hold: one byte each, from the first place to the last.
 pub const MOST_BLOCKS: usize = 91;
@@ -124,12 +127,13 @@ pub struct Answer {
     pub listed: u8,
     pub resets: u8,
     pub skipped: u8,
+    pub power: u8,
     pub default_number: u8,
 }
 
 impl Answer {
     /// The values of all fields, in their order.
-    pub fn values(&self) -> [u64; 9] {
+    pub fn values(&self) -> [u64; 10] {
         [
             self.number.into(),
             self.connection.into(),
@@ -139,6 +143,7 @@ impl Answer {
             self.listed.into(),
             self.resets.into(),
             self.skipped.into(),
+            self.power.into(),
             self.default_number.into(),
         ]
     }
@@ -183,6 +188,7 @@ pub(crate) enum Refusal {
     NotTidy = 27,
     MagicCrc = 29,
     MagicReserved = 30,
+    RepeatedMode = 31,
 }
 
 impl Refusal {
@@ -214,12 +220,14 @@ pub(crate) struct Block {
     pub is_default: bool,
     pub is_active_invalid: bool,
     pub resets_phy: bool,
+    /// The mode byte of a known power block, and 0 in all others.
+    pub mode: u8,
 }
 
 impl Block {
-    /// Whether the table lists the block: all that are known, but no type 5.
+    /// Whether the table lists the block: all that are known, but no type 5 and no power block.
     pub fn is_listed(&self) -> bool {
-        self.kind.is_some_and(|kind| kind != RESET)
+        self.kind.is_some_and(|kind| !matches!(kind, RESET | POWER))
     }
 }
 
@@ -235,6 +243,9 @@ enum Fields {
         advertisement: u16,
     },
     Reset,
+    Power {
+        mode: u8,
+    },
 }
 
 /// Reads the leaf of one controller and lists its known blocks, the last first: kinds and byte
@@ -261,6 +272,7 @@ pub fn read(image: &[u8], arguments: Arguments, kinds: &mut [u16], offsets: &mut
         listed: table.len() as u8,
         resets: count(|block| block.kind == Some(RESET)),
         skipped: count(|block| block.kind.is_none()),
+        power: count(|block| block.kind == Some(POWER)),
         default_number: default.map_or(NO_DEFAULT, |number| number as u8),
     }
 }
@@ -311,7 +323,7 @@ pub fn permitted_kinds(chip: u16) -> &'static [u16] {
         21041 => &[MEDIA_21041],
         21140 => &[COMPACT, 0, 1, 5],
         21142 => &[2, 3, 5],
-        _ => &[2, 3, 4, 5],
+        _ => &[2, 3, 4, 5, 6],
     }
 }
 
@@ -349,6 +361,7 @@ pub(crate) fn leaf(
         start += block.size;
     }
     refuse_if(conflict(&blocks), Refusal::Conflict)?;
+    refuse_if(repeats_mode(&blocks), Refusal::RepeatedMode)?;
     Ok((header, blocks))
 }
 
@@ -424,6 +437,7 @@ fn block(image: &[u8], start: usize, arguments: Arguments) -> Result<Block, Refu
         is_default: false,
         is_active_invalid: false,
         resets_phy: false,
+        mode: 0,
     };
     if !is_known(kind, level) {
         block.kind = None;
@@ -455,6 +469,7 @@ fn block(image: &[u8], start: usize, arguments: Arguments) -> Result<Block, Refu
             block.resets_phy = reset_length > 0;
         }
         Fields::Reset => {}
+        Fields::Power { mode } => block.mode = mode,
     }
     Ok(block)
 }
@@ -500,9 +515,13 @@ fn fields(block: &[u8], kind: u16) -> Option<Fields> {
         }
         3 => phy(block, 2, 9),
         4 => (length == 8).then(|| medium_with_command(block[2], word(block, 7))),
-        _ => {
+        RESET => {
             let words = usize::from(*block.get(2)?);
             (length == 2 * words + 2).then_some(Fields::Reset)
+        }
+        _ => {
+            let words = usize::from(*block.get(3)?);
+            (length == 2 * words + 3).then(|| Fields::Power { mode: block[2] })
         }
     }
 }
@@ -566,6 +585,12 @@ fn conflict(blocks: &[Block]) -> bool {
     let defaults = blocks.iter().filter(|block| block.is_default).count();
     let resets_phy = blocks.iter().any(|block| block.resets_phy);
     resets > 1 || resets == 1 && resets_phy || defaults > 1
+}
+
+/// Cause 31: a bit of the mode byte is set in two known power blocks.
+fn repeats_mode(blocks: &[Block]) -> bool {
+    let is_repeated = |bit: u8| blocks.iter().filter(|it| it.mode >> bit & 1 == 1).count() > 1;
+    (0..8).any(is_repeated)
 }
 
 /// The blocks that the table lists, in its order.

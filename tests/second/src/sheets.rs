@@ -11,7 +11,7 @@ use crate::reader::{CHIPS, COMPACT, header_size};
 
 /// The refusals that one damaged field of a sheet can cause, in the writer's order: all but the one
 /// for the image's length.
-pub const SHEET_DAMAGES: [u8; 11] = [24, 7, 25, 26, 2, 11, 14, 15, 16, 17, 18];
+pub const SHEET_DAMAGES: [u8; 12] = [24, 7, 25, 26, 2, 11, 14, 15, 16, 17, 18, 31];
 
 /// All that a sheet says. The counts, sizes and sums are laid as the blocks have them.
 #[derive(Debug, Clone)]
@@ -134,7 +134,7 @@ impl Sheet {
                 1 => random.below(300) as u16,
                 2 => random.below(10) as u16,
                 _ if chip == 21041 => 257,
-                _ => random.pick(&[256, 0, 1, 2, 3, 4, 5, 6, 200]),
+                _ => random.pick(&[256, 0, 1, 2, 3, 4, 5, 6, 7, 200]),
             };
             let size = match kind {
                 257 => random.pick(&[1, 1, 1, 7]),

@@ -69,10 +69,39 @@ pub fn bytes(list: &str) -> Vec<u8> {
     bytes
 }
 
-/// A list, with each of these names in it replaced by what the text defines under it.
+/// A list, with each of these names in it, and the arguments behind it, replaced by what the text defines under it in one
+/// line.
 pub fn opened(list: &str, text: &str, names: &[&str]) -> String {
     names.iter().fold(list.to_string(), |list, name| {
-        let (_, behind) = text.split_once(&format!("\n{name} = ")).unwrap();
-        list.replace(name, behind.split_once('\n').unwrap().0)
+        let (parameters, body) = definition(text, name);
+        let list = list.replace('(', " ( ").replace(')', " ) ");
+        let mut words = list.split_whitespace();
+        let mut opened = Vec::new();
+        while let Some(word) = words.next() {
+            if word != *name {
+                opened.push(word);
+                continue;
+            }
+            let given: Vec<_> = words.by_ref().take(parameters.len()).collect();
+            let place = |word: &str| parameters.iter().position(|it| *it == word);
+            opened.extend(
+                body.split(' ')
+                    .map(|it| place(it).map_or(it, |at| given[at])),
+            );
+        }
+        opened.join(" ")
     })
+}
+
+/// The parameters of a name that the text defines in one line, and what stands behind them.
+fn definition<'a>(text: &'a str, name: &str) -> (Vec<&'a str>, &'a str) {
+    let of_line = |line: &'a str| {
+        let (head, body) = line.split_once(" = ")?;
+        let mut words = head.split(' ');
+        (words.next() == Some(name)).then(|| (words.collect(), body))
+    };
+    let mut found = text.lines().filter_map(of_line);
+    found
+        .next()
+        .unwrap_or_else(|| panic!("{name} is not defined"))
 }

@@ -1,11 +1,11 @@
 //! What crates/worked, crates/magic and crates/leaf compute with is the second implementation's: each
 //! sheet of specs/Sheets.antt is written to its image, and made of it again; each Magic Packet block
-//! of specs/Cases.antt is read as it says, boards before one are refused as they say, and the blocks
-//! of leaves start where they say.
+//! of specs/Cases.antt is read as it says, boards before one are refused as they say, the blocks of
+//! leaves start where they say, and leaves with power blocks are read as they say.
 
 use second::cases::cases;
-use second::crc::{IMAGE_LENGTH, lay_srom_crc};
-use second::images::Card;
+use second::crc::{IMAGE_LENGTH, lay_crcs, lay_srom_crc};
+use second::images::{Card, TIDY_LEAF};
 use second::layout::{Layout, MAGIC_OFFSET};
 use second::magic::read_magic;
 use second::reader::{Arguments, read_all, starts};
@@ -14,6 +14,15 @@ use second::specification::{self, bytes, number, opened, text};
 
 /// The names of crates/magic/specs/Cases.antt that lists use, each before those that it is made of.
 const BLOCKS: [&str; 4] = ["wholeBlock", "otherCrc", "strayLast", "fields"];
+
+/// The same of crates/leaf/specs/Cases.antt.
+const LEAVES: [&str; 5] = [
+    "leafModes",
+    "leafClashes",
+    "leafBetween",
+    "symDefault",
+    "dots",
+];
 
 /// The bytes of a list that may name blocks.
 fn block(list: &str) -> Vec<u8> {
@@ -123,5 +132,42 @@ fn blocks_start_where_second_finds_them() {
             .iter()
             .map(|&start| usize::from(start));
         assert_eq!(found, named.collect::<Vec<_>>(), "{words:?}");
+    }
+}
+
+#[test]
+fn leaves_with_power_blocks_are_read_as_second_reads_them() {
+    let text = text("leaf/specs/Cases.antt");
+    let cases = specification::cases(&text, "powerCases");
+    assert!(cases.len() >= 15, "only {} leaves", cases.len());
+    for (made_by, words) in cases {
+        let (chip, level) = (number(words[0]) as u16, number(words[1]) as u8);
+        let leaf = bytes(&opened(words[2], &text, &LEAVES));
+        let mut image = Card::tidy(chip, 0x0800, vec![]).image();
+        image[TIDY_LEAF..][..leaf.len()].copy_from_slice(&leaf);
+        lay_crcs(&mut image, Layout::PLAIN);
+        let (answer, entries) = read_all(&image, Arguments::at_level(chip, level));
+        let found = match answer.number {
+            0 => {
+                let counts = [answer.listed, answer.resets, answer.skipped, answer.power];
+                let list = |of: fn(&(u16, u16)) -> u16| {
+                    let elements = entries.iter().map(|entry| format!("{} ∷ ", of(entry)));
+                    elements.collect::<String>() + "[]"
+                };
+                let tables = [list(|entry| entry.0), list(|entry| entry.1)];
+                [
+                    counts.map(|count| count.to_string()).to_vec(),
+                    tables.to_vec(),
+                ]
+                .concat()
+            }
+            number => vec![number.to_string()],
+        };
+        let mut expected = words[3..].to_vec();
+        if made_by == "accepted" {
+            // It has no power block, and says nothing of them.
+            expected.insert(3, "0");
+        }
+        assert_eq!(found, expected, "{made_by} {words:?}");
     }
 }

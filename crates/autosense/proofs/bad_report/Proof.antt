@@ -4,8 +4,8 @@ use native.Mathlib.Omega.{arith}
 use mathlib.Core.Path.{_≡_, refl, ap, sym, _∙_}
 use lib.Dec.{ltb}
 use borrow.Author.Tests.{lt-ltb, le-ltb}
-use Rattle.rom.specs.Bytes.{byteAt}
-use Rattle.walk.specs.Walk.{badReport, anyBelow}
+use Rattle.rom.specs.Bytes.{byteAt, anyBelow}
+use Rattle.walk.specs.Walk.{badReport}
 use Rattle.walk.proofs.Below.{any-step}
 use Rattle.autosense.proofs.bad_report.Statement.{statement}
 use Rattle.autosense.proofs.bad_report.Tie as tie

@@ -4,7 +4,7 @@ use mathlib.Core.Path.{_≡_}
 use lib.Dec.{lit≤}
 use borrow.Author.Needs.{needs}
 use Rattle.rom.specs.Bytes.{pick}
-use Rattle.format.specs.Block.{factsOf}
+use Rattle.format.specs.Block.{factsOf, sequence}
 use Rattle.block.specs.Inside.{judgedAs}
 use Rattle.block.specs.Answer.{found}
 use Rattle.block.proofs.Phy.{type-1, type-3}
@@ -29,6 +29,9 @@ judge-type-4-requires c κs = search needs
 judge-type-5-requires : tie.Need-judge-type-5-requires
 judge-type-5-requires c κs = search needs
 
+judge-type-6-requires : tie.Need-judge-type-6-requires
+judge-type-6-requires c κs = search needs
+
 returns : tie.Need-returns
 unfolding judgedAs factsOf found pick
 returns c = rw (c .before .match .keys1) (c .judge-type-0 .ensures)
@@ -51,7 +54,11 @@ returns-5 c = rw (c .before .match .keys5) (c .judge-type-4 .ensures)
 
 returns-6 : tie.Need-returns-6
 unfolding judgedAs factsOf found pick
-returns-6 c = let e : c .before .before .before .args .kind ≡ 5 = omega arith in rw e (c .judge-type-5 .ensures)
+returns-6 c = rw (c .before .match .keys6) (c .judge-type-5 .ensures)
+
+returns-7 : tie.Need-returns-7
+unfolding judgedAs factsOf found pick sequence
+returns-7 c = let e : c .before .before .before .args .kind ≡ 6 = omega arith in rw e (c .judge-type-6 .ensures)
 
 pub judge-type-spec : {M : Type 1} → statement M
 judge-type-spec =
@@ -63,9 +70,11 @@ judge-type-spec =
     judge-phy-requires-2
     judge-type-4-requires
     judge-type-5-requires
+    judge-type-6-requires
     returns
     returns-2
     returns-3
     returns-4
     returns-5
-    returns-6)
+    returns-6
+    returns-7)

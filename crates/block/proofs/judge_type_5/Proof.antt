@@ -2,7 +2,7 @@
 use mathlib.Core.Path.{refl}
 use borrow.Author.Needs.{needs}
 use Rattle.rom.specs.Bytes.{pick}
-use Rattle.format.specs.Block.{reset, lengthFor}
+use Rattle.format.specs.Block.{sequence, lengthFor}
 use Rattle.block.proofs.Judged.{wrong-length, fine, is-wrong, is-right}
 use Rattle.block.proofs.judge_type_5.Statement.{statement}
 use Rattle.block.proofs.judge_type_5.Tie as tie
@@ -17,14 +17,14 @@ add-if1 : tie.Need-add-if1
 add-if1 c = search needs
 
 returns : tie.Need-returns
-unfolding reset lengthFor pick
+unfolding sequence lengthFor pick
 returns c = wrong-length _ _ (is-wrong 5 _ (c .before .before .before .pre .0) (rw (c .before .count-at .ensures .0) at (c .if1 .taken)))
 
 add-t4 : tie.Need-add-t4
 add-t4 c = search needs
 
 returns-2 : tie.Need-returns-2
-unfolding reset lengthFor pick
+unfolding sequence lengthFor pick
 returns-2 c = fine _ _ (is-right 5 _ (c .before .before .before .pre .0) (rw (c .before .count-at .ensures .0) at (c .if1 .left))) refl refl
 
 pub judge-type-5-spec : {M : Type 1} → statement M

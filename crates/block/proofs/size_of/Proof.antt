@@ -12,6 +12,9 @@ enum-known-block-2 c = search needs
 enum-known-block-3 : tie.Need-enum-known-block-3
 enum-known-block-3 c = search needs
 
+enum-known-block-4 : tie.Need-enum-known-block-4
+enum-known-block-4 c = search needs
+
 enum-told : tie.Need-enum-told
 enum-told c = search needs
 
@@ -27,6 +30,9 @@ returns-3 c = search needs
 returns-4 : tie.Need-returns-4
 returns-4 c = search needs
 
+returns-5 : tie.Need-returns-5
+returns-5 c = search needs
+
 pub size-of-spec : {M : Type 1} → statement M
 size-of-spec =
     tie.close
@@ -34,8 +40,10 @@ size-of-spec =
     enum-known-block
     enum-known-block-2
     enum-known-block-3
+    enum-known-block-4
     enum-told
     returns
     returns-2
     returns-3
-    returns-4)
+    returns-4
+    returns-5)

@@ -38,6 +38,12 @@ enum-told-2 c = search needs
 add-next-5 : tie.Need-add-next-5
 add-next-5 c = search needs
 
+enum-told-3 : tie.Need-enum-told-3
+enum-told-3 c = search needs
+
+add-next-6 : tie.Need-add-next-6
+add-next-6 c = search needs
+
 enum-known-b-2 : tie.Need-enum-known-b-2
 enum-known-b-2 c = search needs
 
@@ -60,7 +66,10 @@ returns-3 : tie.Need-returns-3
 returns-3 c = rw (c .before .enum-told2 .given .1)
 
 returns-4 : tie.Need-returns-4
-returns-4 c = c .refused-tally .ensures ∙ rw (c .before .before .b2 .given .1)
+returns-4 c = rw (c .before .enum-told3 .given .1)
+
+returns-5 : tie.Need-returns-5
+returns-5 c = c .refused-tally .ensures ∙ rw (c .before .before .b2 .given .1)
 
 pub counted-spec : {M : Type 1} → statement M
 counted-spec =
@@ -77,9 +86,12 @@ counted-spec =
     add-next-4
     enum-told-2
     add-next-5
+    enum-told-3
+    add-next-6
     enum-known-b-2
     refused-tally-requires
     returns
     returns-2
     returns-3
-    returns-4)
+    returns-4
+    returns-5)

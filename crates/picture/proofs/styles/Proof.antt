@@ -8,7 +8,7 @@ abbrev Inv-loop : tie.InvT-loop
 Inv-loop file field₀ t5 t6 field = Unit
 
 abbrev μ-loop : tie.MeasureT-loop
-μ-loop file field₀ t5 t6 field = 20 - field
+μ-loop file field₀ t5 t6 field = 21 - field
 
 slice-aggregate-write-all : tie.Need-slice-aggregate-write-all Inv-loop μ-loop
 slice-aggregate-write-all c = search needs

@@ -1,14 +1,17 @@
 -- What is left falls at each turn. Assumes nothing.
-use borrow.Author.Needs.{needs}
 use Prim.Native.Nat.{_-_}
+use borrow.Author.Needs.{needs}
 use Rattle.report.proofs.show_clashes.Statement.{statement}
 use Rattle.report.proofs.show_clashes.Tie as tie
 
 abbrev Inv-loop : tie.InvT-loop
-Inv-loop image arguments blocks k₀ k = Unit
+Inv-loop image arguments number blocks repeated k₀ k = Unit
 
 abbrev μ-loop : tie.MeasureT-loop
-μ-loop image arguments blocks k₀ k = blocks - k
+μ-loop image arguments number blocks repeated k₀ k = blocks - k
+
+repeated-modes-requires : tie.Need-repeated-modes-requires Inv-loop μ-loop
+repeated-modes-requires c κs = search needs
 
 loop-holds : tie.Need-loop-holds Inv-loop μ-loop
 loop-holds c = search needs
@@ -31,6 +34,12 @@ block-at-requires c κs = search needs
 show-clashing-requires : tie.Need-show-clashing-requires Inv-loop μ-loop
 show-clashing-requires c κs = search needs
 
+mode-of-requires : tie.Need-mode-of-requires Inv-loop μ-loop
+mode-of-requires c κs = search needs
+
+show-shared-requires : tie.Need-show-shared-requires Inv-loop μ-loop
+show-shared-requires c κs = search needs
+
 add-k : tie.Need-add-k Inv-loop μ-loop
 add-k c = search needs
 
@@ -49,6 +58,7 @@ show-clashes-spec =
     (tie.spec
     Inv-loop
     μ-loop
+    repeated-modes-requires
     loop-holds
     block-place-requires
     new-requires
@@ -56,6 +66,8 @@ show-clashes-spec =
     place-words-requires
     block-at-requires
     show-clashing-requires
+    mode-of-requires
+    show-shared-requires
     add-k
     loop-less
     loop-again

@@ -7,7 +7,7 @@ use std::thread;
 const LEAST_OFTEN: usize = 1_000;
 
 /// How often a call answered each number, up to the highest.
-pub type Numbers = [usize; 31];
+pub type Numbers = [usize; 32];
 
 /// A family's name, and what compares its inputs and counts them.
 pub type Family<T> = (&'static str, fn() -> T);

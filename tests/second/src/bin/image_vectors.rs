@@ -17,7 +17,8 @@ const ARGUMENTS_LENGTH: usize = 5;
 const RECORD_LENGTH: usize = ARGUMENTS_LENGTH + IMAGE_LENGTH;
 const SHORT_LENGTH: usize = 57;
 const DAMAGED_COUNT: usize = 10;
-const VALID_COUNT: usize = 160;
+const POWERED_COUNT: usize = 16;
+const VALID_COUNT: usize = 150;
 
 fn main() -> io::Result<()> {
     let arguments: Vec<_> = env::args_os().skip(1).collect();
@@ -31,8 +32,8 @@ fn main() -> io::Result<()> {
     fs::write(output, lines)
 }
 
-/// The cases of document 01, the longest leaf, each field damaged, valid cards for readers of all
-/// levels, leaves of random bytes, and a record that is cut short.
+/// The cases of document 01, the longest leaf, each field damaged, valid cards with power blocks,
+/// valid cards for readers of all levels, leaves of random bytes, and a record that is cut short.
 fn records() -> Vec<u8> {
     let mut random = Random::new(1);
     let mut records = Vec::new();
@@ -50,9 +51,13 @@ fn records() -> Vec<u8> {
             records.push(record(sample.arguments, &sample.card.image()));
         }
     }
+    for _ in 0..POWERED_COUNT {
+        let sample = Sample::powered(&mut random);
+        records.push(record(sample.arguments, &sample.card.image()));
+    }
     for _ in 0..VALID_COUNT {
         let mut sample = Sample::valid(&mut random);
-        sample.arguments.level = random.pick(&[0, 1, 2, 3, 4, 5, 6, 6, 6, 6]);
+        sample.arguments.level = random.pick(&[0, 1, 2, 3, 4, 5, 6, 7, 7, 7, 7]);
         records.push(record(sample.arguments, &sample.card.image()));
     }
     while records.len() < RECORD_COUNT {
@@ -103,15 +108,16 @@ fn line(record: &[u8]) -> String {
 #[cfg(test)]
 mod tests {
     use super::*;
+    use second::images::{Card, block};
 
-    /// "Why a call is refused": the records meet 1 to 18, but for 12, 29, 30 and acceptance in both
+    /// "Why a call is refused": the records meet 1 to 18, but for 12, 29 to 31 and acceptance in both
     /// layouts.
     #[test]
     fn every_refusal() {
         let bytes = records();
         assert_eq!(bytes.len(), RECORD_COUNT * RECORD_LENGTH + SHORT_LENGTH);
         let lines: Vec<_> = bytes.chunks(RECORD_LENGTH).map(line).collect();
-        for number in (1..=18).filter(|&number| number != 12).chain([29, 30]) {
+        for number in (1..=18).filter(|&number| number != 12).chain(29..=31) {
             assert!(lines.contains(&format!("refused {number}\n")), "{number}");
         }
         for magic in [0, 1] {
@@ -130,8 +136,47 @@ mod tests {
         let case = &cases()[1];
         assert_eq!(
             line(&record(case.arguments, &case.image)),
-            "accepted 0800 00 08002b000000 3 2 0 1 255 \
+            "accepted 0800 00 08002b000000 3 2 0 1 0 255 \
              2@42:86020101000200 2@33:86020001000200\n"
         );
+    }
+
+    /// "They are counted as power ..., not listed": a block of each kind that the chip has, in the form
+    /// of a line. The records meet one power block and more, in both layouts.
+    #[test]
+    fn lines_of_power_blocks() {
+        let blocks = vec![
+            block::power(0x01, &[]),
+            block::symbol(3, 0, 0, 0x4000),
+            block::extended(9, &[]),
+            block::power(0x0E, &[0x0821]),
+            block::reset(&[]),
+            block::power(0xF0, &[]),
+        ];
+        let image = Card::tidy(21143, 0x0800, blocks).image();
+        let line_at = |level| line(&record(Arguments::at_level(21143, level), &image));
+        let table = "4@37:880403000000000040";
+        assert_eq!(
+            line_at(7),
+            format!("accepted 0800 00 08002b000000 6 1 1 1 3 1 {table}\n")
+        );
+        assert_eq!(
+            line_at(6),
+            format!("accepted 0800 00 08002b000000 6 1 1 4 0 1 {table}\n")
+        );
+        let bytes = records();
+        for magic in [0, 1] {
+            let of_layout = bytes
+                .chunks(RECORD_LENGTH)
+                .filter(|record| record[4] == magic);
+            let lines: Vec<_> = of_layout.map(line).collect();
+            let power = |line: &String| {
+                let words: Vec<_> = line.split_whitespace().collect();
+                words.get(8).map_or(0, |word| word.parse().unwrap())
+            };
+            let often = |least: u8| lines.iter().filter(|line| power(line) >= least).count();
+            assert!(often(1) > POWERED_COUNT / 3, "{magic}: {}", often(1));
+            assert!(often(2) > 1, "{magic}: {}", often(2));
+        }
     }
 }

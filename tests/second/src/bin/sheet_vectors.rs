@@ -129,6 +129,8 @@ fn hex(bytes: &[u8]) -> String {
 #[cfg(test)]
 mod tests {
     use super::*;
+    use second::reader::POWER;
+    use second::sheet::{COUNT, KINDS};
 
     /// "Writer: 24 ... then the newest reader's number": the records meet all that a sheet can
     /// cause, and what the output's block can.
@@ -141,6 +143,24 @@ mod tests {
             let met = lines.iter().filter(|line| **line == refused(number));
             assert!(met.count() >= DAMAGED_COUNT, "{number}");
         }
+    }
+
+    /// "newest means 7": some of the sheets that are written have power blocks, and some of them two.
+    #[test]
+    fn power_blocks() {
+        let records = records();
+        let written = records
+            .iter()
+            .filter(|record| !record.lines().starts_with("refused"));
+        let counts: Vec<_> = written
+            .map(|record| {
+                let count = usize::from(record.sheet[COUNT]);
+                let kinds = record.sheet[KINDS..][..2 * count].chunks(2);
+                kinds.filter(|kind| **kind == POWER.to_le_bytes()).count()
+            })
+            .collect();
+        let often = |least| counts.iter().filter(|&&count| count >= least).count();
+        assert!(often(1) >= 10 && often(2) >= 3, "{counts:?}");
     }
 
     /// "Writing a sheet and reading it returns that sheet": the second line is the record's sheet,

@@ -16,6 +16,7 @@ use std::{env, fs, io, process};
 
 const RECORD_COUNT: usize = 400;
 const DAMAGED_COUNT: usize = 3;
+const POWERED_COUNT: usize = 24;
 const MOST_CALLS: usize = 12;
 
 /// The longest report whose length fits a byte.
@@ -42,7 +43,7 @@ fn main() -> io::Result<()> {
 }
 
 /// Case k of document 01, lists on the cases before it and on the longest leaf, each field damaged,
-/// and valid cards at all levels, most of which looks serve.
+/// cards with power blocks, and valid cards at all levels, most of which looks serve.
 fn records() -> Vec<Record> {
     let mut random = Random::new(1);
     let mut records = case_k();
@@ -59,6 +60,11 @@ fn records() -> Vec<Record> {
         .into();
     for number in DAMAGES {
         samples.extend((0..DAMAGED_COUNT).map(|_| Sample::damaged(&mut random, number)));
+    }
+    for _ in 0..POWERED_COUNT {
+        let mut sample = Sample::powered(&mut random);
+        calls::serve(&mut random, &mut sample.card);
+        samples.push(sample);
     }
     while records.len() + samples.len() < RECORD_COUNT {
         samples.push(calls::sample(&mut random));
@@ -153,6 +159,7 @@ impl Record {
 #[cfg(test)]
 mod tests {
     use super::*;
+    use second::reader::read_all;
 
     /// "none, block 2, block 0, 2 switches; under 0x8800: none, 2, 2, 1 switch", in the form of
     /// lines.
@@ -196,9 +203,9 @@ mod tests {
             let start = format!("{number} ");
             lines.lines().any(|line| line.starts_with(&start))
         };
-        let numbers = (0..=30).filter(|&number| met(number));
+        let numbers = (0..=31).filter(|&number| met(number));
         let expected = (0..=22).filter(|number| ![1, 12].contains(number));
-        assert!(numbers.eq(expected.chain([29, 30])));
+        assert!(numbers.eq(expected.chain(29..=31)));
         for layout in LAYOUTS {
             let of_layout = records
                 .iter()
@@ -210,5 +217,18 @@ mod tests {
         }
         let many = lines.lines().filter(|line| line.starts_with("0 settled"));
         assert!(many.count() > 300);
+    }
+
+    /// "They are counted as power ..., not listed": some of the records that a walk settles on have
+    /// power blocks that its reader knows.
+    #[test]
+    fn power_blocks() {
+        let records = records();
+        let settled = records.iter().filter(|record| {
+            let (answer, _) = read_all(&record.image, record.arguments);
+            answer.power > 0 && record.lines().contains("0 settled")
+        });
+        let often = settled.count();
+        assert!(often > POWERED_COUNT / 3, "only {often} have power blocks");
     }
 }

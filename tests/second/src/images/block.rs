@@ -1,11 +1,13 @@
 //! Blocks for a leaf: one maker for each kind, and random blocks that may stand together.
 
 use crate::random::Random;
-use crate::reader::{ACTIVE_INVALID, COMMAND_RESERVED, COMPACT, DEFAULT, EXT, EXTENDED, RESET};
-use crate::reader::{MEDIA_21041, permitted_kinds};
+use crate::reader::{
+    ACTIVE_INVALID, COMMAND_RESERVED, COMPACT, DEFAULT, EXT, EXTENDED, MEDIA_21041, NEWEST_LEVEL,
+    POWER, RESET, permitted_kinds,
+};
 
 /// The first extended type that no level knows.
-pub const FIRST_UNKNOWN: u8 = 6;
+pub const FIRST_UNKNOWN: u8 = NEWEST_LEVEL;
 
 /// A 21041 block, with the values of three registers or without.
 pub fn media(code: u8, registers: Option<[u8; 6]>) -> Vec<u8> {
@@ -49,6 +51,12 @@ pub fn reset(sequence: &[u16]) -> Vec<u8> {
     extended(5, &body)
 }
 
+/// Type 6.
+pub fn power(mode: u8, sequence: &[u16]) -> Vec<u8> {
+    let body = [vec![mode, sequence.len() as u8], words(sequence)].concat();
+    extended(6, &body)
+}
+
 /// The fields of a PHY block. A word of a sequence is two bytes, so type 3 needs even lengths.
 #[derive(Debug, Clone, Default)]
 pub struct Phy {
@@ -87,16 +95,21 @@ pub fn phy_unit(kind: u16) -> usize {
     if kind == 3 { 2 } else { 1 }
 }
 
-/// A type that no level knows, mostly short.
+/// A block of a type that no level knows, mostly short.
 pub fn unknown(random: &mut Random) -> Vec<u8> {
-    let types = usize::from(u8::MAX - FIRST_UNKNOWN) + 1;
     let kind = match random.below(3) {
         0 => FIRST_UNKNOWN + random.below(4) as u8,
-        _ => FIRST_UNKNOWN + random.below(types) as u8,
+        _ => unknown_type(random),
     };
     let most = if random.one_in(8) { 126 } else { 10 };
     let length = random.below(most);
     extended(kind, &random.row(length))
+}
+
+/// A type that no level knows.
+fn unknown_type(random: &mut Random) -> u8 {
+    let types = usize::from(u8::MAX - FIRST_UNKNOWN) + 1;
+    FIRST_UNKNOWN + random.below(types) as u8
 }
 
 /// Blocks for the last places of a leaf, so many as are left, or none where no block is so small.
@@ -106,18 +119,20 @@ pub fn filling(random: &mut Random, chip: u16, left: usize) -> Vec<Vec<u8>> {
         (_, 0 | 1) => vec![],
         _ => {
             let body = random.row(left - 2);
-            vec![extended(FIRST_UNKNOWN + random.below(250) as u8, &body)]
+            vec![extended(unknown_type(random), &body)]
         }
     }
 }
 
 /// Draws blocks for one leaf: at most one default and one type 5, and either that or PHYs with
-/// reset sequences.
+/// reset sequences; and each bit of the mode byte in at most one power block.
 pub struct Deck {
     chip: u16,
     resets_phys: bool,
     has_reset: bool,
     has_default: bool,
+    /// The mode bits of the power blocks that were drawn.
+    modes: u8,
 }
 
 impl Deck {
@@ -127,13 +142,18 @@ impl Deck {
             resets_phys: random.one_in(2),
             has_reset: false,
             has_default: false,
+            modes: 0,
         }
     }
 
-    /// A block of a kind that the chip permits or of an unknown type.
+    /// A block of a kind that the chip permits or of an unknown type. A leaf that has a power block
+    /// often gets another.
     pub fn draw(&mut self, random: &mut Random) -> Vec<u8> {
         if self.chip != 21041 && random.one_in(4) {
             return unknown(random);
+        }
+        if self.modes != 0 && random.one_in(2) {
+            return self.power(random);
         }
         match random.pick(permitted_kinds(self.chip)) {
             MEDIA_21041 => media(random.pick(&[0, 1, 2, 4]), registers(random)),
@@ -158,10 +178,9 @@ impl Deck {
             RESET if self.resets_phys || self.has_reset => self.draw(random),
             RESET => {
                 self.has_reset = true;
-                let length = random.below(4);
-                let sequence: Vec<_> = (0..length).map(|_| random.word()).collect();
-                reset(&sequence)
+                reset(&sequence(random))
             }
+            POWER => self.power(random),
             kind => self.phy(random, kind),
         }
     }
@@ -177,6 +196,13 @@ impl Deck {
         }
         self.has_default |= counts;
         (code, command)
+    }
+
+    /// A power block whose mode has no bit that was drawn before, and once in a while none at all.
+    fn power(&mut self, random: &mut Random) -> Vec<u8> {
+        let mode = random.byte() & random.byte() & !self.modes;
+        self.modes |= mode;
+        power(mode, &sequence(random))
     }
 
     fn phy(&self, random: &mut Random, kind: u16) -> Vec<u8> {
@@ -202,6 +228,12 @@ impl Deck {
         };
         phy(kind as u8, &fields)
     }
+}
+
+/// A few words for the General Purpose Register.
+fn sequence(random: &mut Random) -> Vec<u16> {
+    let length = random.below(4);
+    (0..length).map(|_| random.word()).collect()
 }
 
 fn registers(random: &mut Random) -> Option<[u8; 6]> {

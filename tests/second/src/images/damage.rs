@@ -4,10 +4,13 @@ use super::block::{self, phy_unit};
 use super::{Card, Leaf, Sample};
 use crate::random::Random;
 use crate::reader::{
-    ACTIVE_INVALID, CHIPS, COMPACT, DEFAULT, EXT, EXTENDED, MEDIA_21041, NEWEST_LEVEL, RESET,
-    first_leaf, header_size, is_connection, permitted_kinds,
+    ACTIVE_INVALID, CHIPS, COMPACT, DEFAULT, EXT, EXTENDED, MEDIA_21041, NEWEST_LEVEL, POWER,
+    RESET, first_leaf, header_size, is_connection, permitted_kinds,
 };
 use std::ops::Range;
+
+/// Where a power block has its mode byte.
+const MODE_OFFSET: usize = 2;
 
 impl Sample {
     /// Damages one field so that the reading is refused with this number and for no earlier cause;
@@ -32,7 +35,7 @@ impl Sample {
             }
             6 => arguments.controller = between(random, controllers, 255) as u8,
             7 => arguments.chip = chip(random),
-            8 => arguments.level = between(random, 7, 255) as u8,
+            8 => arguments.level = between(random, usize::from(NEWEST_LEVEL) + 1, 255) as u8,
             9 => match arguments.controller {
                 0 => return false,
                 index => card.address = (1 << 48) - 1 - random.below(index.into()) as u64,
@@ -91,6 +94,7 @@ pub(crate) fn damage_leaf(
         }
         18 if random.one_in(2) => set_defaults(leaf, random, level)?,
         18 => add_reset(leaf, random, level, places.end)?,
+        31 => repeat_mode(leaf, random, level, places.end)?,
         _ => {
             let index = random.below(leaf.blocks.len());
             let places = places.end.checked_sub(leaf.start(index))?;
@@ -150,6 +154,7 @@ fn missize(block: &mut [u8], random: &mut Random, kind: u16, places: usize) -> O
         1 | 3 => block[reset_offset(block, kind)?] ^= flaw,
         2 => *block.get_mut(2)? ^= EXT,
         RESET => *block.get_mut(2)? ^= flaw,
+        POWER => *block.get_mut(3)? ^= flaw,
         _ => return None,
     }
     Some(())
@@ -234,6 +239,31 @@ fn add_reset(leaf: &mut Leaf, random: &mut Random, level: u8, limit: usize) -> O
     let index = random.below(leaf.blocks.len() + 1);
     leaf.blocks.insert(index, reset);
     leaf.count += 1;
+    Some(())
+}
+
+/// A bit of the mode byte in two power blocks, of which one or both are added where there are fewer.
+fn repeat_mode(leaf: &mut Leaf, random: &mut Random, level: u8, limit: usize) -> Option<()> {
+    let chip = leaf.chip;
+    let is_power = |block: &Vec<u8>| kind(block, chip) == POWER && block.len() > MODE_OFFSET;
+    let is_known = POWER < level.into() && permitted_kinds(chip).contains(&POWER);
+    let added = block::power(0, &[]);
+    let missing = 2_usize.saturating_sub(leaf.blocks.iter().filter(|it| is_power(it)).count());
+    if !is_known || leaf.end() + missing * added.len() > limit {
+        return None;
+    }
+    for _ in 0..missing {
+        let index = random.below(leaf.blocks.len() + 1);
+        leaf.blocks.insert(index, added.clone());
+        leaf.count += 1;
+    }
+    let blocks = leaf.blocks.iter_mut().filter(|it| is_power(it));
+    let mut modes: Vec<_> = blocks.map(|block| &mut block[MODE_OFFSET]).collect();
+    let (first, bit) = (random.below(modes.len()), 1 << random.below(8));
+    let other = (first + 1 + random.below(modes.len() - 1)) % modes.len();
+    for index in [first, other] {
+        *modes[index] |= bit;
+    }
     Some(())
 }
 

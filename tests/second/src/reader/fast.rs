@@ -1,14 +1,14 @@
 //! The same reading with the CRCs by table, in one pass over the leaf and without allocation.
 
 use super::{
-    Answer, Arguments, Block, MOST_BLOCKS, NO_DEFAULT, RESET, Refusal, block, first_block, header,
-    is_version, refuse_if, word,
+    Answer, Arguments, Block, MOST_BLOCKS, NO_DEFAULT, POWER, RESET, Refusal, block, first_block,
+    header, is_version, refuse_if, word,
 };
 use crate::crc::{ID_CRC_OFFSET, IMAGE_LENGTH, fast};
 use crate::layout::Layout;
 use crate::magic;
 
-/// Kind and start of each known block but resets, the first block first.
+/// Kind and start of each known block but resets and power blocks, the first block first.
 type Listed = [(u16, u16); MOST_BLOCKS];
 
 /// [`super::read`] in one pass.
@@ -86,15 +86,18 @@ pub(crate) fn each_block_unframed(
         listed: 0,
         resets: 0,
         skipped: 0,
+        power: 0,
         default_number: NO_DEFAULT,
     };
     let mut start = header.first_block;
     let (mut defaults, mut resets_phy) = (0, false);
+    let (mut modes, mut repeated) = (0, 0);
     for number in 0..header.count {
         let block = block(image, start, arguments)?;
         match block.kind {
             None => answer.skipped += 1,
             Some(RESET) => answer.resets += 1,
+            Some(POWER) => answer.power += 1,
             Some(_) => answer.listed += 1,
         }
         if block.is_default {
@@ -102,6 +105,8 @@ pub(crate) fn each_block_unframed(
             defaults += 1;
         }
         resets_phy |= block.resets_phy;
+        repeated |= modes & block.mode;
+        modes |= block.mode;
         take(number, &block);
         start += block.size;
     }
@@ -109,6 +114,7 @@ pub(crate) fn each_block_unframed(
         answer.resets > 1 || answer.resets == 1 && resets_phy || defaults > 1,
         Refusal::Conflict,
     )?;
+    refuse_if(repeated != 0, Refusal::RepeatedMode)?;
     Ok(answer)
 }
 

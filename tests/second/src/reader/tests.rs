@@ -56,7 +56,8 @@ fn document_cases() {
                 assert_eq!(answer.number, 0, "case {}", case.name);
                 assert_eq!(table, entries, "case {}", case.name);
                 assert_eq!(answer.skipped, skipped, "case {}", case.name);
-                assert_eq!(answer.resets, 0, "case {}", case.name);
+                let others = (answer.resets, answer.power);
+                assert_eq!(others, (0, 0), "case {}", case.name);
                 assert_eq!(answer.default_number, NO_DEFAULT, "case {}", case.name);
             }
             Expected::Refused(number) => {
@@ -83,6 +84,7 @@ fn refused(number: u8) -> Answer {
         listed: 0,
         resets: 0,
         skipped: 0,
+        power: 0,
         default_number: 0,
     }
 }
@@ -197,12 +199,12 @@ fn chips() {
     assert!(accepted.eq([21041, 21140, 21142, 21143, 21145]));
 }
 
-/// "8 level over 6", also where no extended type can stand.
+/// "8 level over 6", and since power blocks "Levels go to 7"; also where no extended type can stand.
 #[test]
 fn levels() {
     for chip in CHIPS {
         for level in 0..=255 {
-            let expected = if level <= 6 { 0 } else { 8 };
+            let expected = if level <= 7 { 0 } else { 8 };
             let answered = number(&tidy(chip, &[]), Arguments::at_level(chip, level));
             assert_eq!(answered, expected, "{chip} level {level}");
         }
@@ -517,8 +519,8 @@ fn extended_length_zero() {
     }
 }
 
-/// A right block of each kind: a 21041 block, a compact block and types 0 to 5.
-fn right_blocks() -> [(u16, Vec<u8>); 8] {
+/// A right block of each kind: a 21041 block, a compact block and types 0 to 6.
+fn right_blocks() -> [(u16, Vec<u8>); 9] {
     [
         (MEDIA_21041, block::media(0, None)),
         (COMPACT, block::compact(0, 0, 0)),
@@ -528,18 +530,33 @@ fn right_blocks() -> [(u16, Vec<u8>); 8] {
         (3, block::phy(3, &block::Phy::default())),
         (4, block::symbol(3, 0, 0, 0)),
         (5, block::reset(&[])),
+        (6, block::power(1, &[])),
     ]
 }
 
-/// "Permitted": each kind for each chip; "a compact or known type not permitted for the chip" is
-/// 14, and below its level a type is stepped over on every chip.
+/// Number, listed, resets, skipped and power of an answer.
+fn counts(answer: &Answer) -> [u8; 5] {
+    let Answer {
+        number,
+        listed,
+        resets,
+        skipped,
+        power,
+        ..
+    } = *answer;
+    [number, listed, resets, skipped, power]
+}
+
+/// "Permitted": each kind for each chip, and "type 6 is permitted on 21143 and 21145"; "a compact or
+/// known type not permitted for the chip" is 14, and below its level a type is stepped over on every
+/// chip.
 #[test]
 fn permitted_for_the_chip() {
     let permitted = [
-        (21140, [true, true, true, false, false, false, true]),
-        (21142, [false, false, false, true, true, false, true]),
-        (21143, [false, false, false, true, true, true, true]),
-        (21145, [false, false, false, true, true, true, true]),
+        (21140, [true, true, true, false, false, false, true, false]),
+        (21142, [false, false, false, true, true, false, true, false]),
+        (21143, [false, false, false, true, true, true, true, true]),
+        (21145, [false, false, false, true, true, true, true, true]),
     ];
     for (chip, row) in permitted {
         for ((kind, block), is_permitted) in right_blocks()[1..].iter().zip(row) {
@@ -547,13 +564,17 @@ fn permitted_for_the_chip() {
                 let is_known = *kind == COMPACT || *kind < level.into();
                 let answer = read_table(&tidy(chip, &[block]), Arguments::at_level(chip, level)).0;
                 let expected = match (is_known, is_permitted) {
-                    (false, _) => (0, 0, 0, 1),
-                    (true, false) => (14, 0, 0, 0),
-                    (true, true) if *kind == 5 => (0, 0, 1, 0),
-                    (true, true) => (0, 1, 0, 0),
+                    (false, _) => [0, 0, 0, 1, 0],
+                    (true, false) => [14, 0, 0, 0, 0],
+                    (true, true) if *kind == 5 => [0, 0, 1, 0, 0],
+                    (true, true) if *kind == 6 => [0, 0, 0, 0, 1],
+                    (true, true) => [0, 1, 0, 0, 0],
                 };
-                let counts = (answer.number, answer.listed, answer.resets, answer.skipped);
-                assert_eq!(counts, expected, "{chip}, level {level}, {block:02x?}");
+                assert_eq!(
+                    counts(&answer),
+                    expected,
+                    "{chip}, level {level}, {block:02x?}"
+                );
             }
         }
     }
@@ -573,10 +594,10 @@ fn level_zero() {
     assert_eq!(number(&image, Arguments::at_level(21140, 1)), 16);
 }
 
-/// "is stepped over by its length, unjudged": any type from 6 on, of any length.
+/// "is stepped over by its length, unjudged": any type from 7 on, of any length.
 #[test]
 fn unknown_types() {
-    for kind in 6..=255 {
+    for kind in 7..=255 {
         for length in 1..=80 {
             let unknown = block::extended(kind, &vec![kind; length - 1]);
             let last = block::sia(4, None, 0, 0);
@@ -598,6 +619,7 @@ fn lengths() {
         (21143, 3, 13),
         (21143, 4, 8),
         (21143, 5, 2),
+        (21143, 6, 3),
     ];
     for (chip, kind, right_length) in right {
         for length in 1..=80 {
@@ -681,6 +703,168 @@ fn sequences_past_the_end() {
         let expected = if r == 1 { 0 } else { 15 };
         assert_eq!(number_of(21143, &[&[0x84, 0x05, r, 0, 0]]), expected);
     }
+    // Type 6 without a mode, without g, and with one that reaches too far.
+    assert_eq!(number_of(21143, &[&[0x81, 0x06]]), 15);
+    assert_eq!(number_of(21143, &[&[0x82, 0x06, 0x01]]), 15);
+    for g in 0..=255 {
+        let expected = if g == 1 { 0 } else { 15 };
+        assert_eq!(number_of(21143, &[&[0x85, 0x06, 0x01, g, 0, 0]]), expected);
+    }
+}
+
+/// "length 2g+3; a mode byte, g, g words": with every g that a leaf has room for, in its own length
+/// only.
+#[test]
+fn power_sequences() {
+    for chip in [21143, 21145] {
+        for words in 0..=40 {
+            let right = block::power(0x01, &vec![0xFFFF; words]);
+            assert_eq!(usize::from(right[0] & 0x7F), 2 * words + 3);
+            assert_eq!(number_of(chip, &[&right]), 0, "{words}");
+            let mut longer = [right.as_slice(), &[0]].concat();
+            longer[0] += 1;
+            assert_eq!(number_of(chip, &[&longer]), 15, "{words}");
+            let mut shorter = right[..right.len() - 1].to_vec();
+            shorter[0] -= 1;
+            assert_eq!(number_of(chip, &[&shorter]), 15, "{words}");
+        }
+    }
+}
+
+/// "They are counted as power (a new answer field, 0 below level 7), not listed": between media, with
+/// g 0 and g 2. The bytes are section 7.5.2.1.5's.
+#[test]
+fn power_blocks() {
+    let sia = block::sia(0, None, 1, 2);
+    let power: [&[u8]; 2] = [
+        &[0x83, 0x06, 0x01, 0x00],
+        &[0x87, 0x06, 0x0E, 0x02, 0x21, 0x08, 0x00, 0x00],
+    ];
+    assert_eq!(block::power(0x0E, &[0x0821, 0x0000]), power[1]);
+    for chip in [21143, 21145] {
+        let image = tidy(chip, &[power[0], &sia, power[1], &sia]);
+        let (answer, table) = read_table(&image, Arguments::newest(chip));
+        assert_eq!(counts(&answer), [0, 2, 0, 0, 2]);
+        assert_eq!((answer.blocks, answer.default_number), (4, NO_DEFAULT));
+        assert_eq!(table, [(2, 52), (2, 37)]);
+        assert!(view(&image, Arguments::newest(chip), 2).is_empty());
+        for level in 3..7 {
+            let (answer, older) = read_table(&image, Arguments::at_level(chip, level));
+            assert_eq!(counts(&answer), [0, 2, 0, 2, 0]);
+            assert_eq!(older, table);
+        }
+        for block in power {
+            let image = tidy(chip, &[block]);
+            let answer = read_table(&image, Arguments::newest(chip)).0;
+            assert_eq!(counts(&answer), [0, 0, 0, 0, 1]);
+        }
+    }
+}
+
+/// "the byte is not judged otherwise": every mode byte of a single block, its reserved bits too.
+#[test]
+fn single_modes() {
+    for mode in 0..=255 {
+        for chip in [21143, 21145] {
+            let image = tidy(chip, &[&block::power(mode, &[])]);
+            let answer = read_table(&image, Arguments::newest(chip)).0;
+            assert_eq!(counts(&answer), [0, 0, 0, 0, 1], "{chip} {mode:#x}");
+        }
+    }
+}
+
+/// "No bit of the mode byte may be set in two blocks": every pair of mode bytes, and 31 "after 18"
+/// with all other answer fields 0; "An image refused with 31 at level 7 is read at every level below
+/// it".
+#[test]
+fn repeated_modes() {
+    let blocks = |first, second| [block::power(first, &[]), block::power(second, &[])];
+    for first in 0..=255 {
+        for second in 0..=255 {
+            let blocks = blocks(first, second);
+            let image = tidy(21143, &[&blocks[0], &blocks[1]]);
+            let answer = read_table(&image, Arguments::newest(21143)).0;
+            if first & second == 0 {
+                assert_eq!(counts(&answer), [0, 0, 0, 0, 2], "{first:#x} {second:#x}");
+            } else {
+                assert_eq!(answer, refused(31), "{first:#x} {second:#x}");
+            }
+        }
+    }
+    for chip in [21143, 21145] {
+        for (first, second, expected) in [(0x01, 0x0E, 0), (0x03, 0x02, 31), (0x90, 0x80, 31)] {
+            let blocks = blocks(first, second);
+            let image = tidy(chip, &[&blocks[0], &blocks[1]]);
+            assert_eq!(number(&image, Arguments::newest(chip)), expected);
+            assert!(view(&image, Arguments::newest(chip), 0).is_empty());
+            for level in 0..7 {
+                let answer = read_table(&image, Arguments::at_level(chip, level)).0;
+                assert_eq!(counts(&answer), [0, 0, 0, 2, 0], "level {level}");
+            }
+        }
+    }
+}
+
+/// "set in two blocks": two of three power blocks, wherever they stand, with other blocks between
+/// them.
+#[test]
+fn repeated_modes_apart() {
+    let modes = |modes: [u8; 3]| {
+        let sia = block::sia(0, None, 0, 0);
+        let [first, second, third] = modes.map(|mode| block::power(mode, &[1, 2]));
+        number_of(21143, &[&first, &sia, &second, &sia, &third])
+    };
+    assert_eq!(modes([0x01, 0x02, 0x04]), 0);
+    assert_eq!(modes([0x00, 0x00, 0x00]), 0);
+    assert_eq!(modes([0x01, 0x02, 0x01]), 31);
+    assert_eq!(modes([0x05, 0x02, 0x0C]), 31);
+    assert_eq!(modes([0x01, 0x02, 0x02]), 31);
+    assert_eq!(modes([0x01, 0x01, 0x02]), 31);
+    assert_eq!(modes([0xF0, 0x0F, 0x10]), 31);
+    assert_eq!(modes([0x01, 0x01, 0x01]), 31);
+}
+
+/// "31 a mode bit set twice, after 18": a leaf that also has two defaults, two type 5 blocks, or a
+/// block that is refused behind them, is refused for that; and so is a block of a type that the chip
+/// does not permit.
+#[test]
+fn repeated_modes_come_last() {
+    let power = block::power(0x03, &[]);
+    let default = block::symbol(3, 0, 0, 0x4000);
+    let reset = block::reset(&[]);
+    let wrong_code = block::sia(3, None, 0, 0);
+    assert_eq!(number_of(21143, &[&power, &default, &power, &default]), 18);
+    assert_eq!(number_of(21143, &[&reset, &power, &power, &reset]), 18);
+    assert_eq!(number_of(21143, &[&power, &power, &default, &reset]), 31);
+    assert_eq!(number_of(21143, &[&power, &power, &wrong_code]), 16);
+    assert_eq!(number_of(21143, &[&power, &power, &[0x83, 0x06, 0, 1]]), 15);
+    assert_eq!(number_of(21143, &[&power, &power, &[0x80]]), 14);
+    assert_eq!(number_of(21142, &[&power, &power]), 14);
+    assert_eq!(number_of(21140, &[&power, &power]), 14);
+}
+
+/// "document 01's sum of counts gains that term": for valid cards at every level, and power is "0
+/// below level 7".
+#[test]
+fn sum_of_counts() {
+    let mut random = Random::new(2);
+    let mut with_power = 0;
+    for _ in 0..2_000 {
+        let sample = Sample::valid(&mut random);
+        let image = sample.card.image();
+        for level in 0..=NEWEST_LEVEL {
+            let arguments = Arguments {
+                level,
+                ..sample.arguments
+            };
+            let answer = read_table(&image, arguments).0;
+            let [number, terms @ ..] = counts(&answer);
+            assert_eq!((number, terms.iter().sum()), (0, answer.blocks));
+            assert!(level == 7 || answer.power == 0, "level {level}");
+            with_power += usize::from(answer.power > 0);
+        }
+    }
+    assert!(with_power > 200, "only {with_power} have power blocks");
 }
 
 /// "Media codes", with the reserved bits: of all code bytes those of the kind are accepted.
@@ -851,7 +1035,7 @@ fn views() {
     for entry in [2, 3, 255, 256, usize::MAX] {
         assert!(view(&image, arguments, entry).is_empty());
     }
-    assert!(view(&image, Arguments::at_level(21143, 7), 0).is_empty());
+    assert!(view(&image, Arguments::at_level(21143, 8), 0).is_empty());
     assert!(view(&image[..127], arguments, 0).is_empty());
 }
 
@@ -878,6 +1062,7 @@ fn whole_answer() {
         listed: 3,
         resets: 1,
         skipped: 1,
+        power: 0,
         default_number: 2,
     };
     for layout in LAYOUTS {
@@ -908,7 +1093,7 @@ fn fast_equals_plain() {
             _ => Sample::wild(&mut random),
         };
         if random.one_in(2) {
-            sample.arguments.level = random.below(8) as u8;
+            sample.arguments.level = random.below(usize::from(NEWEST_LEVEL) + 2) as u8;
         }
         let image = sample.card.image();
         let (first, second) = (random.below(12), random.below(12));
@@ -959,6 +1144,7 @@ fn worked_blocks() {
                 let (size, invalid, default) = (it.size, it.is_active_invalid, it.is_default);
                 format!("mediumBlock {size} {invalid} {default} {}", it.resets_phy)
             }
+            Ok(it) if it.kind == Some(POWER) => format!("powerBlock {}", it.size),
             other => {
                 // One that is not whole has the size that its first byte asks for.
                 let whole = first_block(&rest, arguments.chip).map(|it| it.len().to_string());

@@ -200,7 +200,7 @@ fn kinds() {
                 0..=255 if chip != 21041 => match crate::reader::permitted_kinds(chip) {
                     kinds if kinds.contains(&5) && kind == 5 => 0,
                     kinds if kinds.contains(&kind) => 15,
-                    _ if kind < 6 => 14,
+                    _ if kind < 7 => 14,
                     _ => 0,
                 },
                 _ => 25,
@@ -210,6 +210,46 @@ fn kinds() {
         for kind in [0x0200, 0x0301, 0x8000, 0xFF00, 0xFFFF] {
             assert_eq!(number_of(chip, kind, &[0]), 25);
         }
+    }
+}
+
+/// "length 2g+3; a mode byte, g, g words", of which a sheet has what stands behind the type: power
+/// blocks go into the image and come back; "the newest reader's number", 31 after 18.
+#[test]
+fn power_blocks() {
+    let blocks = |modes: [u8; 3]| {
+        let mut sheet = Sheet::new(21143, 0x0800, &[]);
+        sheet.blocks = vec![
+            (6, vec![modes[0], 0]),
+            (4, vec![3, 0, 0, 0, 0, 0, 0x40]),
+            (6, vec![modes[1], 2, 0x21, 0x08, 0x00, 0x00]),
+            (6, vec![modes[2], 0]),
+        ];
+        sheet
+    };
+    #[rustfmt::skip]
+    let leaf = [
+        0x00, 0x08, 4,
+        0x83, 0x06, 0x01, 0,
+        0x88, 0x04, 3, 0, 0, 0, 0, 0, 0x40,
+        0x87, 0x06, 0x0E, 2, 0x21, 0x08, 0x00, 0x00,
+        0x83, 0x06, 0x80, 0,
+    ];
+    let sheet = blocks([0x01, 0x0E, 0x80]).bytes();
+    let image = written(&sheet).expect("the modes differ");
+    assert_eq!(image[30..58], leaf);
+    assert_eq!(made(&image, 21143, Layout::PLAIN), Ok(sheet));
+    assert_eq!(written(&blocks([0x01, 0x0E, 0x81]).bytes()), Err(31));
+    assert_eq!(written(&blocks([0x03, 0x02, 0x80]).bytes()), Err(31));
+    let mut defaults = blocks([0x03, 0x02, 0x80]);
+    defaults.blocks.push(defaults.blocks[1].clone());
+    assert_eq!(written(&defaults.bytes()), Err(18));
+    for chip in [21140, 21142] {
+        let other = Sheet {
+            chip,
+            ..blocks([0x03, 0x02, 0x80])
+        };
+        assert_eq!(written(&other.bytes()), Err(14));
     }
 }
 
@@ -406,7 +446,7 @@ fn longest_sheet() {
     }
 }
 
-/// "Sheet maker: reader's numbers (12 apart)" at level 6 for controller 0: every damaged image is
+/// "Sheet maker: reader's numbers (12 apart)" at level 7 for controller 0: every damaged image is
 /// refused as the newest reader does, however short the buffer.
 #[test]
 fn refused_images() {

@@ -33,7 +33,7 @@ impl Sheet {
             25 => self.misform(random),
             26 => self.overflow(random, limit),
             14 => self.forbid(random),
-            15..=18 => self.damage_blocks(random, number, limit),
+            15..=18 | 31 => self.damage_blocks(random, number, limit),
             _ => None,
         };
         let is_short = number == 7 || number == 25 || self.leaf_end() <= limit;
@@ -132,7 +132,7 @@ impl Sheet {
         Some(())
     }
 
-    /// Causes 15 to 18, as in the leaf of an image; a block whose length byte is changed gets as
+    /// Causes 15 to 18 and 31, as in the leaf of an image; a block whose length byte is changed gets as
     /// many bytes.
     fn damage_blocks(&mut self, random: &mut Random, number: u8, limit: usize) -> Option<()> {
         let blocks = self.whole_blocks();

@@ -8,7 +8,7 @@ use crate::reader::Arguments;
 
 /// The refusals of [`crate::images::DAMAGES`] that the maker can answer: those of the controller,
 /// the level and the address are not for controller 0.
-pub const TIDY_DAMAGES: [u8; 15] = [2, 3, 4, 29, 30, 5, 7, 10, 11, 13, 14, 15, 16, 17, 18];
+pub const TIDY_DAMAGES: [u8; 16] = [2, 3, 4, 29, 30, 5, 7, 10, 11, 13, 14, 15, 16, 17, 18, 31];
 
 /// A tidy card of any chip and layout, and the newest reader of it.
 pub fn tidy(random: &mut Random) -> Sample {

@@ -284,6 +284,38 @@ fn power_up_only() {
     assert_eq!(state(&walk), (true, 2, 5, 2));
 }
 
+/// "They are counted as power ..., not listed": a power block has no flag, is no candidate though its
+/// byte is 1, and leaves the blocks behind it their numbers, at the newest level and below; an image
+/// refused with 31 is loaded below.
+#[test]
+fn power_blocks() {
+    let blocks = |mode| {
+        vec![
+            block::power(0x01, &[]),
+            block::sia(0, None, 0, 0),
+            block::power(mode, &[1]),
+            block::symbol(3, 0, 0, 0x4000),
+            block::power(0x80, &[]),
+        ]
+    };
+    let listed = [0, 1, 0, 1, 0];
+    for level in 5..=NEWEST_LEVEL {
+        let image = image(21143, 0x0800, blocks(0x0E));
+        let mut walk = loaded(&image, Arguments::at_level(21143, level));
+        let rows = walk.walk().rows;
+        assert_eq!(rows.listed[..5], listed);
+        assert_eq!(rows.active_invalid, [0; ROW_LENGTH]);
+        assert_eq!(walk.walk().default_number, 3);
+        let reports: [&[u8]; 3] = [&[1, 0, 1, 0, 1], &[1, 1, 1, 0, 1], &[1, 1, 1, 1, 1]];
+        assert_eq!(selections(&mut walk, &reports), [3, 1, 1]);
+    }
+    let repeated = image(21143, 0x0800, blocks(0x0F));
+    let mut walk = Autosense::default();
+    assert_eq!(walk.load(&repeated, Arguments::newest(21143)), 31);
+    assert_eq!(walk.load(&repeated, Arguments::at_level(21143, 6)), 0);
+    assert_eq!(walk.walk().rows.listed[..5], listed);
+}
+
 /// "The first in table order": of all that are up, the last block of the leaf that is listed.
 #[test]
 fn table_order() {
@@ -295,11 +327,11 @@ fn table_order() {
         block::extended(7, &[1, 2]),
     ];
     let image = image(21143, 0x0800, blocks);
-    for (level, expected) in [(6, 2), (5, 2), (4, 2), (3, 2), (2, NONE), (0, NONE)] {
+    for (level, expected) in [(7, 2), (5, 2), (4, 2), (3, 2), (2, NONE), (0, NONE)] {
         let mut walk = loaded(&image, Arguments::at_level(21143, level));
         assert_eq!(selections(&mut walk, &[&[1; 5]]), [expected]);
     }
-    for (level, expected) in [(6, 1), (4, 1), (3, 0)] {
+    for (level, expected) in [(7, 1), (4, 1), (3, 0)] {
         let mut walk = loaded(&image, Arguments::at_level(21143, level));
         assert_eq!(selections(&mut walk, &[&[1, 1, 0, 1, 1]]), [expected]);
     }

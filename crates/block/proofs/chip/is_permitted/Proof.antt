@@ -12,7 +12,12 @@ use Rattle.block.proofs.chip.is_permitted.Tie as tie
 
 -- the table of the code: a short row is filled up with its first kind
 table : List (List ℕ)
-table = replicate 4 kind21041 ∷ (kindCompact ∷ 0 ∷ 1 ∷ 5 ∷ []) ∷ (2 ∷ 3 ∷ 5 ∷ 2 ∷ []) ∷ (2 ∷ 3 ∷ 4 ∷ 5 ∷ []) ∷ (2 ∷ 3 ∷ 4 ∷ 5 ∷ []) ∷ []
+table =
+    replicate 5 kind21041
+    ∷ (kindCompact ∷ 0 ∷ 1 ∷ 5 ∷ kindCompact ∷ [])
+    ∷ (2 ∷ 3 ∷ 5 ∷ 2 ∷ 2 ∷ [])
+    ∷ (2 ∷ 3 ∷ 4 ∷ 5 ∷ 6 ∷ [])
+    ∷ (2 ∷ 3 ∷ 4 ∷ 5 ∷ 6 ∷ []) ∷ []
 
 returns : tie.Need-returns
 unfolding isPermitted permittedRows

@@ -37,6 +37,9 @@ enum-told-2 c = search needs
 enum-told-3 : tie.Need-enum-told-3
 enum-told-3 c = search needs
 
+enum-told-4 : tie.Need-enum-told-4
+enum-told-4 c = search needs
+
 same-length : tie.Need-same-length
 same-length c = search needs
 
@@ -55,6 +58,9 @@ returns-3 c = let e = c .enum-told2 .given .1 in (simp (e, sub-zero), (rw e, rw 
 returns-4 : tie.Need-returns-4
 returns-4 c = let e = c .enum-told3 .given .1 in (simp (e, sub-zero), (rw e, rw e))
 
+returns-5 : tie.Need-returns-5
+returns-5 c = let e = c .enum-told4 .given .1 in (simp (e, sub-zero), (rw e, rw e))
+
 pub place-spec : {M : Type 1} → statement M
 place-spec =
     tie.close
@@ -69,9 +75,11 @@ place-spec =
     enum-told
     enum-told-2
     enum-told-3
+    enum-told-4
     same-length
     same-length-2
     returns
     returns-2
     returns-3
-    returns-4)
+    returns-4
+    returns-5)

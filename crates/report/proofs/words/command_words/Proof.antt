@@ -1,45 +1,38 @@
--- At each turn the line and the bits that are left are the whole. Assumes nothing.
-use Prim.Native.Nat.{_-_, _≤_}
-use mathlib.Core.List.{_++_}
+-- The names of the table are those of the list. Assumes nothing.
+use native.Mathlib.Omega.{arith}
+use Rattle.text.specs.Quoted.{quoted}
+use Rattle.report.specs.Words.{nameInTable, nameInList, commandNames, commandWords}
+use Rattle.report.proofs.Names.{commandTable, command-table}
+use Rattle.report.proofs.Bits.{same-names}
 use borrow.Author.Needs.{needs}
-use Rattle.text.specs.Written.{textOf}
-use Rattle.text.proofs.Building.{Building, begun}
-use Rattle.report.specs.Words.{bitsFrom, commandWords}
-use Rattle.report.proofs.Bits.{next, done}
 use Rattle.report.proofs.words.command_words.Statement.{statement}
 use Rattle.report.proofs.words.command_words.Tie as tie
 
-abbrev Inv-loop : tie.InvT-loop
-Inv-loop command line₀ bits₀ bit₀ line bits bit =
-    Building (textOf line₀ ++ commandWords command) line (bitsFrom (16 - bit) bit bits) × (bit ≤ 16)
+slice-aggregate-bit-words : tie.Need-slice-aggregate-bit-words
+slice-aggregate-bit-words c = search needs
 
-abbrev μ-loop : tie.MeasureT-loop
-μ-loop command line₀ bits₀ bit₀ line bits bit = 16 - bit
+slice-aggregate-bit-words-2 : tie.Need-slice-aggregate-bit-words-2
+slice-aggregate-bit-words-2 c = search needs
 
-loop-holds : tie.Need-loop-holds Inv-loop μ-loop
-unfolding commandWords
-loop-holds c = (begun (c .args .line) _ (c .good .0 .1 .1 .0 .1 .0 .1), search needs)
+slice-aggregate-bit-words-3 : tie.Need-slice-aggregate-bit-words-3
+slice-aggregate-bit-words-3 c = search needs
 
-bit-words-requires : tie.Need-bit-words-requires Inv-loop μ-loop
+bit-words-requires : tie.Need-bit-words-requires
 bit-words-requires c κs = search needs
 
-add-bit : tie.Need-add-bit Inv-loop μ-loop
-add-bit c = search needs
-
-loop-less : tie.Need-loop-less Inv-loop μ-loop
-loop-less c = search needs
-
-loop-again : tie.Need-loop-again Inv-loop μ-loop
-loop-again c =
-    let l = c .before .before .loop in
-    (next (l .bits) (l .bit) (l .inv .0) (c .before .loop-test .taken) (c .bit-words .ensures), search needs)
-
-returns : tie.Need-returns Inv-loop μ-loop
+returns : tie.Need-returns
+unfolding commandWords commandTable
 returns c =
-    let l = c .before .loop in
-    done (l .bits) (l .bit) (l .inv .0) (c .loop-test .left)
+    rw (← same-names (nameInTable commandTable) (nameInList commandNames) command-table (quoted " ") (quoted " ") 16 0
+    (c .before .before .before .before .args .command) (omega arith))
+    (c .bit-words .ensures)
 
 pub command-words-spec : {M : Type 1} → statement M
 command-words-spec =
     tie.close
-    (tie.spec Inv-loop μ-loop loop-holds bit-words-requires add-bit loop-less loop-again returns)
+    (tie.spec
+    slice-aggregate-bit-words
+    slice-aggregate-bit-words-2
+    slice-aggregate-bit-words-3
+    bit-words-requires
+    returns)
