@@ -144,6 +144,17 @@ static bool are_alike(const srom_walk *walk, const srom_walk *other)
         && walk->switches == other->switches;
 }
 
+/* Under an empty connection word a look is as under the type that senses once. */
+static void check_empty(srom_walk walk, const uint8_t *report, size_t count, srom_walked walked)
+{
+    if (walk.connection != SROM_EMPTY_CONNECTION)
+        return;
+    walk.connection = SROM_AUTOSENSE_ONCE;
+    srom_walked once = srom_look(walk, report, count);
+    once.walk.connection = SROM_EMPTY_CONNECTION;
+    check(once.number == walked.number && are_alike(&once.walk, &walked.walk));
+}
+
 static void walk_over(const uint8_t *image, size_t length, srom_arguments arguments, const uint8_t *calls, size_t left)
 {
     srom_walk walk = srom_fresh();
@@ -161,6 +172,7 @@ static void walk_over(const uint8_t *image, size_t length, srom_arguments argume
             size_t count = call < left ? call : left;
             lent report = lend(calls, count);
             walked = srom_look(walk, report.bytes, count);
+            check_empty(walk, report.bytes, count, walked);
             take_back(report);
             reach(LOOK, walked.number);
             reach(SELECTED, walked.walk.selected);

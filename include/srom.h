@@ -73,8 +73,13 @@ enum { SROM_21041 = 21041, SROM_21140 = 21140, SROM_21142 = 21142, SROM_21143 = 
 /* Kinds of blocks: an extended block's type (0 to 255), or one of these. */
 enum { SROM_KIND_COMPACT = 256, SROM_KIND_21041 = 257 };
 
-/* Connection types that looks serve. */
-enum { SROM_AUTOSENSE = 0x0800, SROM_AUTOSENSE_ONCE = 0x8800, SROM_AUTOSENSE_NWAY = 0x0900 };
+/* Connection types that looks serve; every other is fixed. */
+enum {
+    SROM_AUTOSENSE = 0x0800,       /* autosensed at every look */
+    SROM_AUTOSENSE_NWAY = 0x0900,  /* autosensed at every look */
+    SROM_AUTOSENSE_ONCE = 0x8800,  /* autosensed once: a settled walk stays on its block */
+    SROM_EMPTY_CONNECTION = 0xFFFF /* the maker selected nothing: walked as SROM_AUTOSENSE_ONCE */
+};
 
 /* ---- Layout ---- */
 
@@ -226,8 +231,8 @@ srom_walked srom_load(srom_walk walk, const uint8_t *image, size_t image_length,
 
 /*
  * Looks at the links, one byte a block, 1 up and 0 down; later bytes are ignored.
- * 1. A settled walk with a block selected stays on it where the connection type is SROM_AUTOSENSE_ONCE, or the block has
- *    Active_Invalid, or its link is up.
+ * 1. A settled walk with a block selected stays on it where the connection type is SROM_AUTOSENSE_ONCE or
+ *    SROM_EMPTY_CONNECTION, or the block has Active_Invalid, or its link is up.
  * 2. Otherwise it selects the first entry in table order whose link is up (once settled, among those without Active_Invalid)
  *    and is settled from then on. With none up it selects the default, or none where there is no default, which neither
  *    settles nor unsettles it.

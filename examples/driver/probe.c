@@ -79,7 +79,7 @@ static const char *why_it_stays(srom_walk walk, const uint8_t *report)
         return NULL;
     if (report[walk.selected] == 1)
         return "whose link is up";
-    if (walk.connection == SROM_AUTOSENSE_ONCE)
+    if (walk.connection == SROM_AUTOSENSE_ONCE || walk.connection == SROM_EMPTY_CONNECTION)
         return "since the connection type senses once";
     if (walk.rows.active_invalid[walk.selected] == 1)
         return "since it has Active_Invalid";

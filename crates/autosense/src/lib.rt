@@ -1,4 +1,4 @@
-// The autosense walk: which medium of an image's table a controller stands on (document 01, 'The walk').
+// The autosense walk: which medium of an image's table a controller stands on (document 01, 'The walk'; document 02, request 4).
 use block::Block;
 use reader::Arguments;
 use rom::NONE;
@@ -7,23 +7,28 @@ use walk::Choice;
 pub use walk::Rows;
 pub use walk::Walk;
 pub use walk::Walked;
+pub use walk::Way;
 ghost use mathlib.Core.Path.{_≡_};
+ghost use mathlib.Core.Bool.{_||_};
 ghost use Prim.Native.Nat.{_≤_};
 ghost use Rattle.rom.specs.Refusal.{firstMet};
 ghost use Rattle.block.specs.Answer.{listedIn};
 ghost use Rattle.rom.specs.Bytes.{one};
 ghost use Rattle.leaf.specs.Leaf.{cut, blockCauses};
 ghost use Rattle.autosense.specs.Inside.{invalidIn};
-ghost use Rattle.walk.specs.Walk.{noFlags, noRows, rowsOf, freshWalk, isServed, flagAt, badReport, isCandidate, firstUp, stays};
-ghost use Rattle.walk.specs.Walk.{chosen, switched, stepped, lookCauses, loadFor, lookFor, clearFor};
+ghost use Rattle.walk.specs.Walk.{noFlags, noRows, rowsOf, freshWalk, wayOf, isOnce, isFixed, flagAt, isUp, badReport, isCandidate};
+ghost use Rattle.walk.specs.Walk.{firstUp, stays, chosen, switched, stepped, lookCauses, loadFor, lookFor, clearFor};
 
-// ## Connection types (document 01, 'The walk'): those that looks serve, and the one under which a settled walk stays
+// ## Connection types that are autosensed (document 01, 'The walk')
 
 const AUTOSENSE: u16 = 0x0800;
 
-const POWER_UP_AUTOSENSE: u16 = 0x8800;
-
 const AUTOSENSE_WITH_NWAY: u16 = 0x0900;
+
+const AUTOSENSE_ONCE: u16 = 0x8800;
+
+// Of a card whose maker selected nothing (document 02, request 4).
+const EMPTY_CONNECTION: u16 = 0xFFFF;
 
 // The most that looks and switches count.
 const MOST_LOOKS: u16 = 65535;
@@ -170,17 +175,37 @@ pub fn load(walk: Walk, image: &[u8], arguments: Arguments) -> Walked
 
 // ## Looking
 
-// Whether looks serve a connection type; every other counts as fixed.
-fn is_served(connection: u16) -> bool
-    ensures { λ r. ⌜ r ≡ isServed connection ⌝ }
+// The way to walk under a connection type.
+pub fn way_of(connection: u16) -> Way
+    ensures { λ r. ⌜ r ≡ wayOf connection ⌝ }
 {
-    if connection == AUTOSENSE {
-        return true;
+    match connection {
+        AUTOSENSE | AUTOSENSE_WITH_NWAY => Way::EveryLook,
+        AUTOSENSE_ONCE | EMPTY_CONNECTION => Way::Once,
+        _ => Way::Fixed,
     }
-    if connection == POWER_UP_AUTOSENSE {
-        return true;
+}
+
+// Whether a settled walk stays.
+fn is_once(way: Way) -> bool
+    ensures { λ r. ⌜ r ≡ isOnce way ⌝ }
+{
+    match way {
+        Way::EveryLook => false,
+        Way::Once => true,
+        Way::Fixed => false,
     }
-    connection == AUTOSENSE_WITH_NWAY
+}
+
+// Whether looks are refused.
+fn is_fixed(way: Way) -> bool
+    ensures { λ r. ⌜ r ≡ isFixed way ⌝ }
+{
+    match way {
+        Way::EveryLook => false,
+        Way::Once => false,
+        Way::Fixed => true,
+    }
 }
 
 // Whether a block's flag is 1; there is none past the end.
@@ -219,8 +244,8 @@ fn look_refusal(walk: Walk, report: &[u8]) -> u8
     if !walk.loaded {
         return refusal::FRESH;
     }
-    let served = is_served(walk.connection);
-    if !served {
+    let fixed = is_fixed(way_of(walk.connection));
+    if fixed {
         return refusal::FIXED_TYPE;
     }
     if walk.looks == MOST_LOOKS {
@@ -231,6 +256,17 @@ fn look_refusal(walk: Walk, report: &[u8]) -> u8
         return refusal::REPORT;
     }
     refusal::ACCEPTED
+}
+
+// Whether a selected block is kept: it has Active_Invalid, or it is up.
+fn is_kept(active_invalid: &[u8], report: &[u8], number: u8) -> bool
+    ensures { λ r. ⌜ r ≡ (flagAt (now («active_invalid» .entry)) number || isUp (now (report .entry)) number) ⌝ }
+{
+    let invalid = flag_at(active_invalid, number);
+    if invalid {
+        return true;
+    }
+    flag_at(report, number)
 }
 
 // Step 1: whether a walk that is settled with a block selected stays there.
@@ -244,16 +280,13 @@ fn stays_there(walk: Walk, report: &[u8]) -> bool
     if selected == NONE {
         return false;
     }
-    if walk.connection == POWER_UP_AUTOSENSE {
+    let once = is_once(way_of(walk.connection));
+    if once {
         return true;
     }
     let rows = walk.rows;
     let active_invalid = rows.active_invalid;
-    let invalid = flag_at(&active_invalid, selected);
-    if invalid {
-        return true;
-    }
-    flag_at(report, selected)
+    is_kept(&active_invalid, report, selected)
 }
 
 // Whether a block is a candidate: listed, and once settled without Active_Invalid.

@@ -1,6 +1,7 @@
 // `card walk`: looks with given link reports, and where the walk stands after each.
 use autosense::Walk;
 use autosense::Walked;
+use autosense::Way;
 use console::arguments;
 use console::command;
 use console::option;
@@ -9,6 +10,7 @@ use libc::STDOUT_FILENO;
 use reader::Arguments;
 use report::words;
 use rom::refusal;
+use text::line;
 use text::line::Line;
 use text::slice::part;
 
@@ -163,6 +165,23 @@ fn show_looks(image: &[u8], arguments: Arguments, loaded: Walk, first: usize, en
     accepted
 }
 
+// How a walk goes by its connection type.
+fn way_words(line: Line, connection: u16) -> Line {
+    match autosense::way_of(connection) {
+        Way::EveryLook => line.text(b"autosensed at every look"),
+        Way::Once => line.text(b"autosensed once"),
+        Way::Fixed => line.text(b"fixed"),
+    }
+}
+
+fn show_loaded(arguments: Arguments, walk: Walk) {
+    report::arguments_words(Line::new().text(b"LOADED  "), arguments)
+        .with(b", # blocks", [walk.blocks as u64, 0, 0, 0])
+        .print();
+    let line = line::of(b"  connection type @, ", [walk.connection as u64, 0, 0, 0]);
+    way_words(line, walk.connection).print();
+}
+
 // Loads the image and takes the looks, whose first report is a word; the status.
 pub fn show(image: &[u8], arguments: Arguments, first: usize) -> u8 {
     let end = os::arg_count();
@@ -178,8 +197,6 @@ pub fn show(image: &[u8], arguments: Arguments, first: usize) -> u8 {
         return status::REFUSED;
     }
     let walk = loaded.walk;
-    report::arguments_words(Line::new().text(b"LOADED  "), arguments)
-        .with(b", # blocks", [walk.blocks as u64, 0, 0, 0])
-        .print();
+    show_loaded(arguments, walk);
     status::of(show_looks(image, arguments, walk, first, end))
 }

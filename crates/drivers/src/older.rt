@@ -1,4 +1,5 @@
 // `card older`: what readers of every level see of a card, side by side, and whether they would walk alike.
+use autosense::Way;
 use block::NEWEST_LEVEL;
 use reader::Answer;
 use reader::Arguments;
@@ -270,11 +271,13 @@ fn show_level(image: &[u8], arguments: Arguments, answer: Answer, level: u8) {
     removed_words(line, image, arguments, level, answer.blocks).print();
 }
 
-// Whether looks serve the card's connection type.
-fn is_served(image: &[u8], arguments: Arguments) -> bool {
-    let walk = autosense::load(autosense::fresh(), image, arguments).walk;
-    let report = [0u8; 255];
-    autosense::look(walk, &report).number != refusal::FIXED_TYPE
+// Whether looks serve a connection type.
+fn is_served(connection: u16) -> bool {
+    match autosense::way_of(connection) {
+        Way::EveryLook => true,
+        Way::Once => true,
+        Way::Fixed => false,
+    }
 }
 
 fn show_question(level: u8) {
@@ -291,7 +294,7 @@ fn show_question(level: u8) {
 }
 
 fn show_sentences(image: &[u8], arguments: Arguments, answer: Answer) {
-    let served = is_served(image, arguments);
+    let served = is_served(answer.connection);
     if !served {
         say(b"The connection type is fixed, so that no driver looks: all stand alike.");
         return;

@@ -1,6 +1,7 @@
 pub mod Below
 pub mod Loads
 pub mod Looks
+pub mod Ways
 pub mod Refusals
 pub mod Computes
 pub mod Worked

@@ -1,15 +1,14 @@
 -- The steps of a look, as the tests of the code find them. Assumes nothing.
 use Prim.Native.Nat.{ℕ}
-use mathlib.Core.Path.{_≡_, refl, sym}
-use mathlib.Core.Bool.{Bool, true, false, _||_}
+use mathlib.Core.Path.{_≡_}
 use mathlib.Core.List.{List}
-use lib.Dec.{eqb, lit<}
-use borrow.Author.Tests.{eqb-true, eqb-false, eq-eqb, ne-eqb}
-use Rattle.rom.specs.Bytes.{pick, isIn}
+use lib.Dec.{lit<}
+use borrow.Author.Tests.{eqb-false, ne-eqb}
+use Rattle.rom.specs.Bytes.{pick}
 use Rattle.rom.specs.Refusal.{firstMet}
 use Rattle.rom.proofs.First.{none-here}
 use Rattle.walk.specs.declared.Walk.{Walk}
-use Rattle.walk.specs.Walk.{served, isServed, lookCauses, walkedTo, stepped, lookFor}
+use Rattle.walk.specs.Walk.{lookCauses, walkedTo, stepped, lookFor}
 
 -- a look that is accepted finds looks below their most
 pub accepted-looks : (w : Walk) (report : List ℕ) → firstMet (lookCauses w report) ≡ 0 → w .looks ≡ 65535 → ⊥
@@ -27,12 +26,3 @@ module _ (w : Walk) (report : List ℕ) (n : ℕ) (e : n ≡ firstMet (lookCause
   pub look-done : (next : Walk) → n ≡ 0 → next ≡ stepped w report → record { number = n; walk = next } ≡ lookFor w report
   unfolding lookFor walkedTo pick
   look-done next z f = rw (← e, z, f)
-
--- the last of the types that looks serve
-pub served-last : (c : ℕ) → (c ≡ 0x0800 → ⊥) → (c ≡ 0x8800 → ⊥) → eqb c 0x0900 ≡ isServed c
-unfolding isServed served isIn
-served-last c g h = simp (ne-eqb 0x0800 c (λ e. g (sym e)), ne-eqb 0x8800 c (λ e. h (sym e))) (go (eqb c 0x0900) refl)
-  where
-    go : (t : Bool) → eqb c 0x0900 ≡ t → t ≡ (eqb 0x0900 c || false)
-    go true e = simp (eq-eqb 0x0900 c (sym (eqb-true c 0x0900 e)))
-    go false e = simp (ne-eqb 0x0900 c (λ f. eqb-false c 0x0900 e (sym f)))

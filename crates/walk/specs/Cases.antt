@@ -6,7 +6,7 @@ use lib.ListN.{replicate}
 use Rattle.rom.specs.Geometry.{none}
 use Rattle.walk.specs.declared.Walk.{Walk}
 use Rattle.walk.specs.declared.Rows.{Rows}
-use Rattle.walk.specs.Walk.{freshWalk, lookFor}
+use Rattle.walk.specs.Walk.{lookFor}
 
 -- a walk, a report, and what a look answers
 pub record LookCase : Type 0 where
@@ -72,10 +72,11 @@ lookCases =
     ∷ look 0x0800 none (stands false none 0 0) (0 ∷ 1 ∷ 0 ∷ 0 ∷ 0 ∷ []) 0 (stands false none 1 0)
     -- on the default and not settled: it does not stay
     ∷ look 0x0800 0 (stands false 0 1 1) (1 ∷ 0 ∷ 0 ∷ 1 ∷ 0 ∷ []) 0 (stands true 3 2 2)
-    -- settled: it stays while it is up, or with Active_Invalid, or under 0x8800
+    -- settled: it stays while it is up, or with Active_Invalid, or where the type is autosensed once
     ∷ look 0x0800 none (stands true 2 1 1) (0 ∷ 0 ∷ 1 ∷ 0 ∷ 1 ∷ []) 0 (stands true 2 2 1)
     ∷ look 0x0900 none (stands true 3 1 1) (1 ∷ 0 ∷ 0 ∷ 0 ∷ 1 ∷ []) 0 (stands true 3 2 1)
     ∷ look 0x8800 none (stands true 2 1 1) (1 ∷ 0 ∷ 0 ∷ 0 ∷ 1 ∷ []) 0 (stands true 2 2 1)
+    ∷ look 0xFFFF none (stands true 2 1 1) (1 ∷ 0 ∷ 0 ∷ 0 ∷ 1 ∷ []) 0 (stands true 2 2 1)
     ∷ look 0x0900 none (stands true 2 1 1) (1 ∷ 0 ∷ 0 ∷ 0 ∷ 1 ∷ []) 0 (stands true 4 2 2)
     -- settled and not staying: candidates are those without Active_Invalid
     ∷ look 0x0800 none (stands true 4 1 1) (1 ∷ 0 ∷ 0 ∷ 1 ∷ 0 ∷ []) 0 (stands true 0 2 2)
@@ -83,12 +84,19 @@ lookCases =
     ∷ look 0x0800 none (stands true 4 1 1) (0 ∷ 0 ∷ 0 ∷ 1 ∷ 0 ∷ []) 0 (stands true none 2 2)
     ∷ look 0x8800 none (stands true none 2 2) (1 ∷ 0 ∷ 0 ∷ 1 ∷ 0 ∷ []) 0 (stands true 0 3 3)
     ∷ look 0x8800 none (stands true none 2 2) (0 ∷ 0 ∷ 0 ∷ 1 ∷ 0 ∷ []) 0 (stands true none 3 2)
+    -- under an empty connection word: the default until a link is up, and settled without a block it senses again
+    ∷ look 0xFFFF 0 (stands false none 0 0) (0 ∷ 1 ∷ 0 ∷ 0 ∷ 0 ∷ []) 0 (stands false 0 1 1)
+    ∷ look 0xFFFF 0 (stands false 0 1 1) (1 ∷ 0 ∷ 0 ∷ 1 ∷ 0 ∷ []) 0 (stands true 3 2 2)
+    ∷ look 0xFFFF none (stands true none 2 2) (1 ∷ 0 ∷ 0 ∷ 1 ∷ 0 ∷ []) 0 (stands true 0 3 3)
     -- the last look that is counted
     ∷ look 0x0800 none (stands true 4 65534 7) (0 ∷ 0 ∷ 0 ∷ 0 ∷ 0 ∷ []) 0 (stands true none 65535 8)
-    -- 22 before 23 before 19; bytes behind the block count are ignored
+    -- 22 before 23 before 19, and 22 not under an empty connection word
     ∷ look 0x0000 none (stands false none 65535 0) [] 22 (stands false none 65535 0)
+    ∷ look 0xFFFE none (stands false none 65535 0) [] 22 (stands false none 65535 0)
+    ∷ look 0xFFFF none (stands false none 65535 0) [] 23 (stands false none 65535 0)
     ∷ look 0x0800 none (stands true 4 65535 7) [] 23 (stands true 4 65535 7)
     ∷ look 0x0800 none (stands false none 0 0) (1 ∷ 1 ∷ 1 ∷ 1 ∷ []) 19 (stands false none 0 0)
     ∷ look 0x0800 none (stands true 4 1 1) (1 ∷ 2 ∷ 1 ∷ 1 ∷ 0 ∷ []) 19 (stands true 4 1 1)
+    -- bytes behind the block count are ignored
     ∷ look 0x0800 none (stands false none 0 0) (0 ∷ 0 ∷ 0 ∷ 0 ∷ 1 ∷ 2 ∷ []) 0 (stands true 4 1 1)
     ∷ []

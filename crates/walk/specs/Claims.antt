@@ -1,13 +1,14 @@
--- What is claimed of single calls. The crate `older` claims what holds over lists of calls, and of the rows of loaded walks.
+-- What is claimed of single calls, and of lists of looks under two types of one way. The crate `older` claims what holds over
+-- lists of loads, looks and clears, and of the rows of loaded walks.
 use Prim.Native.Nat.{ℕ}
 use mathlib.Core.Path.{_≡_}
-use mathlib.Core.List.{List, map}
+use mathlib.Core.List.{List, [], _∷_, map}
 use mathlib.Core.Bool.{true}
 use Rattle.rom.specs.Refusal.{firstMet, Exact}
 use Rattle.header.specs.declared.Arguments.{Arguments}
 use Rattle.reader.specs.Reading.{judgeCauses}
 use Rattle.walk.specs.declared.Walk.{Walk}
-use Rattle.walk.specs.Walk.{lookCauses, loadCauses, loadFor, lookFor, clearFor}
+use Rattle.walk.specs.Walk.{wayOf, lookCauses, loadCauses, loadFor, lookFor, clearFor}
 use Rattle.walk.specs.Cases.{looked, lookCases}
 
 -- ## Refusals (demand 1)
@@ -42,3 +43,39 @@ ClearedIsFresh = (w : Walk) →
 -- the looks answer as they stand in the list of cases
 abbrev pub LooksWorked : Type 0
 LooksWorked = map looked lookCases ≡ lookCases
+
+-- ## The way to walk (document 02, request 4)
+
+-- the walk under another connection type
+unfoldable pub under : ℕ → Walk → Walk
+under connection w = record {
+  loaded = w .loaded;
+  connection = connection;
+  blocks = w .blocks;
+  rows = w .rows;
+  «default_number» = w .«default_number»;
+  settled = w .settled;
+  selected = w .selected;
+  looks = w .looks;
+  switches = w .switches;
+}
+
+-- two walks that are equal but for the connection type: c in the one and d in the other
+abbrev pub EqualButType : ℕ → ℕ → Walk → Walk → Type 0
+EqualButType c d v w = (v ≡ under c w) × (w ≡ under d v)
+
+-- each look of a list is accepted by both or refused by both with the same number, and leaves them so
+abbrev pub LookAlike : ℕ → ℕ → Walk → Walk → List (List ℕ) → Type 0
+LookAlike c d v w [] = Unit {0}
+LookAlike c d v w (report ∷ reports) =
+    (lookFor v report .number ≡ lookFor w report .number)
+    × EqualButType c d (lookFor v report .walk) (lookFor w report .walk)
+    × LookAlike c d (lookFor v report .walk) (lookFor w report .walk) reports
+
+-- types of one way are walked alike
+abbrev pub SameWay : Type 0
+SameWay = (c d : ℕ) → wayOf c ≡ wayOf d → (v w : Walk) → EqualButType c d v w → (reports : List (List ℕ)) → LookAlike c d v w reports
+
+-- an empty connection word is walked as 0x8800
+abbrev pub EmptyAsOnce : Type 0
+EmptyAsOnce = (v w : Walk) → EqualButType 0xFFFF 0x8800 v w → (reports : List (List ℕ)) → LookAlike 0xFFFF 0x8800 v w reports

@@ -1,5 +1,6 @@
--- The autosense walk: its state, and what each call answers (document 01, 'The walk'). The state is the code's struct `Walk`. A
--- walk that is passed in may hold anything, so a flag past a row's end is none, and switches stay at their most.
+-- The autosense walk: its state, and what each call answers (document 01, 'The walk'; document 02, request 4). The state is the
+-- code's struct `Walk`. A walk that is passed in may hold anything, so a flag past a row's end is none, and switches stay at
+-- their most.
 use Prim.Native.Nat.{ℕ, zero, suc, _+_, _-_}
 use mathlib.Core.List.{List, [], _∷_, _++_, map}
 use mathlib.Core.Bool.{Bool, true, false, _||_, _&&_, not}
@@ -16,19 +17,34 @@ use Rattle.walk.specs.declared.Walk.{Walk}
 use Rattle.walk.specs.declared.Walked.{Walked}
 use Rattle.walk.specs.declared.Rows.{Rows}
 use Rattle.walk.specs.declared.Choice.{Choice}
+use Rattle.walk.specs.declared.Way.{Way}
+use Rattle.walk.specs.declared.Way.the-variants.{EveryLook, Once, Fixed}
 
--- ## Connection types
+-- ## Connection types: the ways to walk
 
--- those that looks serve; every other counts as fixed
-unfoldable pub served : List ℕ
-served = 0x0800 ∷ 0x8800 ∷ 0x0900 ∷ []
+-- autosensed at every look
+unfoldable pub everyLook : List ℕ
+everyLook = 0x0800 ∷ 0x0900 ∷ []
 
-unfoldable pub isServed : ℕ → Bool
-isServed connection = isIn connection served
+-- autosensed once: a settled walk stays. An empty word, 0xFFFF, is walked as 0x8800 (document 02, request 4)
+unfoldable pub once : List ℕ
+once = 0x8800 ∷ 0xFFFF ∷ []
 
--- the one under which a settled walk stays
-abbrev pub powerUpOnly : ℕ
-powerUpOnly = 0x8800
+-- every other is fixed
+unfoldable pub wayOf : ℕ → Way
+wayOf connection = pick (isIn connection everyLook) EveryLook (pick (isIn connection once) Once Fixed)
+
+-- whether a settled walk stays
+abbrev pub isOnce : Way → Bool
+isOnce EveryLook = false
+isOnce Once = true
+isOnce Fixed = false
+
+-- whether looks are refused
+abbrev pub isFixed : Way → Bool
+isFixed EveryLook = false
+isFixed Once = false
+isFixed Fixed = true
 
 -- ## Rows of flags
 
@@ -103,11 +119,11 @@ lastBelow p (suc n) = pick (p n) n (lastBelow p n)
 abbrev pub isUp : List ℕ → ℕ → Bool
 isUp report k = flagAt report k
 
--- 1: settled with a block selected, it stays where the type is 0x8800, or it has Active_Invalid, or it is up
+-- 1: settled with a block selected, it stays where the type is autosensed once, or it has Active_Invalid, or it is up
 unfoldable pub stays : Walk → List ℕ → Bool
 stays w report =
     w .settled && not (eqb (w .selected) none)
-    && (eqb (w .connection) powerUpOnly || flagAt (w .rows .«active_invalid») (w .selected) || isUp report (w .selected))
+    && (isOnce (wayOf (w .connection)) || flagAt (w .rows .«active_invalid») (w .selected) || isUp report (w .selected))
 
 -- 2: the candidates are all listed entries, or, once settled, those without Active_Invalid
 unfoldable pub isCandidate : List ℕ → List ℕ → Bool → ℕ → Bool
@@ -159,7 +175,7 @@ badReport report blocks = ltb (length report) blocks || anyBelow (λ k. ltb 1 (b
 unfoldable pub lookCauses : Walk → List ℕ → List Cause
 lookCauses w report =
     (20 ⇒ not (w .loaded))
-    ∷ (22 ⇒ not (isServed (w .connection)))
+    ∷ (22 ⇒ isFixed (wayOf (w .connection)))
     ∷ (23 ⇒ eqb (w .looks) mostLooks)
     ∷ (19 ⇒ badReport report (w .blocks))
     ∷ []

@@ -1,4 +1,4 @@
-// The autosense walk: its record, and what a call answers (document 01, 'The walk').
+// The autosense walk: its record, and what a call answers (document 01, 'The walk'; document 02, request 4).
 
 // A flag for each block, by its number: whether it is listed, and whether it is and has Active_Invalid.
 #[repr(C)]
@@ -32,4 +32,11 @@ pub struct Walked {
 pub struct Choice {
     pub settled: bool,
     pub selected: u8,
+}
+
+// How a walk goes by its connection type: autosensed at every look, autosensed once, or fixed.
+pub enum Way {
+    EveryLook,
+    Once,
+    Fixed,
 }

@@ -3,7 +3,7 @@
 use Prim.Native.Nat.{ℕ, _/_, _%_}
 use mathlib.Core.List.{List, [], _∷_, _++_, map}
 use mathlib.Core.Bool.{Bool, true, false}
-use lib.ListN.{take, replicate, set}
+use lib.ListN.{take, drop, replicate, set}
 use Rattle.rom.specs.declared.Layout.{Layout}
 use Rattle.rom.specs.Geometry.{withoutMagic, withMagic, imageLength, checkedLength, none}
 use Rattle.rom.specs.Bytes.{pick}
@@ -87,11 +87,15 @@ worked c =
 abbrev read : Layout → leaves.LeafCase → ImageCase
 read l c = record { layout = l; reading = c; calls = []; seen = [] }
 
--- b under a connection type with this high byte, walked with reports 000, 101, 100
+-- the leaf of b under a connection type, low byte first
+abbrev leafUnder : ℕ → List ℕ
+leafUnder connection = connection % 256 ∷ connection / 256 ∷ drop 2 (leaves.leafB 0)
+
+-- read as b is, and walked with reports 000, 101, 100
 abbrev walked : Layout → ℕ → List After → ImageCase
-walked l high seen = record {
+walked l connection seen = record {
   layout = l;
-  reading = leaves.caseB high;
+  reading = leaves.accepted 21143 6 (leafUnder connection) 2 0 1 (2 ∷ 2 ∷ []) (42 ∷ 33 ∷ []);
   calls = load ∷ look (0 ∷ 0 ∷ 0 ∷ []) ∷ look (1 ∷ 0 ∷ 1 ∷ []) ∷ look (1 ∷ 0 ∷ 0 ∷ []) ∷ [];
   seen = seen;
 }
@@ -100,11 +104,12 @@ walked l high seen = record {
 abbrev pub then : Bool → ℕ → ℕ → ℕ → After
 then settled selected looks switches = record { number = 0; walk = loaded settled selected looks switches }
 
--- k, and under 0x8800
+-- k, and under 0x8800 and 0xFFFF
 abbrev caseK : Layout → List ImageCase
 caseK l =
-    walked l 0x08 (then false none 0 0 ∷ then false none 1 0 ∷ then true 2 2 1 ∷ then true 0 3 2 ∷ [])
-    ∷ walked l 0x88 (then false none 0 0 ∷ then false none 1 0 ∷ then true 2 2 1 ∷ then true 2 3 1 ∷ [])
+    walked l 0x0800 (then false none 0 0 ∷ then false none 1 0 ∷ then true 2 2 1 ∷ then true 0 3 2 ∷ [])
+    ∷ walked l 0x8800 (then false none 0 0 ∷ then false none 1 0 ∷ then true 2 2 1 ∷ then true 2 3 1 ∷ [])
+    ∷ walked l 0xFFFF (then false none 0 0 ∷ then false none 1 0 ∷ then true 2 2 1 ∷ then true 2 3 1 ∷ [])
     ∷ []
 
 -- a to k

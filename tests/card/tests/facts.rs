@@ -7,11 +7,11 @@ use second::layout::{LAYOUTS, Layout};
 use second::magic::{LAST_RESERVED, Magic, RESERVED, read_magic, write_magic};
 use second::random::Random;
 use second::reader::{
-    Answer, Arguments, CHIPS, COMPACT, MEDIA_21041, NEWEST_LEVEL, NO_DEFAULT, controller_offset,
-    first_leaf, header_size, read_all, starts,
+    Answer, Arguments, CHIPS, COMPACT, MEDIA_21041, NEWEST_LEVEL, NO_DEFAULT, connections,
+    controller_offset, first_leaf, header_size, read_all, starts,
 };
 use second::sheet;
-use second::walk::{Autosense, NONE};
+use second::walk::{Autosense, NONE, Way};
 use std::collections::{BTreeMap, BTreeSet};
 use std::fs;
 use std::path::Path;
@@ -674,7 +674,7 @@ fn is_walked(name: &str, image: &[u8], arguments: Arguments, random: &mut Random
         "walk --level {level} samples/{name} {chip} {first}{magic} --controller {controller} {last}"
     ));
     let lines: Vec<_> = run.written.lines().collect();
-    assert_eq!(lines.len(), 1 + reports.len(), "{name}\n{}", run.written);
+    assert_eq!(lines.len(), 2 + reports.len(), "{name}\n{}", run.written);
     let laid_out = if layout.magic {
         ", Magic Packet layout"
     } else {
@@ -685,8 +685,9 @@ fn is_walked(name: &str, image: &[u8], arguments: Arguments, random: &mut Random
         starts.len()
     );
     assert_eq!(lines[0], loaded, "{name}");
+    assert_eq!(lines[1], way_line(walk.walk().connection), "{name}");
     let mut refused = false;
-    for (report, line) in reports.iter().zip(&lines[1..]) {
+    for (report, line) in reports.iter().zip(&lines[2..]) {
         let links: Vec<u8> = report.bytes().map(|digit| digit - b'0').collect();
         let number = walk.look(&links);
         refused |= number != 0;
@@ -711,6 +712,31 @@ fn is_walked(name: &str, image: &[u8], arguments: Arguments, random: &mut Random
     }
     assert_eq!(run.status, i32::from(refused), "{name}");
     true
+}
+
+/// A connection type and its way to walk.
+fn way_line(connection: u16) -> String {
+    let way = match Way::of(connection) {
+        Way::EveryLook => "autosensed at every look",
+        Way::Once => "autosensed once",
+        Way::Fixed => "fixed",
+    };
+    format!("  connection type 0x{connection:04x}, {way}")
+}
+
+/// "every other type counts as fixed", and a look under it is refused: each type of each chip.
+#[test]
+fn ways_to_walk() {
+    let file = temporary("ways_to_walk").join("card.rom");
+    for chip in CHIPS {
+        for connection in connections(chip) {
+            fs::write(&file, Card::tidy(chip, connection, vec![]).image()).unwrap();
+            let run = card(&format!("walk {} {chip} 0", file.display()));
+            let is_fixed = Way::of(connection) == Way::Fixed;
+            assert_eq!(run.written.lines().nth(1), Some(&*way_line(connection)));
+            assert_eq!(run.status, i32::from(is_fixed), "{}", run.written);
+        }
+    }
 }
 
 /// A report for so many blocks in digits, now and then too short or too long.

@@ -1,5 +1,5 @@
 //! The sentences of `./card older`, held to all walks of the second implementation: every list of looks, a reader and an older
-//! one side by side (document 01, 'The walk' and demand 3).
+//! one side by side (document 01, 'The walk' and demand 3; document 02, request 4).
 
 use card::{card, samples, temporary, words};
 use second::calls::{block_count, mark, serve};
@@ -7,7 +7,7 @@ use second::images::{Card, block};
 use second::layout::LAYOUTS;
 use second::random::Random;
 use second::reader::{Arguments, CHIPS, COMPACT, NEWEST_LEVEL, read_all, starts};
-use second::walk::{SERVED, Walk, fast};
+use second::walk::{AUTOSENSE, AUTOSENSE_ONCE, EMPTY_CONNECTION, Walk, Way, fast};
 use std::collections::{BTreeSet, VecDeque};
 use std::fmt::Write as _;
 use std::fs;
@@ -131,7 +131,8 @@ fn named(blocks: &[usize]) -> String {
     words
 }
 
-/// How many sentences of each kind were held, and how many of them name more blocks than they have room for.
+/// How many sentences of each kind were held, how many of them name more blocks than they have room for, and how many are of a
+/// card with an empty connection word.
 #[derive(Debug, Default)]
 struct Tally {
     whatever: usize,
@@ -139,6 +140,7 @@ struct Tally {
     no: usize,
     fixed: usize,
     long: usize,
+    empty: usize,
 }
 
 impl Tally {
@@ -203,10 +205,11 @@ impl Tally {
         let (_, below) = run.written.rsplit_once("\n\n").unwrap();
         let mut lines = below.lines();
         let connection = read_all(image, reader).0.connection;
-        if SERVED.contains(&connection) {
+        if Way::of(connection) != Way::Fixed {
             assert_eq!(lines.next(), Some(&*title(reader.level)));
             for level in 0..reader.level {
                 self.hold(&mut lines, image, reader, level);
+                self.empty += usize::from(connection == EMPTY_CONNECTION);
             }
         } else {
             let fixed = "The connection type is fixed, so that no driver looks: all stand alike.";
@@ -263,7 +266,8 @@ fn random_card(random: &mut Random, chip: u16) -> Card {
     }
 }
 
-/// Cards that lose more blocks than a sentence names: with a default that stays, with one that goes, and with none.
+/// Cards that lose more blocks than a sentence names: with a default that stays, with one that goes, and with none; one of them
+/// has an empty connection word.
 fn long_cards() -> Vec<(Card, u16)> {
     let sias = |count| vec![block::sia(0, None, 1, 2); count];
     let with = |block, mut blocks: Vec<Vec<u8>>| {
@@ -274,9 +278,15 @@ fn long_cards() -> Vec<(Card, u16)> {
     let compact = block::compact(0, 0, 0x4000);
     let non_miis = vec![block::non_mii(3, 0, 0); 9];
     vec![
-        (Card::tidy(21140, SERVED[1], with(compact, non_miis)), 21140),
-        (Card::tidy(21143, SERVED[0], with(symbol, sias(10))), 21143),
-        (Card::tidy(21142, SERVED[0], sias(MOST_BLOCKS)), 21142),
+        (
+            Card::tidy(21140, AUTOSENSE_ONCE, with(compact, non_miis)),
+            21140,
+        ),
+        (Card::tidy(21143, AUTOSENSE, with(symbol, sias(10))), 21143),
+        (
+            Card::tidy(21142, EMPTY_CONNECTION, sias(MOST_BLOCKS)),
+            21142,
+        ),
     ]
 }
 
@@ -314,9 +324,10 @@ fn older_sentences() {
         no,
         fixed,
         long,
+        empty,
     } = tally;
-    let least = [whatever, while_down, no, fixed, long].into_iter().min();
-    assert!(least > Some(2), "{tally:?}");
+    let counts = [whatever, while_down, no, fixed, long, empty];
+    assert!(counts.into_iter().min() > Some(2), "{tally:?}");
 }
 
 /// A card that is refused with 31 is read at every level below (document 02, request 3), and of the others nothing is

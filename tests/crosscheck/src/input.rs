@@ -4,6 +4,7 @@ use crate::tally::{Name, Tally};
 use library::compare::{self, Difference, Pair};
 use library::lent::hex;
 use library::levels::Older;
+use library::twins::Twins;
 use library::{Layout, Magic};
 use second::calls::{Call, Step};
 use second::reader::Arguments;
@@ -38,6 +39,12 @@ pub enum Input {
         level: u8,
         list: Vec<Call>,
     },
+    /// Looks at a walk that has read the image, under 0xFFFF and under 0x8800.
+    Twins {
+        image: Vec<u8>,
+        arguments: Arguments,
+        reports: Vec<Vec<u8>>,
+    },
     /// To an image with these bytes.
     Write {
         sheet: Vec<u8>,
@@ -53,7 +60,8 @@ pub enum Input {
 }
 
 impl Input {
-    /// Makes the calls of both implementations, as far as the first difference.
+    /// Makes the calls of both implementations, or of both levels or types, as far as the first
+    /// difference.
     pub fn compare(&self, tally: &mut Tally) -> Result<(), Difference> {
         match self {
             Self::SromCrc(image, layout) => {
@@ -92,6 +100,11 @@ impl Input {
                 level,
                 list,
             } => compare_levels(image, *arguments, *level, list, tally)?,
+            Self::Twins {
+                image,
+                arguments,
+                reports,
+            } => compare_twins(image, *arguments, reports, tally)?,
             Self::Write {
                 sheet,
                 layout,
@@ -118,6 +131,7 @@ impl Input {
         match self {
             Self::Walk(steps) => 1 + steps.iter().map(|(_, times)| times).sum::<usize>(),
             Self::Levels { list, .. } => 4 + 2 * list.len(),
+            Self::Twins { reports, .. } => 2 + 3 * reports.len(),
             _ => 1,
         }
     }
@@ -175,6 +189,30 @@ fn compare_levels(
     shown.difference.map_or(Ok(()), Err)
 }
 
+/// Document 02, request 4: "Such a card walks as 0x8800 does." Where the image is not loaded, there
+/// is no such walk.
+fn compare_twins(
+    image: &[u8],
+    arguments: Arguments,
+    reports: &[Vec<u8>],
+    tally: &mut Tally,
+) -> Result<(), Difference> {
+    let mut pair = Pair::fresh()?;
+    tally.count(Name::Fresh, 0);
+    let number = pair.load(image, arguments)?;
+    tally.count(Name::Load, number);
+    if number > 0 {
+        return Ok(());
+    }
+    let count = |number| {
+        tally.count(Name::Look, number);
+        tally.count(Name::Look, number);
+    };
+    let shown = Twins::of(pair.library).look_at_all(reports, count)?;
+    tally.twins.add(shown);
+    Ok(())
+}
+
 /// The calls of a list, a line for each, and a line that leads to the one that differs; nothing for
 /// a single call, which its difference shows.
 impl Display for Input {
@@ -208,6 +246,19 @@ impl Display for Input {
                 writeln!(formatter, "srom_read at both levels, srom_fresh")?;
                 for call in list {
                     writeln!(formatter, "{call}")?;
+                }
+                writeln!(formatter, "the call that differs:")
+            }
+            Self::Twins {
+                image,
+                arguments,
+                reports,
+            } => {
+                writeln!(formatter, "srom_fresh")?;
+                writeln!(formatter, "srom_load {arguments:?} [{}]", hex(image))?;
+                writeln!(formatter, "under 0xffff and under 0x8800")?;
+                for report in reports {
+                    writeln!(formatter, "srom_look [{}]", hex(report))?;
                 }
                 writeln!(formatter, "the call that differs:")
             }

@@ -1,7 +1,8 @@
-//! Drives every call of the library against the second implementation, with random, damaged and
-//! sequenced inputs: `cargo run --release -p crosscheck -- SECONDS SEED [ROUNDS]`. Where ROUNDS is
-//! given, it decides instead of the clock. The status is 0, 1 at a difference, which is shown with
-//! the smallest input found for it, and 2 for wrong arguments.
+//! Drives every call of the library against the second implementation, and looks under 0xFFFF against
+//! looks under 0x8800, with random, damaged and sequenced inputs:
+//! `cargo run --release -p crosscheck -- SECONDS SEED [ROUNDS]`. Where ROUNDS is given, it decides
+//! instead of the clock. The status is 0, 1 at a difference, which is shown with the smallest input
+//! found for it, and 2 for wrong arguments.
 
 mod input;
 mod rounds;

@@ -12,6 +12,7 @@ use second::reader::{Arguments, NEWEST_LEVEL, read_all};
 use second::sheet;
 use second::sheets::tidy::{TIDY_DAMAGES, damaged, tidy, untidy};
 use second::sheets::{SHEET_DAMAGES, Sheet};
+use second::walk::AUTOSENSE;
 
 /// One round in so many walks until no look is left.
 const SPENT_RARITY: u64 = 1_024;
@@ -53,6 +54,7 @@ impl Iterator for Rounds {
             inputs.extend(levels(random, layout));
             inputs.extend(writings(random, layout));
         }
+        inputs.push(twins(random));
         inputs.extend(makings(random));
         if self.number.is_multiple_of(SPENT_RARITY) {
             inputs.push(spent(random));
@@ -226,16 +228,29 @@ fn levels(random: &mut Random, layout: Layout) -> Vec<Input> {
     (0..NEWEST_LEVEL).map(level).collect()
 }
 
+/// Looks at a card with an empty connection word.
+fn twins(random: &mut Random) -> Input {
+    let Sample { card, arguments } = calls::emptied(random);
+    let image = card.image();
+    let habits = Habits::new(random, calls::block_count(&image, arguments));
+    let count = 1 + random.below(16);
+    Input::Twins {
+        image: image.to_vec(),
+        arguments,
+        reports: habits.reports(random, count),
+    }
+}
+
 /// "23 looks at 65,535": a walk of two media that looks as often and some times more, is cleared
 /// and looks again.
 fn spent(random: &mut Random) -> Input {
     let media = [0, 1].map(|code| block::sia(code, None, 0, 0));
-    let connection = random.pick(&[0x0800, 0x8800]);
     let layout = random.pick(&LAYOUTS);
-    let card = Card {
+    let mut card = Card {
         magic: MagicBlock::of_layout(random, layout),
-        ..Card::tidy(21143, connection, media.to_vec())
+        ..Card::tidy(21143, AUTOSENSE, media.to_vec())
     };
+    calls::serve(random, &mut card);
     let image = card.image();
     let arguments = Arguments::newest(21143).laid_out(layout);
     let load = Step::Load(image.to_vec(), arguments);

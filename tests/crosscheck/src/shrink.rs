@@ -235,6 +235,7 @@ fn list_length(input: &Input) -> usize {
     match input {
         Input::Walk(steps) => steps.len(),
         Input::Levels { list, .. } => list.len(),
+        Input::Twins { reports, .. } => reports.len(),
         _ => 0,
     }
 }
@@ -245,6 +246,7 @@ fn drop_calls(input: &mut Input, first: usize, calls: usize) {
     match input {
         Input::Walk(steps) => drop(steps.drain(dropped)),
         Input::Levels { list, .. } => drop(list.drain(dropped)),
+        Input::Twins { reports, .. } => drop(reports.drain(dropped)),
         _ => {}
     }
 }
@@ -287,7 +289,8 @@ fn layouts(input: &mut Input) -> Vec<&mut Layout> {
         | Input::MakeSheet { layout, .. } => vec![layout],
         Input::Read { arguments, .. }
         | Input::View { arguments, .. }
-        | Input::Levels { arguments, .. } => vec![&mut arguments.layout],
+        | Input::Levels { arguments, .. }
+        | Input::Twins { arguments, .. } => vec![&mut arguments.layout],
         Input::Walk(steps) => {
             let layouts = steps.iter_mut().filter_map(|(step, _)| match step {
                 Step::Load(_, arguments) => Some(&mut arguments.layout),
@@ -345,6 +348,15 @@ fn rows(input: &mut Input) -> Vec<Row<'_>> {
                 Call::Look(report) => Some(Row::new(report, Sort::Other)),
                 _ => None,
             });
+            let image = Row::new(image, Sort::Image(*arguments));
+            [image].into_iter().chain(reports).collect()
+        }
+        Input::Twins {
+            image,
+            arguments,
+            reports,
+        } => {
+            let reports = reports.iter_mut().map(|it| Row::new(it, Sort::Other));
             let image = Row::new(image, Sort::Image(*arguments));
             [image].into_iter().chain(reports).collect()
         }

@@ -1,5 +1,6 @@
 //! What was called and answered, as tables.
 
+use library::twins::Shown;
 use second::reader::NEWEST_LEVEL;
 
 const HIGHEST_REFUSAL: usize = 31;
@@ -39,13 +40,15 @@ const NAMES: [&str; 13] = [
     "make_sheet",
 ];
 
-/// How often each call answered each number, and what demand 3's lists showed.
+/// How often each call answered each number, what demand 3's lists showed, and what looks under an
+/// empty connection word showed.
 #[derive(Default)]
 pub struct Tally {
     numbers: [[u64; HIGHEST_REFUSAL + 1]; NAMES.len()],
     /// Views that handed back an empty part; they have no number.
     empty_views: u64,
     pub levels: [Level; NEWEST_LEVEL as usize],
+    pub twins: Shown,
 }
 
 /// What the lists at one older level showed.
@@ -78,7 +81,7 @@ impl Tally {
     }
 
     /// The numbers that were answered, a row for each, with a column for each call; then the lists
-    /// of demand 3, a row for each older level.
+    /// of demand 3, a row for each older level; then the looks under 0xFFFF.
     pub fn table(&self) -> String {
         let mut table = row("number", NAMES.map(String::from));
         for number in 0..=HIGHEST_REFUSAL {
@@ -105,6 +108,16 @@ impl Tally {
             ];
             table += &row(&level.to_string(), cells.map(cell));
         }
+        let titles = ["lists", "looks", "selected", "kept"];
+        table += &row("\ntype", titles.map(String::from));
+        let Shown {
+            lists,
+            looks,
+            selections,
+            kept,
+        } = self.twins;
+        let cells = [lists, looks, selections, kept].map(|often| cell(often as u64));
+        table += &row("0xffff", cells);
         table
     }
 }

@@ -30,3 +30,16 @@ fn same_table() {
     assert!(text.contains("seed 1, rounds 20, "), "{text}");
     assert!(text.ends_with(" differences 0\n"), "{text}");
 }
+
+/// Document 02, request 4: lists of looks under 0xFFFF are held to 0x8800, and some of them would part
+/// under 0x0800.
+#[test]
+fn looks_under_an_empty_connection_word() {
+    let text = String::from_utf8(run(&["0", "1", "20"]).stdout).expect("the table is text");
+    let mut rows = text.lines().map(str::split_whitespace);
+    let row = rows.find_map(|mut cells| (cells.next() == Some("0xffff")).then_some(cells));
+    let cells: Vec<_> = row.expect("a row for the type").collect();
+    // A number that is 0 leaves its cell empty.
+    assert_eq!(cells.len(), 4, "{text}");
+    assert_eq!(cells[0], "20", "{text}");
+}

@@ -300,16 +300,19 @@ impl Pair {
         let call = || format!("{}\nbefore  {}", call(), walk_text(&before));
         let is_changed = number > 0 && walked.walk != before;
         let refused = is_changed.then(|| "a walk that the refused call changed".into());
-        let walked = judge_as(call, [walked, second], [fault, refused], |walked| {
-            format!("{} {}", walked.number, walk_text(&walked.walk))
-        })?;
+        let walked = judge_as(call, [walked, second], [fault, refused], walked_text)?;
         self.library = walked.walk;
         Ok(number)
     }
 }
 
+/// A call's number and the walk after it.
+pub(crate) fn walked_text(walked: &Walked) -> String {
+    format!("{} {}", walked.number, walk_text(&walked.walk))
+}
+
 /// The walk's fields, its rows in hex as far as their last byte that is not 0.
-fn walk_text(walk: &Walk) -> String {
+pub(crate) fn walk_text(walk: &Walk) -> String {
     let row = |row: &[u8]| {
         let length = row
             .iter()

@@ -4,6 +4,7 @@
 pub mod compare;
 pub mod lent;
 pub mod levels;
+pub mod twins;
 
 pub use second::crc::Checksum;
 pub use second::layout::Layout;

@@ -13,7 +13,10 @@ use second::reader::{
     self, Answer, Arguments, CHIPS, COMPACT, MEDIA_21041, NEWEST_LEVEL, NO_DEFAULT,
 };
 use second::sheet::{self, LONGEST_SHEET, Made};
-use second::walk::{Autosense, NONE, Rows, SERVED, Walk, Walked};
+use second::walk::{
+    AUTOSENSE, AUTOSENSE_NWAY, AUTOSENSE_ONCE, Autosense, EMPTY_CONNECTION, NONE, Rows, Walk,
+    Walked, Way,
+};
 use std::collections::{BTreeMap, BTreeSet};
 use std::fs;
 use std::mem::{offset_of, size_of};
@@ -227,7 +230,6 @@ const REFUSALS: [&str; 31] = [
 /// Each number that the header names is the second implementation's, or the documents'.
 #[test]
 fn header_numbers() {
-    let [autosense, once, nway] = SERVED;
     let mut expected = vec![
         ("IMAGE_LENGTH".to_owned(), IMAGE_LENGTH),
         ("LONGEST_SHEET".to_owned(), LONGEST_SHEET),
@@ -235,9 +237,10 @@ fn header_numbers() {
         ("NONE".to_owned(), NONE.into()),
         ("KIND_COMPACT".to_owned(), COMPACT.into()),
         ("KIND_21041".to_owned(), MEDIA_21041.into()),
-        ("AUTOSENSE".to_owned(), autosense.into()),
-        ("AUTOSENSE_ONCE".to_owned(), once.into()),
-        ("AUTOSENSE_NWAY".to_owned(), nway.into()),
+        ("AUTOSENSE".to_owned(), AUTOSENSE.into()),
+        ("AUTOSENSE_ONCE".to_owned(), AUTOSENSE_ONCE.into()),
+        ("AUTOSENSE_NWAY".to_owned(), AUTOSENSE_NWAY.into()),
+        ("EMPTY_CONNECTION".to_owned(), EMPTY_CONNECTION.into()),
     ];
     expected.extend(CHIPS.map(|chip| (chip.to_string(), chip.into())));
     let numbers = (0..=27).chain(29..);
@@ -558,7 +561,7 @@ fn is_step(step: Step, before: &Walk, links: &[u8], number: u8, after: &Walk) ->
     let is_listed = |block: usize| before.rows.listed[block] == 1;
     let mut ups = (0..links.len()).filter(|&block| links[block] == 1);
     let (from, to) = (before.selected, after.selected);
-    let is_once = before.connection == SERVED[1];
+    let is_once = Way::of(before.connection) == Way::Once;
     let was_default = from == before.default_number;
     let on_default = to == before.default_number && to != NONE && !is_up(to);
     let with_none_up = on_default && ups.clone().next().is_none();
@@ -628,6 +631,13 @@ fn scenes() -> Vec<Scene> {
         fs::write(&file, Card::tidy(21143, connection, blocks).image()).unwrap();
         file
     };
+    let sensed_once = vec![
+        ("00", DefaultBefore),
+        ("00", DefaultAgainBefore),
+        ("10", FirstBefore),
+        ("01", StaysOnce),
+        ("00", StaysOnce),
+    ];
     vec![
         (
             sample("replacement-card.rom"),
@@ -693,14 +703,14 @@ fn scenes() -> Vec<Scene> {
         ),
         // "If settled": a default that is selected before does not make it stay.
         (
-            made("probe-once.rom", SERVED[1]),
+            made("probe-once.rom", AUTOSENSE_ONCE),
             21143,
-            vec![
-                ("00", DefaultBefore),
-                ("00", DefaultAgainBefore),
-                ("10", FirstBefore),
-                ("01", StaysOnce),
-            ],
+            sensed_once.clone(),
+        ),
+        (
+            made("probe-empty.rom", EMPTY_CONNECTION),
+            21143,
+            sensed_once,
         ),
         (
             made("probe-fixed.rom", 0),
@@ -710,7 +720,8 @@ fn scenes() -> Vec<Scene> {
     ]
 }
 
-/// Document 01, 'The walk': the probe says of each kind of step what happened, and every kind is met.
+/// Document 01, 'The walk', and document 02, request 4: the probe says of each kind of step what happened, and every kind is
+/// met.
 #[test]
 fn probe_tells_every_step() {
     let mut told = BTreeSet::new();

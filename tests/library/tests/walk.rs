@@ -1,14 +1,16 @@
-//! The walk of the library against the second implementation, and the newest reader's walk against
-//! those of older levels.
+//! The walk of the library against the second implementation, the newest reader's walk against those
+//! of older levels, and a walk under 0xFFFF against one under 0x8800.
 
 use library::compare::{Pair, agreed};
 use library::levels::Older;
+use library::twins::{Shown, Twins};
 use second::calls::{self, Call, Habits, Step};
+use second::cases::{CASES_K, REPORTS_K, card_b};
 use second::images::{Card, block};
 use second::layout::{LAYOUTS, Layout};
 use second::random::Random;
 use second::reader::{self, Arguments, NEWEST_LEVEL};
-use second::walk::NONE;
+use second::walk::{EMPTY_CONNECTION, NONE, ROW_LENGTH, Rows, Walk};
 use std::io::{self, Write as _};
 use std::thread;
 
@@ -84,6 +86,7 @@ fn spent_looks() -> Tally {
             Some(65_535),
         ),
         (Card::tidy(21143, 0x8800, vec![sia(0), sia(1)]), Some(1)),
+        (Card::tidy(21143, 0xFFFF, vec![sia(0), sia(1)]), Some(1)),
         (
             Card::tidy(21041, 0x0900, vec![vec![0], vec![1]]),
             Some(65_535),
@@ -156,40 +159,98 @@ fn library_walks_as_second() {
     }
     table += &format!("{} lists, {} clears\n", total.lists, total.clears);
     print(&table);
-    for number in 0..=HIGHEST_REFUSAL {
-        for (call, often, numbers) in [
-            ("load", total.loads, LOAD_NUMBERS.as_slice()),
-            ("look", total.looks, &LOOK_NUMBERS),
-        ] {
-            let often = often[number];
-            let is_right = match numbers.contains(&number) {
-                true => often >= LEAST_OFTEN,
-                false => often == 0,
-            };
-            assert!(is_right, "{call} answered {number} {often} times");
-        }
-    }
+    assert_answered("load", &total.loads, &LOAD_NUMBERS);
+    assert_answered("look", &total.looks, &LOOK_NUMBERS);
     assert!(total.lists >= LEAST_LISTS, "only {} lists", total.lists);
 }
 
+/// A call has answered each number that it can a thousand times, and no other.
+fn assert_answered(call: &str, often: &[usize], can_answer: &[usize]) {
+    for (number, &often) in often.iter().enumerate() {
+        let is_right = match can_answer.contains(&number) {
+            true => often >= LEAST_OFTEN,
+            false => often == 0,
+        };
+        assert!(is_right, "{call} answered {number} {often} times");
+    }
+}
+
 /// "k b, reports 000, 101, 100: none, block 2, block 0, 2 switches; under 0x8800: none, 2, 2, 1
-/// switch."
+/// switch", and so under 0xFFFF.
 #[test]
 fn case_k() {
-    let sia = |code| vec![0x86, 0x02, code, 0x01, 0x00, 0x02, 0x00];
-    let blocks = vec![sia(0), vec![0x81, 0x09], sia(1)];
-    let arguments = Arguments::newest(21143);
-    for (connection, expected, switches) in [(0x0800, [NONE, 2, 0], 2), (0x8800, [NONE, 2, 2], 1)] {
-        let image = Card::tidy(21143, connection, blocks.clone()).image();
-        let walked = library::load(library::fresh(), &image, arguments);
+    for case in CASES_K {
+        let image = card_b(case.connection).image();
+        let walked = library::load(library::fresh(), &image, Arguments::newest(21143));
         assert_eq!(walked.number, 0);
         let mut walk = walked.walk;
-        for (report, selected) in [[0, 0, 0], [1, 0, 1], [1, 0, 0]].iter().zip(expected) {
+        for (report, selected) in REPORTS_K.iter().zip(case.selected) {
             let walked = library::look(walk, report);
             assert_eq!((walked.number, walked.walk.selected), (0, selected));
             walk = walked.walk;
         }
-        assert_eq!((walk.looks, walk.switches), (3, switches));
+        assert_eq!((walk.looks, walk.switches), (3, case.switches));
+    }
+}
+
+/// "Such a card walks as 0x8800 does. Refusal 22 no longer meets it": of two walks that are equal but
+/// for the connection type, each look of a list answers the same number and leaves them equal but for
+/// it. The walks have read a card with an empty connection word, or have anything in their fields.
+#[test]
+fn empty_connection_walks_as_0x8800() {
+    let mut random = Random::new(202);
+    let mut numbers = [[0; HIGHEST_REFUSAL + 1]; 2];
+    let mut totals = [Shown::default(); 2];
+    for _ in 0..20_000 {
+        let sample = calls::emptied(&mut random);
+        let walked = library::load(library::fresh(), &sample.card.image(), sample.arguments);
+        assert_eq!(
+            (walked.number, walked.walk.connection),
+            (0, EMPTY_CONNECTION)
+        );
+        let walks = [walked.walk, any_walk(&mut random)];
+        for ((walk, numbers), total) in walks.into_iter().zip(&mut numbers).zip(&mut totals) {
+            let habits = Habits::new(&mut random, walk.blocks.into());
+            let reports = habits.reports(&mut random, 8);
+            let count = |number: u8| numbers[usize::from(number)] += 1;
+            total.add(agreed(Twins::of(walk).look_at_all(&reports, count)));
+        }
+    }
+    print(&format!("0xFFFF as 0x8800: {totals:?}\n"));
+    assert_answered("look at a loaded walk", &numbers[0], &[0, 19]);
+    assert_answered("look at any walk", &numbers[1], &[0, 19, 20, 23]);
+    for total in totals {
+        assert!(total.kept >= LEAST_OFTEN, "{totals:?}");
+    }
+}
+
+/// A walk with anything in its fields, mostly loaded.
+fn any_walk(random: &mut Random) -> Walk {
+    let mut number = || {
+        let any = random.byte();
+        random.pick(&[0, 1, 3, 90, 127, 128, 254, NONE, any])
+    };
+    let (blocks, default_number, selected) = (number(), number(), number());
+    let mut row = || [(); ROW_LENGTH].map(|()| random.pick(&[0, 0, 1, 1, 2, 255]));
+    let (listed, active_invalid) = (row(), row());
+    let mut count = || {
+        let any = random.word();
+        random.pick(&[0, u16::MAX - 1, u16::MAX, any, any, any])
+    };
+    let (looks, switches) = (count(), count());
+    Walk {
+        loaded: !random.one_in(16),
+        connection: EMPTY_CONNECTION,
+        blocks,
+        rows: Rows {
+            listed,
+            active_invalid,
+        },
+        default_number,
+        settled: random.one_in(2),
+        selected,
+        looks,
+        switches,
     }
 }
 
@@ -201,9 +262,11 @@ struct Levels {
     with_power: usize,
     /// Lists under both conditions with a removed entry in the newest table.
     with_removed: usize,
-    /// Looks in those that were accepted, and that left a block selected.
+    /// Looks in those that were accepted, that left a block selected, and that left one under an empty
+    /// connection word.
     looks: usize,
     selections: usize,
+    under_empty: usize,
     /// Lists with a removed default, and those in which the walks were seen to differ.
     with_default: usize,
     default_differs: usize,
@@ -244,6 +307,9 @@ fn older_levels(layout: Layout, images: usize) -> (Tally, [Levels; NEWEST_LEVEL 
             seen.with_removed += usize::from(!older.removed.is_empty());
             seen.looks += shown.looks;
             seen.selections += shown.selections;
+            if newest.connection == EMPTY_CONNECTION {
+                seen.under_empty += shown.selections;
+            }
             let shown = run(&list);
             seen.with_up += usize::from(shown.had_removed_up);
             seen.up_differs += usize::from(shown.difference.is_some());
@@ -259,7 +325,7 @@ fn older_levels(layout: Layout, images: usize) -> (Tally, [Levels; NEWEST_LEVEL 
 /// Demand 3: under its conditions both walks are alike after each call of every list, whatever the
 /// older level; with a removed default, or a removed entry up, differences are found at each level
 /// that removes entries. Levels 5 and 6 remove none, since types 5 and 6 have none. "the older reader's
-/// promise covers both" layouts.
+/// promise covers both" layouts, and "older and newer walks must match" under 0xFFFF too.
 #[test]
 fn older_walks_as_newest() {
     let seen = thread::scope(|scope| {
@@ -272,6 +338,7 @@ fn older_walks_as_newest() {
         for (level, seen) in levels.iter().enumerate() {
             assert!(seen.looks > LEAST_SEEN, "level {level}: {seen:?}");
             assert!(seen.selections > LEAST_SEEN, "level {level}: {seen:?}");
+            assert!(seen.under_empty > LEAST_SEEN, "level {level}: {seen:?}");
             assert!(seen.with_power > LEAST_SEEN, "level {level}: {seen:?}");
             let often = [seen.with_removed, seen.default_differs, seen.up_differs];
             let are_right = match level {
@@ -287,7 +354,8 @@ fn older_walks_as_newest() {
 /// A row for each older level.
 fn levels_table(levels: &[Levels]) -> String {
     let titles = [
-        "lists", "power", "removed", "looks", "selected", "default", "differ", "up", "differ",
+        "lists", "power", "removed", "looks", "selected", "empty", "default", "differ", "up",
+        "differ",
     ];
     let mut table = row("older", &titles);
     for (level, seen) in levels.iter().enumerate() {
@@ -297,6 +365,7 @@ fn levels_table(levels: &[Levels]) -> String {
             seen.with_removed,
             seen.looks,
             seen.selections,
+            seen.under_empty,
             seen.with_default,
             seen.default_differs,
             seen.with_up,

@@ -5,9 +5,9 @@ use crate::images::{Card, DAMAGES, Sample};
 use crate::layout::{LAYOUTS, Layout};
 use crate::random::Random;
 use crate::reader::{
-    ACTIVE_INVALID, Arguments, DEFAULT, HIGHEST_COUNT, controller_offset, header_size,
+    ACTIVE_INVALID, Arguments, DEFAULT, HIGHEST_COUNT, connections, controller_offset, header_size,
 };
-use crate::walk::Autosense;
+use crate::walk::{Autosense, EMPTY_CONNECTION, Way};
 use std::fmt::{self, Display, Formatter};
 
 /// A call of a list. A load takes the image and the arguments that go with the list.
@@ -98,6 +98,11 @@ impl Habits {
         report
     }
 
+    /// So many reports.
+    pub fn reports(&self, random: &mut Random, count: usize) -> Vec<Vec<u8>> {
+        (0..count).map(|_| self.report(random)).collect()
+    }
+
     /// A byte for each block: 1 link up, 0 down.
     pub fn links(&self, random: &mut Random) -> Vec<u8> {
         let link = |_| u8::from(random.one_in(self.rarity));
@@ -156,6 +161,18 @@ pub fn accepted(random: &mut Random, layout: Layout) -> Sample {
     sample
 }
 
+/// A sample of any layout and of a level that is mostly the newest, whose card is accepted and has
+/// empty connection words.
+pub fn emptied(random: &mut Random) -> Sample {
+    let layout = random.pick(&LAYOUTS);
+    let mut sample = accepted(random, layout);
+    for leaf in &mut sample.card.leaves {
+        leaf.connection = EMPTY_CONNECTION;
+    }
+    sample.arguments.level = level(random);
+    sample
+}
+
 /// The arguments of a list's loads, and a card for them that is mostly accepted and served.
 pub fn sample(random: &mut Random) -> Sample {
     let mut sample = match random.below(16) {
@@ -173,19 +190,26 @@ pub fn sample(random: &mut Random) -> Sample {
         serve(random, &mut sample.card);
     }
     mark(random, &mut sample.card);
-    sample.arguments.level = random.pick(&[0, 1, 2, 3, 4, 5, 6, 7, 7, 7, 7, 7, 7]);
+    sample.arguments.level = level(random);
     sample
+}
+
+/// Any level, and mostly the newest.
+fn level(random: &mut Random) -> u8 {
+    random.pick(&[0, 1, 2, 3, 4, 5, 6, 7, 7, 7, 7, 7, 7])
 }
 
 /// Gives every leaf a connection type that looks serve.
 pub fn serve(random: &mut Random, card: &mut Card) {
     for leaf in &mut card.leaves {
-        let served = match leaf.chip {
-            21041 => [0x0800, 0x0900],
-            _ => [0x0800, 0x8800],
-        };
-        leaf.connection = random.pick(&served);
+        leaf.connection = random.pick(&served(leaf.chip));
     }
+}
+
+/// The connection types of a chip that looks serve.
+fn served(chip: u16) -> Vec<u16> {
+    let is_served = |&connection: &u16| Way::of(connection) != Way::Fixed;
+    connections(chip).filter(is_served).collect()
 }
 
 /// Sets Active_Invalid in some of the media that have a command, with or without the default bit.
@@ -232,6 +256,7 @@ pub fn near_lengths(random: &mut Random, count: usize) -> (usize, usize) {
 #[cfg(test)]
 mod tests {
     use super::*;
+    use crate::reader::CHIPS;
 
     /// "From the state, before any from the input": the lists meet each refusal of load and look
     /// but 12 and 23, and mostly acceptance.
@@ -258,6 +283,16 @@ mod tests {
         assert!(met(loads).eq([0].into_iter().chain(numbers)));
         assert!(met(looks).eq([0, 19, 20, 22]));
         assert!(looks[0] > 50_000, "{looks:?}");
+    }
+
+    /// "Looks serve 0x0800, 0x8800 and 0x0900", and by document 02, request 4, 0xFFFF: of each chip's
+    /// row, those that are in it.
+    #[test]
+    fn served_of_each_chip() {
+        for chip in CHIPS {
+            let other = if chip == 21041 { 0x0900 } else { 0x8800 };
+            assert_eq!(served(chip), [0x0800, other, 0xFFFF], "{chip}");
+        }
     }
 
     /// "command bit 15 is Active_Invalid, 14 Default": marked cards hold media with either and

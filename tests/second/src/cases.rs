@@ -1,8 +1,9 @@
 //! The cases a to j that document 01 gives for reading ("Blocks to prove"), as whole images with
-//! the leaf at 30, and what the document says of each.
+//! the leaf at 30, case k, which walks over one of them, and what the document says of each.
 
 use crate::images::{Card, Image, block};
 use crate::reader::Arguments;
+use crate::walk::NONE;
 
 /// A case and the answer to it.
 pub struct Case {
@@ -22,6 +23,50 @@ pub enum Expected {
     Refused(u8),
 }
 
+/// Case k under a connection type.
+pub struct CaseK {
+    pub connection: u16,
+    /// The selected block after each of the reports.
+    pub selected: [u8; 3],
+    pub switches: u16,
+}
+
+/// The reports of case k.
+pub const REPORTS_K: [[u8; 3]; 3] = [[0, 0, 0], [1, 0, 1], [1, 0, 0]];
+
+/// "k b, reports 000, 101, 100: none, block 2, block 0, 2 switches; under 0x8800: none, 2, 2, 1
+/// switch"; under 0xFFFF, by document 02, request 4, "as 0x8800 does".
+pub const CASES_K: [CaseK; 3] = [
+    CaseK {
+        connection: 0x0800,
+        selected: [NONE, 2, 0],
+        switches: 2,
+    },
+    CaseK {
+        connection: 0x8800,
+        selected: [NONE, 2, 2],
+        switches: 1,
+    },
+    CaseK {
+        connection: 0xFFFF,
+        selected: [NONE, 2, 2],
+        switches: 1,
+    },
+];
+
+/// The card of case b under a connection type.
+pub fn card_b(connection: u16) -> Card {
+    Card::tidy(21143, connection, around_unknown())
+}
+
+fn around_unknown() -> Vec<Vec<u8>> {
+    vec![sia(0), vec![0x81, 0x09], sia(1)]
+}
+
+fn sia(code: u8) -> Vec<u8> {
+    vec![0x86, 0x02, code, 0x01, 0x00, 0x02, 0x00]
+}
+
 pub fn cases() -> Vec<Case> {
     use Expected::{Accepted, Refused};
     let newest = Arguments::newest;
@@ -33,8 +78,6 @@ pub fn cases() -> Vec<Case> {
         arguments,
         expected,
     };
-    let sia = |code| vec![0x86, 0x02, code, 0x01, 0x00, 0x02, 0x00];
-    let around_unknown = vec![sia(0), vec![0x81, 0x09], sia(1)];
     let phy = |advertisement| {
         let fields = block::Phy {
             capabilities: 0x7800,
@@ -61,14 +104,14 @@ pub fn cases() -> Vec<Case> {
             "b",
             "an unknown type between two blocks of type 2",
             newest(21143),
-            around_unknown.clone(),
+            around_unknown(),
             Accepted(&[(2, 42), (2, 33)], 1),
         ),
         case(
             "c",
             "the image of case b, for a reader of level 2: it lists none and skips 3",
             level_2,
-            around_unknown,
+            around_unknown(),
             Accepted(&[], 3),
         ),
         case(

@@ -1,4 +1,5 @@
-//! The autosense walk (document 01, "The walk"), which keeps the table as a list of entries.
+//! The autosense walk (document 01, "The walk"; document 02, request 4, for the empty connection
+//! word), which keeps the table as a list of entries.
 
 pub mod fast;
 
@@ -10,11 +11,34 @@ pub const NONE: u8 = 255;
 /// The length of a walk's rows: a flag for each block that a leaf can hold, and more.
 pub const ROW_LENGTH: usize = 128;
 
-/// The connection type under which a settled walk stays where it is.
-pub const POWER_UP_ONLY: u16 = 0x8800;
+/// The connection types that looks serve. The last says that nothing was selected.
+pub const AUTOSENSE: u16 = 0x0800;
+pub const AUTOSENSE_NWAY: u16 = 0x0900;
+pub const AUTOSENSE_ONCE: u16 = 0x8800;
+pub const EMPTY_CONNECTION: u16 = 0xFFFF;
 
-/// The connection types that looks serve.
-pub const SERVED: [u16; 3] = [0x0800, POWER_UP_ONLY, 0x0900];
+/// How a connection type lets a walk choose.
+#[derive(Debug, Clone, Copy, PartialEq, Eq)]
+pub enum Way {
+    /// Autosensed at every look.
+    EveryLook,
+    /// Autosensed once: a settled walk stays on its block.
+    Once,
+    /// Not autosensed, so that every look is refused.
+    Fixed,
+}
+
+impl Way {
+    /// "Looks serve 0x0800, 0x8800 and 0x0900; every other type counts as fixed" (document 01), but
+    /// for 0xFFFF: "Such a card walks as 0x8800 does" (document 02, request 4).
+    pub const fn of(connection: u16) -> Self {
+        match connection {
+            AUTOSENSE | AUTOSENSE_NWAY => Self::EveryLook,
+            AUTOSENSE_ONCE | EMPTY_CONNECTION => Self::Once,
+            _ => Self::Fixed,
+        }
+    }
+}
 
 /// A row of flags for each property, by block number. The library's C interface has the same layout.
 #[repr(C)]
@@ -178,8 +202,8 @@ impl Autosense {
         let Self::Loaded(loaded) = self else {
             return Err(Refusal::FreshWalk);
         };
-        let is_served = SERVED.contains(&loaded.connection);
-        refuse_if(!is_served, Refusal::FixedConnection)?;
+        let is_fixed = Way::of(loaded.connection) == Way::Fixed;
+        refuse_if(is_fixed, Refusal::FixedConnection)?;
         refuse_if(loaded.looks == u16::MAX, Refusal::LooksSpent)?;
         let report = report.get(..loaded.blocks).ok_or(Refusal::Report)?;
         refuse_if(report.iter().any(|&byte| byte > 1), Refusal::Report)?;
@@ -213,7 +237,8 @@ impl Loaded {
             return false;
         };
         let is_kept = |entry: &Entry| entry.block == selected && entry.is_active_invalid;
-        self.connection == POWER_UP_ONLY || self.table.iter().any(is_kept) || report[selected] == 1
+        let is_once = Way::of(self.connection) == Way::Once;
+        is_once || self.table.iter().any(is_kept) || report[selected] == 1
     }
 
     /// Step 2: the first candidate in table order that is up.

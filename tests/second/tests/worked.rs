@@ -1,16 +1,18 @@
 //! What crates/worked, crates/magic and crates/leaf compute with is the second implementation's: each
 //! sheet of specs/Sheets.antt is written to its image, and made of it again; each Magic Packet block
-//! of specs/Cases.antt is read as it says, boards before one are refused as they say, the blocks of
-//! leaves start where they say, and leaves with power blocks are read as they say.
+//! of specs/Cases.antt is read as it says, boards before one are refused as they say, case k is walked
+//! as it says, the blocks of leaves start where they say, and leaves with power blocks are read as
+//! they say.
 
-use second::cases::cases;
+use second::cases::{REPORTS_K, card_b, cases};
 use second::crc::{IMAGE_LENGTH, lay_crcs, lay_srom_crc};
-use second::images::{Card, TIDY_LEAF};
-use second::layout::{Layout, MAGIC_OFFSET};
+use second::images::{Card, MagicBlock, TIDY_LEAF};
+use second::layout::{LAYOUTS, Layout, MAGIC_OFFSET};
 use second::magic::read_magic;
 use second::reader::{Arguments, read_all, starts};
 use second::sheet;
 use second::specification::{self, bytes, number, opened, text};
+use second::walk::{Autosense, NONE};
 
 /// The names of crates/magic/specs/Cases.antt that lists use, each before those that it is made of.
 const BLOCKS: [&str; 4] = ["wholeBlock", "otherCrc", "strayLast", "fields"];
@@ -111,6 +113,42 @@ fn boards_are_refused_as_second_refuses_them() {
         let (answer, _) = read_all(&image, arguments);
         assert_eq!(usize::from(answer.number), number(words[3]), "{words:?}");
     }
+}
+
+#[test]
+fn case_k_is_walked_as_second_walks_it() {
+    let text = text("worked/specs/Cases.antt");
+    let walks = specification::cases(&text, "caseK l");
+    let types = walks.iter().map(|(_, words)| number(words[1]));
+    assert_eq!(types.collect::<Vec<_>>(), [0x0800, 0x8800, 0xFFFF]);
+    for layout in LAYOUTS {
+        for (_, words) in &walks {
+            let card = Card {
+                magic: layout.magic.then(MagicBlock::default),
+                ..card_b(number(words[1]) as u16)
+            };
+            let arguments = Arguments::at_level(21143, 6).laid_out(layout);
+            let mut walk = Autosense::default();
+            assert_eq!(walk.load(&card.image(), arguments), 0);
+            let mut seen = vec![stands(&walk)];
+            for report in REPORTS_K {
+                assert_eq!(walk.look(&report), 0);
+                seen.push(stands(&walk));
+            }
+            assert_eq!(seen.join(" ∷ ") + " ∷ []", words[2], "{words:?}");
+        }
+    }
+}
+
+/// Where a walk stands after an accepted call, as the list of case k has it.
+fn stands(walk: &Autosense) -> String {
+    let walk = walk.walk();
+    let selected = match walk.selected {
+        NONE => "none".to_string(),
+        block => block.to_string(),
+    };
+    let (settled, looks, switches) = (walk.settled, walk.looks, walk.switches);
+    format!("then {settled} {selected} {looks} {switches}")
 }
 
 #[test]

@@ -13,50 +13,44 @@ returns-2 : tie.Need-returns-2
 unfolding stays
 returns-2 c = simp (not-false (c .before .before .before .before .args .walk .settled) (c .before .if1 .left), eq-eqb _ _ (c .if2 .taken))
 
+way-of-requires : tie.Need-way-of-requires
+way-of-requires c κs = search needs
+
+is-once-requires : tie.Need-is-once-requires
+is-once-requires c κs = search needs
+
 returns-3 : tie.Need-returns-3
 unfolding stays
 returns-3 c =
-    let selected = c .before .before in
+    let way = c .before .before in
+    let selected = way .before in
     simp (
       not-false (selected .before .before .before .before .args .walk .settled) (selected .before .if1 .left),
       ne-eqb _ _ (selected .if2 .left),
-      eq-eqb _ _ (c .if3 .taken),
+      ← way .way-of .ensures,
+      ← c .before .is-once .ensures,
+      c .if3 .taken,
     )
 
-slice-aggregate-flag-at : tie.Need-slice-aggregate-flag-at
-slice-aggregate-flag-at c = search needs
+slice-aggregate-is-kept : tie.Need-slice-aggregate-is-kept
+slice-aggregate-is-kept c = search needs
 
-flag-at-requires : tie.Need-flag-at-requires
-flag-at-requires c κs = search needs
+is-kept-requires : tie.Need-is-kept-requires
+is-kept-requires c κs = search needs
 
 returns-4 : tie.Need-returns-4
 unfolding stays
 returns-4 c =
-    let other = c .before .before .before .before .before in
-    let selected = other .before .before in
+    let other = c .before .before .before .before in
+    let way = other .before .before in
+    let selected = way .before in
     simp (
       not-false (selected .before .before .before .before .args .walk .settled) (selected .before .if1 .left),
       ne-eqb _ _ (selected .if2 .left),
-      ne-eqb _ _ (other .if3 .left),
-      ← c .before .flag-at .ensures,
-      c .if4 .taken,
-    )
-
-flag-at-requires-2 : tie.Need-flag-at-requires-2
-flag-at-requires-2 c κs = search needs
-
-returns-5 : tie.Need-returns-5
-unfolding stays
-returns-5 c =
-    let other = c .before .before .before .before .before .before in
-    let selected = other .before .before in
-    simp (
-      not-false (selected .before .before .before .before .args .walk .settled) (selected .before .if1 .left),
-      ne-eqb _ _ (selected .if2 .left),
-      ne-eqb _ _ (other .if3 .left),
-      ← c .before .before .flag-at .ensures,
-      c .before .if4 .left,
-      ← c .flag-at2 .ensures,
+      ← way .way-of .ensures,
+      ← other .before .is-once .ensures,
+      other .if3 .left,
+      ← c .is-kept .ensures,
     )
 
 pub stays-there-spec : {M : Type 1} → statement M
@@ -65,9 +59,9 @@ stays-there-spec =
     (tie.spec
     returns
     returns-2
+    way-of-requires
+    is-once-requires
     returns-3
-    slice-aggregate-flag-at
-    flag-at-requires
-    returns-4
-    flag-at-requires-2
-    returns-5)
+    slice-aggregate-is-kept
+    is-kept-requires
+    returns-4)

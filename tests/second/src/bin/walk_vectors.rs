@@ -6,8 +6,8 @@
 //! 2 a look, which the report's length and the report follow.
 
 use second::calls::{self, Call, Habits};
-use second::cases::cases;
-use second::images::{Card, DAMAGES, Image, Sample};
+use second::cases::{CASES_K, CaseK, REPORTS_K, card_b, cases};
+use second::images::{DAMAGES, Image, Sample};
 use second::layout::LAYOUTS;
 use second::random::Random;
 use second::reader::Arguments;
@@ -81,20 +81,16 @@ fn records() -> Vec<Record> {
     records
 }
 
-/// "k b, reports 000, 101, 100", under 0x0800 and under 0x8800.
+/// "k b, reports 000, 101, 100", under each type of the case.
 fn case_k() -> Vec<Record> {
-    let case = &cases()[1];
-    let sia = |code| vec![0x86, 0x02, code, 0x01, 0x00, 0x02, 0x00];
-    let blocks = vec![sia(0), vec![0x81, 0x09], sia(1)];
-    let reports = [[0, 0, 0], [1, 0, 1], [1, 0, 0]];
-    let looks = reports.map(|report| Call::Look(report.to_vec()));
+    let looks = REPORTS_K.map(|report| Call::Look(report.to_vec()));
     let list = [&[Call::Load], looks.as_slice()].concat();
-    let record = |connection| Record {
-        image: Card::tidy(21143, connection, blocks.clone()).image(),
-        arguments: case.arguments,
+    let record = |case: &CaseK| Record {
+        image: card_b(case.connection).image(),
+        arguments: Arguments::newest(21143),
         list: list.clone(),
     };
-    vec![record(0x0800), record(0x8800)]
+    CASES_K.iter().map(record).collect()
 }
 
 /// A list of up to twelve calls whose reports are no longer than a byte can say.
@@ -161,28 +157,32 @@ mod tests {
     use super::*;
     use second::reader::read_all;
 
-    /// "none, block 2, block 0, 2 switches; under 0x8800: none, 2, 2, 1 switch", in the form of
-    /// lines.
+    /// "none, block 2, block 0, 2 switches; under 0x8800: none, 2, 2, 1 switch", and so under 0xFFFF,
+    /// in the form of lines.
     #[test]
     fn lines_of_case_k() {
-        let [plain, power_up_only] = &case_k()[..] else {
-            panic!("case k has two records");
+        let [every_look, once, empty] = &case_k()[..] else {
+            panic!("case k has three records");
         };
-        assert_eq!(plain.image, cases()[1].image);
+        let case_b = &cases()[1];
+        assert_eq!(every_look.image, case_b.image);
+        assert_eq!(every_look.arguments, case_b.arguments);
         assert_eq!(
-            plain.lines(),
+            every_look.lines(),
             "0 unsettled none 0 0\n\
              0 unsettled none 1 0\n\
              0 settled 2 2 1\n\
              0 settled 0 3 2\n"
         );
         assert_eq!(
-            power_up_only.lines(),
+            once.lines(),
             "0 unsettled none 0 0\n\
              0 unsettled none 1 0\n\
              0 settled 2 2 1\n\
              0 settled 2 3 1\n"
         );
+        assert_eq!(empty.image[30..32], [0xFF, 0xFF]);
+        assert_eq!(empty.lines(), once.lines());
     }
 
     /// "Why a call is refused": the records meet the refusals of load and look, but for 1, 12 and

@@ -1,6 +1,6 @@
 //! The same walk on its rows, handed from call to call by value, without allocation.
 
-use super::{NONE, POWER_UP_ONLY, SERVED, Walk, Walked};
+use super::{NONE, Walk, Walked, Way};
 use crate::reader::{Arguments, Refusal, fast, refuse_if};
 
 pub fn fresh() -> Walk {
@@ -50,8 +50,8 @@ fn try_load(walk: Walk, image: &[u8], arguments: Arguments) -> Result<Walk, Refu
 
 fn try_look(mut walk: Walk, report: &[u8]) -> Result<Walk, Refusal> {
     refuse_if(!walk.loaded, Refusal::FreshWalk)?;
-    let is_served = SERVED.contains(&walk.connection);
-    refuse_if(!is_served, Refusal::FixedConnection)?;
+    let is_fixed = Way::of(walk.connection) == Way::Fixed;
+    refuse_if(is_fixed, Refusal::FixedConnection)?;
     refuse_if(walk.looks == u16::MAX, Refusal::LooksSpent)?;
     let report = report.get(..walk.blocks.into()).ok_or(Refusal::Report)?;
     refuse_if(report.iter().any(|&byte| byte > 1), Refusal::Report)?;
@@ -75,7 +75,7 @@ fn stays(walk: &Walk, report: &[u8]) -> bool {
         return false;
     }
     let selected = usize::from(walk.selected);
-    walk.connection == POWER_UP_ONLY
+    Way::of(walk.connection) == Way::Once
         || walk.rows.active_invalid[selected] == 1
         || report[selected] == 1
 }

@@ -1,6 +1,6 @@
 use super::*;
 use crate::calls::{self, Call, Habits};
-use crate::cases::cases;
+use crate::cases::{CASES_K, REPORTS_K, card_b, cases};
 use crate::images::{Card, DAMAGES, Image, Sample, block};
 use crate::layout::Layout;
 use crate::random::Random;
@@ -44,20 +44,18 @@ fn compacts(connection: u16, commands: &[u16]) -> Autosense {
 }
 
 /// "k b, reports 000, 101, 100: none, block 2, block 0, 2 switches; under 0x8800: none, 2, 2, 1
-/// switch."
+/// switch", and so under 0xFFFF.
 #[test]
 fn case_k() {
-    let reports: [&[u8]; 3] = [&[0, 0, 0], &[1, 0, 1], &[1, 0, 0]];
     let case_b = &cases()[1];
-    let mut walk = loaded(&case_b.image, case_b.arguments);
-    assert_eq!(selections(&mut walk, &reports), [NONE, 2, 0]);
-    assert_eq!(state(&walk), (true, 0, 3, 2));
-    let sia = |code| vec![0x86, 0x02, code, 0x01, 0x00, 0x02, 0x00];
-    let blocks = vec![sia(0), vec![0x81, 0x09], sia(1)];
-    assert_eq!(image(21143, 0x0800, blocks.clone()), case_b.image);
-    let mut walk = loaded(&image(21143, 0x8800, blocks), Arguments::newest(21143));
-    assert_eq!(selections(&mut walk, &reports), [NONE, 2, 2]);
-    assert_eq!(state(&walk), (true, 2, 3, 1));
+    assert_eq!(card_b(0x0800).image(), case_b.image);
+    let reports = REPORTS_K.each_ref().map(|report| report.as_slice());
+    for case in CASES_K {
+        let mut walk = loaded(&card_b(case.connection).image(), case_b.arguments);
+        assert_eq!(selections(&mut walk, &reports), case.selected);
+        let last = case.selected[2];
+        assert_eq!(state(&walk), (true, last, 3, case.switches));
+    }
 }
 
 /// "State when loaded: settled (no), selected (none), looks (0), switches (0)", and a flag for each
@@ -168,13 +166,14 @@ fn both_layouts() {
 }
 
 /// "From the state, before any from the input ... Look: 20 fresh; 22 fixed type"; "Looks serve
-/// 0x0800, 0x8800 and 0x0900; every other type counts as fixed."
+/// 0x0800, 0x8800 and 0x0900; every other type counts as fixed", but for 0xFFFF: "Refusal 22 no
+/// longer meets it".
 #[test]
 fn served_types() {
     assert_eq!(Autosense::default().look(&[]), 20);
     for chip in CHIPS {
         for connection in connections(chip) {
-            let is_served = [0x0800, 0x8800, 0x0900].contains(&connection);
+            let is_served = [0x0800, 0x8800, 0x0900, 0xFFFF].contains(&connection);
             for report in [&[][..], &[2], &[0], &[1]] {
                 let blocks = vec![block::extended(9, &[])];
                 let blocks = if chip == 21041 { vec![vec![0]] } else { blocks };
@@ -275,13 +274,49 @@ fn active_invalid() {
     assert_eq!(selections(&mut walk, &[&[0, 0]]), [NONE]);
 }
 
-/// "it stays where the type is 0x8800": only with a block selected and settled.
+/// "it stays where the type is 0x8800", and so where it is 0xFFFF: only with a block selected and
+/// settled.
 #[test]
-fn power_up_only() {
-    let mut walk = compacts(0x8800, &[0x4000, 0, 0]);
-    let reports: [&[u8]; 5] = [&[0, 0, 0], &[0, 0, 1], &[1, 1, 0], &[0, 0, 0], &[1, 0, 0]];
-    assert_eq!(selections(&mut walk, &reports), [0, 2, 2, 2, 2]);
-    assert_eq!(state(&walk), (true, 2, 5, 2));
+fn sensed_once() {
+    for connection in [0x8800, 0xFFFF] {
+        let mut walk = compacts(connection, &[0x4000, 0, 0]);
+        let reports: [&[u8]; 5] = [&[0, 0, 0], &[0, 0, 1], &[1, 1, 0], &[0, 0, 0], &[1, 0, 0]];
+        assert_eq!(selections(&mut walk, &reports), [0, 2, 2, 2, 2]);
+        assert_eq!(state(&walk), (true, 2, 5, 2));
+    }
+}
+
+/// The same walk under another connection type.
+fn under(connection: u16, walk: &Autosense) -> Autosense {
+    let mut walk = walk.clone();
+    if let Autosense::Loaded(loaded) = &mut walk {
+        loaded.connection = connection;
+    }
+    walk
+}
+
+/// "Such a card walks as 0x8800 does": of two walks that are equal but for the connection type, each
+/// look of a list answers the same number and leaves them equal but for it. Thousands of the looks
+/// would leave a walk under 0x0800 on another block.
+#[test]
+fn empty_connection() {
+    let mut random = Random::new(5);
+    let mut otherwise = 0;
+    for _ in 0..10_000 {
+        let sample = calls::emptied(&mut random);
+        let mut empty = loaded(&sample.card.image(), sample.arguments);
+        assert_eq!(empty.walk().connection, 0xFFFF);
+        let mut once = under(0x8800, &empty);
+        let habits = Habits::new(&mut random, empty.walk().blocks.into());
+        for report in habits.reports(&mut random, 8) {
+            let mut every_look = under(0x0800, &empty);
+            every_look.look(&report);
+            assert_eq!(empty.look(&report), once.look(&report), "{sample:02x?}");
+            assert_eq!(under(0x8800, &empty), once, "{sample:02x?}");
+            otherwise += usize::from(every_look.walk().selected != empty.walk().selected);
+        }
+    }
+    assert!(otherwise > 5_000, "only {otherwise}");
 }
 
 /// "They are counted as power ..., not listed": a power block has no flag, is no candidate though its
@@ -435,6 +470,10 @@ fn worked_looks() {
     let text = specification::text("walk/specs/Cases.antt");
     let cases = specification::cases(&text, "lookCases");
     assert!(cases.len() >= 20, "only {} looks", cases.len());
+    for connection in ["0x0800", "0x0900", "0x8800", "0xFFFF"] {
+        let mut types = cases.iter().map(|(_, words)| words[0]);
+        assert!(types.any(|it| it == connection), "none under {connection}");
+    }
     let table = [4, 3, 2, 0].map(|block| Entry {
         block,
         is_active_invalid: block == 3,
