@@ -155,6 +155,46 @@ static void check_empty(srom_walk walk, const uint8_t *report, size_t count, sro
     check(once.number == walked.number && are_alike(&once.walk, &walked.walk));
 }
 
+/* Whether a connection type is set to one medium. */
+static bool is_fixed(uint16_t connection)
+{
+    return connection != SROM_AUTOSENSE && connection != SROM_AUTOSENSE_NWAY && connection != SROM_AUTOSENSE_ONCE
+        && connection != SROM_EMPTY_CONNECTION;
+}
+
+/* The last of the listed blocks that have the fixed medium. */
+static uint8_t fixed_choice(const srom_walk *walk)
+{
+    uint8_t choice = SROM_NONE;
+    for (uint8_t k = 0; k < sizeof walk->rows.fixed; k++)
+        if (walk->rows.fixed[k] != 0) {
+            check(walk->rows.fixed[k] == 1 && walk->rows.listed[k] == 1 && k < walk->blocks);
+            choice = k;
+        }
+    return choice;
+}
+
+/*
+ * Under a fixed type a look is refused with 32 exactly where no block has the medium. An accepted one selects the last that has
+ * it, as it does with the other links up, and only the first is a switch.
+ */
+static void check_fixed(srom_walk walk, const uint8_t *report, srom_walked walked)
+{
+    uint8_t choice = fixed_choice(&walk), others[SROM_NONE];
+    if (!walk.loaded || !is_fixed(walk.connection)) {
+        check(choice == SROM_NONE && walked.number != SROM_NO_FIXED_MEDIUM);
+        return;
+    }
+    check((walked.number == SROM_NO_FIXED_MEDIUM) == (choice == SROM_NONE));
+    if (walked.number != SROM_ACCEPTED)
+        return;
+    check(walked.walk.selected == choice && walked.walk.settled && walked.walk.switches == 1);
+    for (size_t k = 0; k < walk.blocks; k++)
+        others[k] = !report[k];
+    srom_walked other = srom_look(walk, others, walk.blocks);
+    check(other.number == SROM_ACCEPTED && are_alike(&other.walk, &walked.walk));
+}
+
 static void walk_over(const uint8_t *image, size_t length, srom_arguments arguments, const uint8_t *calls, size_t left)
 {
     srom_walk walk = srom_fresh();
@@ -173,6 +213,7 @@ static void walk_over(const uint8_t *image, size_t length, srom_arguments argume
             lent report = lend(calls, count);
             walked = srom_look(walk, report.bytes, count);
             check_empty(walk, report.bytes, count, walked);
+            check_fixed(walk, report.bytes, walked);
             take_back(report);
             reach(LOOK, walked.number);
             reach(SELECTED, walked.walk.selected);

@@ -56,7 +56,6 @@ enum {
     SROM_BAD_REPORT = 19,          /* report shorter than the block count, or one of those bytes above 1 */
     SROM_WALK_FRESH = 20,          /* look at a walk that is not loaded */
     SROM_WALK_LOADED = 21,         /* load of a walk that is loaded */
-    SROM_FIXED_CONNECTION = 22,    /* look under a connection type that looks do not serve */
     SROM_TOO_MANY_LOOKS = 23,      /* 65,535 looks */
     SROM_BAD_SHEET = 24,           /* sheet length or sum of sizes */
     SROM_BAD_SHEET_ENTRY = 25,     /* kind, body or control byte that no image of the chip can hold */
@@ -64,7 +63,8 @@ enum {
     SROM_NOT_TIDY = 27,            /* more than one controller, leaf not at 30, or bytes behind the leaf not 0 */
     SROM_BAD_MAGIC_CRC = 29,       /* CRC of the Magic Packet block differs */
     SROM_BAD_MAGIC_RESERVED = 30,  /* reserved byte of the Magic Packet block not 0 */
-    SROM_REPEATED_MODE = 31        /* a bit of the mode byte set in two power blocks (type 6) */
+    SROM_REPEATED_MODE = 31,       /* a bit of the mode byte set in two power blocks (type 6) */
+    SROM_NO_FIXED_MEDIUM = 32      /* look under a fixed connection type whose medium no entry has */
 };
 
 /* Chips, by their decimal numbers. The 21140A counts as 21140. */
@@ -73,7 +73,7 @@ enum { SROM_21041 = 21041, SROM_21140 = 21140, SROM_21142 = 21142, SROM_21143 = 
 /* Kinds of blocks: an extended block's type (0 to 255), or one of these. */
 enum { SROM_KIND_COMPACT = 256, SROM_KIND_21041 = 257 };
 
-/* Connection types that looks serve; every other is fixed. */
+/* Connection types that are autosensed; every other is fixed to a medium. */
 enum {
     SROM_AUTOSENSE = 0x0800,       /* autosensed at every look */
     SROM_AUTOSENSE_NWAY = 0x0900,  /* autosensed at every look */
@@ -203,6 +203,7 @@ uint8_t srom_write_magic(srom_magic magic, uint8_t *image, size_t image_length);
 typedef struct srom_rows {
     uint8_t listed[128];         /* 1 for an entry of the media table */
     uint8_t active_invalid[128]; /* 1 for an entry with Active_Invalid */
+    uint8_t fixed[128];          /* 1 for an entry with the medium of a fixed connection type; all 0 under other types */
 } srom_rows;
 
 /* A walk's state, passed and returned by value. A load sets the first five fields, and a look changes the last four. */
@@ -212,7 +213,8 @@ typedef struct srom_walk {
     uint8_t blocks;
     srom_rows rows;
     uint8_t default_number; /* or SROM_NONE */
-    bool settled;           /* whether a look since the load has selected an entry because its link was up */
+    bool settled;           /* whether a look since the load has selected an entry because its link was up, or because it has
+                               the fixed medium */
     uint8_t selected;       /* block number that the last look selected, or SROM_NONE; SROM_NONE before the first look */
     uint16_t looks;         /* looks accepted since the load */
     uint16_t switches;      /* how many of them selected another block than was selected before, none counting as one */
@@ -231,13 +233,20 @@ srom_walked srom_load(srom_walk walk, const uint8_t *image, size_t image_length,
 
 /*
  * Looks at the links, one byte a block, 1 up and 0 down; later bytes are ignored.
+ * Where the connection type is autosensed:
  * 1. A settled walk with a block selected stays on it where the connection type is SROM_AUTOSENSE_ONCE or
  *    SROM_EMPTY_CONNECTION, or the block has Active_Invalid, or its link is up.
  * 2. Otherwise it selects the first entry in table order whose link is up (once settled, among those without Active_Invalid)
  *    and is settled from then on. With none up it selects the default, or none where there is no default, which neither
  *    settles nor unsettles it.
+ * Where it is fixed:
+ *    The walk selects the first entry in table order that has the medium, and is settled from then on; links, Active_Invalid
+ *    and the default play no part. A type whose low byte is below 9 means an entry with that media code, which no PHY has;
+ *    any other a PHY with the capability bit that it names, 0x0009 bit 11, 0x020A bit 12, 0x000D bit 13, 0x020E bit 14 and
+ *    0x000F bit 15; 0x0010 and 0x0211 name none. The report is judged as ever.
+ * Then:
  * 3. Looks rise by 1, and switches too if the selection is another than before; from none to a block, or back, is a switch.
- * Refusals: 20, 22, 23, 19.
+ * Refusals: 20, 32, 23, 19.
  */
 srom_walked srom_look(srom_walk walk, const uint8_t *report, size_t report_length);
 

@@ -86,11 +86,23 @@ static const char *why_it_stays(srom_walk walk, const uint8_t *report)
     return NULL;
 }
 
-/* What an accepted look did. Any entry may be taken until the walk settles, then those without Active_Invalid. */
+/* Whether a connection type is set to one medium, which looks select whatever links are up. */
+static bool is_fixed(uint16_t connection)
+{
+    return connection != SROM_AUTOSENSE && connection != SROM_AUTOSENSE_NWAY && connection != SROM_AUTOSENSE_ONCE
+        && connection != SROM_EMPTY_CONNECTION;
+}
+
+/*
+ * What an accepted look did. Under an autosensed type any entry may be taken until the walk settles, then those without
+ * Active_Invalid.
+ */
 static void print_step(srom_walk before, srom_walk after, const uint8_t *report)
 {
     const char *stays = why_it_stays(before, report);
-    if (stays != NULL)
+    if (is_fixed(before.connection))
+        printf("block %u, the first in table order that has the fixed medium", (unsigned)after.selected);
+    else if (stays != NULL)
         printf("stays on block %u, %s", (unsigned)after.selected, stays);
     else if (after.selected == SROM_NONE)
         printf("no medium, since none that may be taken is up and there is no default");

@@ -1,5 +1,7 @@
-// The autosense walk: which medium of an image's table a controller stands on (document 01, 'The walk'; document 02, request 4).
+// The autosense walk: which medium of an image's table a controller stands on (document 01, 'The walk'; document 02, requests
+// 4 and 5).
 use block::Block;
+use block::Medium;
 use reader::Arguments;
 use rom::NONE;
 use rom::refusal;
@@ -9,15 +11,18 @@ pub use walk::Walk;
 pub use walk::Walked;
 pub use walk::Way;
 ghost use mathlib.Core.Path.{_≡_};
-ghost use mathlib.Core.Bool.{_||_};
+ghost use mathlib.Core.Bool.{_||_, _&&_};
+ghost use lib.Dec.{eqb};
 ghost use Prim.Native.Nat.{_≤_};
+ghost use Rattle.rom.specs.Geometry.{none};
 ghost use Rattle.rom.specs.Refusal.{firstMet};
 ghost use Rattle.block.specs.Answer.{listedIn};
 ghost use Rattle.rom.specs.Bytes.{one};
 ghost use Rattle.leaf.specs.Leaf.{cut, blockCauses};
-ghost use Rattle.autosense.specs.Inside.{invalidIn};
-ghost use Rattle.walk.specs.Walk.{noFlags, noRows, rowsOf, freshWalk, wayOf, isOnce, isFixed, flagAt, isUp, badReport, isCandidate};
-ghost use Rattle.walk.specs.Walk.{firstUp, stays, chosen, switched, stepped, lookCauses, loadFor, lookFor, clearFor};
+ghost use Rattle.autosense.specs.Inside.{invalidIn, fixedIn};
+ghost use Rattle.walk.specs.Walk.{noFlags, noRows, rowsOf, freshWalk, wayOf, isOnce, isFixed, isCapable, hasMedium, flagAt, isUp};
+ghost use Rattle.walk.specs.Walk.{badReport, isCandidate, lastBelow, firstUp, stays, sensed, fixedBlock, chosen, switched, stepped};
+ghost use Rattle.walk.specs.Walk.{lookCauses, loadFor, lookFor, clearFor};
 
 // ## Connection types that are autosensed (document 01, 'The walk')
 
@@ -29,6 +34,22 @@ const AUTOSENSE_ONCE: u16 = 0x8800;
 
 // Of a card whose maker selected nothing (document 02, request 4).
 const EMPTY_CONNECTION: u16 = 0xFFFF;
+
+// ## Connection types that are fixed (document 02, request 5)
+
+// A type whose low byte is below this means that media code.
+const MEDIA_CODES: u8 = 9;
+
+// Those that name a capability bit of a PHY.
+const MII_10BASET: u16 = 0x0009;
+
+const MII_10BASET_FULL_DUPLEX: u16 = 0x020A;
+
+const MII_100BASETX: u16 = 0x000D;
+
+const MII_100BASETX_FULL_DUPLEX: u16 = 0x020E;
+
+const MII_100BASET4: u16 = 0x000F;
 
 // The most that looks and switches count.
 const MOST_LOOKS: u16 = 65535;
@@ -49,6 +70,7 @@ fn no_rows() -> Rows
     Rows {
         listed: no_flags(),
         active_invalid: no_flags(),
+        fixed: no_flags(),
     }
 }
 
@@ -115,14 +137,64 @@ fn invalid_flag(b: Block) -> u8
     }
 }
 
-// The rows of a leaf's accepted blocks.
-fn rows_of(blocks: &[u8], count: u8, row: usize, level: u8) -> Rows
+// Whether capabilities have the bit that a type names.
+fn is_capable(connection: u16, capabilities: u16) -> bool
+    ensures { λ r. ⌜ r ≡ isCapable connection capabilities ⌝ }
+{
+    match connection {
+        MII_10BASET => (capabilities >> 11) % 2 == 1,
+        MII_10BASET_FULL_DUPLEX => (capabilities >> 12) % 2 == 1,
+        MII_100BASETX => (capabilities >> 13) % 2 == 1,
+        MII_100BASETX_FULL_DUPLEX => (capabilities >> 14) % 2 == 1,
+        MII_100BASET4 => (capabilities >> 15) % 2 == 1,
+        _ => false,
+    }
+}
+
+// Whether a listed block has the medium that a type is fixed to.
+fn has_medium(medium: Medium, connection: u16) -> bool
+    ensures { λ r. ⌜ r ≡ hasMedium connection (medium .«media_code») (medium .capabilities) ⌝ }
+{
+    let low = (connection % 256) as u8;
+    if low < MEDIA_CODES {
+        return medium.media_code == low;
+    }
+    is_capable(connection, medium.capabilities)
+}
+
+// The same, and false where the type is not fixed.
+fn has_fixed_medium(medium: Medium, connection: u16) -> bool
+    ensures { λ r. ⌜ r ≡ (isFixed (wayOf connection) && hasMedium connection (medium .«media_code») (medium .capabilities)) ⌝ }
+{
+    let fixed = is_fixed(way_of(connection));
+    if fixed {
+        return has_medium(medium, connection);
+    }
+    false
+}
+
+// A block's flag in the row of the fixed medium.
+fn fixed_flag(b: Block, connection: u16) -> u8
+    ensures { λ r. ⌜ r ≡ fixedIn connection b ⌝ }
+{
+    match b {
+        Block::Listed(medium) => flag_of(has_fixed_medium(medium, connection)),
+        Block::Reset { size: _ } => 0,
+        Block::Power { size: _, mode: _ } => 0,
+        Block::Unknown { size: _ } => 0,
+        Block::Refused(_) => 0,
+    }
+}
+
+// The rows of a leaf's accepted blocks, under its connection type.
+fn rows_of(blocks: &[u8], count: u8, row: usize, level: u8, connection: u16) -> Rows
     requires { ⌜ firstMet (blockCauses row level (cut row count (now blocks))) ≡ 0 ⌝ }
     requires { ⌜ count ≤ 91 ⌝ }
-    ensures { λ r. ⌜ r ≡ rowsOf row level (cut row count (now (blocks .entry))) ⌝ }
+    ensures { λ r. ⌜ r ≡ rowsOf connection row level (cut row count (now (blocks .entry))) ⌝ }
 {
     let mut listed = no_flags();
     let mut active_invalid = no_flags();
+    let mut fixed = no_flags();
     let mut rest = blocks;
     let mut k = 0u8;
     while k < count {
@@ -130,6 +202,7 @@ fn rows_of(blocks: &[u8], count: u8, row: usize, level: u8) -> Rows
         let i = k as usize;
         listed[i] = listed_flag(b);
         active_invalid[i] = invalid_flag(b);
+        fixed[i] = fixed_flag(b, connection);
         let size = block::size_of(b);
         rest = &rest[size..];
         k += 1;
@@ -137,6 +210,7 @@ fn rows_of(blocks: &[u8], count: u8, row: usize, level: u8) -> Rows
     Rows {
         listed,
         active_invalid,
+        fixed,
     }
 }
 
@@ -158,7 +232,7 @@ pub fn load(walk: Walk, image: &[u8], arguments: Arguments) -> Walked
     }
     let row = reading.row;
     let rest = header::rest_from(image, arguments.layout, reading.start);
-    let rows = rows_of(rest, answer.blocks, row, arguments.level);
+    let rows = rows_of(rest, answer.blocks, row, arguments.level, answer.connection);
     let next = Walk {
         loaded: true,
         connection: answer.connection,
@@ -197,8 +271,8 @@ fn is_once(way: Way) -> bool
     }
 }
 
-// Whether looks are refused.
-fn is_fixed(way: Way) -> bool
+// Whether looks go by the fixed medium.
+pub fn is_fixed(way: Way) -> bool
     ensures { λ r. ⌜ r ≡ isFixed way ⌝ }
 {
     match way {
@@ -237,6 +311,41 @@ fn bad_report(report: &[u8], blocks: u8) -> bool
     false
 }
 
+// The last block below a count whose flag is 1, or NONE.
+fn last_flagged(row: &[u8], blocks: u8) -> u8
+    ensures { λ r. ⌜ r ≡ lastBelow (flagAt (now (row .entry))) blocks ⌝ }
+{
+    let mut k = blocks;
+    while 0 < k {
+        k -= 1;
+        let flagged = flag_at(row, k);
+        if flagged {
+            return k;
+        }
+    }
+    NONE
+}
+
+// The first block in table order, from the last block to the first, that has the fixed medium, or NONE.
+pub fn fixed_block(walk: Walk) -> u8
+    ensures { λ r. ⌜ r ≡ fixedBlock walk ⌝ }
+{
+    let rows = walk.rows;
+    let fixed = rows.fixed;
+    last_flagged(&fixed, walk.blocks)
+}
+
+// Whether the type is fixed and no listed block has its medium.
+fn lacks_medium(walk: Walk) -> bool
+    ensures { λ r. ⌜ r ≡ (isFixed (wayOf (walk .connection)) && eqb (fixedBlock walk) none) ⌝ }
+{
+    let fixed = is_fixed(way_of(walk.connection));
+    if fixed {
+        return fixed_block(walk) == NONE;
+    }
+    false
+}
+
 // Why a look is refused.
 fn look_refusal(walk: Walk, report: &[u8]) -> u8
     ensures { λ r. ⌜ r ≡ firstMet (lookCauses walk (now (report .entry))) ⌝ }
@@ -244,9 +353,9 @@ fn look_refusal(walk: Walk, report: &[u8]) -> u8
     if !walk.loaded {
         return refusal::FRESH;
     }
-    let fixed = is_fixed(way_of(walk.connection));
-    if fixed {
-        return refusal::FIXED_TYPE;
+    let lacks = lacks_medium(walk);
+    if lacks {
+        return refusal::NO_FIXED_MEDIUM;
     }
     if walk.looks == MOST_LOOKS {
         return refusal::LOOKS;
@@ -322,9 +431,9 @@ fn first_up(listed: &[u8], active_invalid: &[u8], settled: bool, report: &[u8], 
     NONE
 }
 
-// Steps 1 and 2: what a look selects.
-fn choose(walk: Walk, report: &[u8]) -> Choice
-    ensures { λ r. ⌜ r ≡ chosen walk (now (report .entry)) ⌝ }
+// Steps 1 and 2: what a look selects where the type is autosensed.
+fn sense(walk: Walk, report: &[u8]) -> Choice
+    ensures { λ r. ⌜ r ≡ sensed walk (now (report .entry)) ⌝ }
 {
     let stays = stays_there(walk, report);
     if stays {
@@ -347,6 +456,20 @@ fn choose(walk: Walk, report: &[u8]) -> Choice
         settled: true,
         selected: up,
     }
+}
+
+// What a look selects.
+fn choose(walk: Walk, report: &[u8]) -> Choice
+    ensures { λ r. ⌜ r ≡ chosen walk (now (report .entry)) ⌝ }
+{
+    let fixed = is_fixed(way_of(walk.connection));
+    if fixed {
+        return Choice {
+            settled: true,
+            selected: fixed_block(walk),
+        };
+    }
+    sense(walk, report)
 }
 
 // The switches after a look; at their most they stay, which no look of a walk meets that began fresh.

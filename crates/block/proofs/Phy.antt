@@ -6,6 +6,7 @@ use mathlib.Core.Path.{_≡_, sym, _∙_}
 use mathlib.Core.Bool.{Bool, true, false}
 use mathlib.Core.List.{List}
 use lib.Dec.{ltb}
+use Rattle.rom.specs.Geometry.{none}
 use Rattle.rom.specs.Bytes.{pick, byteAt, wordAt}
 use Rattle.block.specs.declared.Block.{Block}
 use Rattle.block.specs.declared.Block.the-variants.{Listed}
@@ -26,10 +27,19 @@ pub type-3 : (s : List ℕ) → lengthFor 3 s ≡ phyLength 2 s
 unfolding lengthFor phyLength pick
 type-3 s = omega arith
 
--- a PHY, which is reset or not
-abbrev pub listedPhy : ℕ → ℕ → Bool → Block
-listedPhy kind size resets =
-    Listed (record { kind = kind; size = size; «active_invalid» = false; «is_default» = false; «resets_phy» = resets })
+-- a PHY, which is reset or not, with its capabilities
+abbrev pub listedPhy : ℕ → ℕ → Bool → ℕ → Block
+listedPhy kind size resets capabilities =
+    Listed
+    (record {
+      kind = kind;
+      size = size;
+      «media_code» = none;
+      capabilities = capabilities;
+      «active_invalid» = false;
+      «is_default» = false;
+      «resets_phy» = resets;
+    })
 
 module _ (unit : ℕ) (s : List ℕ) {g r : ℕ} (eg : g ≡ byteAt s 3) (er : r ≡ byteAt s (4 + unit * g)) where
   g-count : gCount s ≡ g
@@ -62,5 +72,6 @@ module _ (unit : ℕ) (s : List ℕ) {g r : ℕ} (eg : g ≡ byteAt s 3) (er : r
       let next : 5 + (unit * g + unit * r) + 2 ≡ 7 + (unit * g + unit * r) = omega arith in
       rw (em, ev, ew, capabilities-at, next)
 
-  pub phy-listed : (kind size : ℕ) → listedPhy kind size (ltb 0 r) ≡ listedPhy kind size (ltb 0 (rCount unit s))
-  phy-listed kind size = rw r-count
+  pub phy-listed : (kind size : ℕ) {v : ℕ} → v ≡ wordAt s (5 + (unit * g + unit * r))
+      → listedPhy kind size (ltb 0 r) v ≡ listedPhy kind size (ltb 0 (rCount unit s)) (wordAt s (capabilitiesAt unit s))
+  phy-listed kind size ev = rw (ev, capabilities-at, r-count)

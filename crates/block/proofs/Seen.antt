@@ -7,13 +7,14 @@ use mathlib.Core.Bool.{Bool, true, false, _&&_}
 use lib.Dec.{eqb, lit<, eqb·suc-zero}
 use lib.ListN.{length}
 use borrow.Author.Tests.{ltb-false, eqb-true}
+use Rattle.rom.specs.Geometry.{none}
 use Rattle.rom.specs.Bytes.{pick, one, byteAt}
 use Rattle.rom.proofs.First.{none-here}
 use Rattle.block.specs.declared.Block.{Block}
 use Rattle.block.specs.declared.Block.the-variants.{Reset, Power, Unknown, Refused}
 use Rattle.format.specs.Block.{Facts, sizeOf, kindOf, isKnown, sequence, factsOf, isListed, isPower, causes, refusalOf}
-use Rattle.block.specs.Answer.{listed, found, answered, blockOf, numberOf, sizeIn, listedIn, kindIn, modeIn}
-use Rattle.block.specs.Claims.{AnswersRefusal, AnswersEntry, AnswersMode}
+use Rattle.block.specs.Answer.{listed, found, answered, blockOf, numberOf, sizeIn, listedIn, kindIn, codeIn, capabilitiesIn, modeIn}
+use Rattle.block.specs.Claims.{AnswersRefusal, AnswersEntry, AnswersMedium, AnswersMode}
 
 pub data Seen (row level : ℕ) (s : List ℕ) : Block → Type 0 where
   refused : (n : ℕ) → refusalOf row level s ≡ n → (n ≡ 0 → ⊥) → Seen row level s (Refused n)
@@ -60,7 +61,7 @@ seen-size (a-reset e f g) z = refl
 seen-size (a-power e f g) z = refl
 seen-size (a-medium e f g) z = refl
 
--- whether it is listed, and the kind in its entry
+-- whether it is listed
 pub seen-listed : {row level : ℕ} {s : List ℕ} {b : Block} → Seen row level s b → numberOf b ≡ 0 → one (isListed row level s) ≡ listedIn b
 unfolding isListed
 seen-listed (refused n e h) z = absurd (h z)
@@ -69,14 +70,18 @@ seen-listed (a-reset e f g) z = let h = rw g at f in simp (g, h)
 seen-listed (a-power e f g) z = let h = rw g at f in simp (g, h)
 seen-listed (a-medium e f g) z = simp (f, g .0, g .1)
 
-seen-entry : {row level : ℕ} {s : List ℕ} {b : Block} → Seen row level s b → numberOf b ≡ 0
-    → kindIn b ≡ pick (isListed row level s) (kindOf row s) 0
+-- a value that a listed block has and no other has
+pub of-listed : {A : Type 0} (value : Block → A) (other : A)
+    → ((size : ℕ) → value (Reset size) ≡ other) × ((size mode : ℕ) → value (Power size mode) ≡ other)
+    × ((size : ℕ) → value (Unknown size) ≡ other)
+    → {row level : ℕ} {s : List ℕ} {b : Block} → Seen row level s b → numberOf b ≡ 0
+    → value b ≡ pick (isListed row level s) (value (listed (kindOf row s) (sizeOf row s) (factsOf (kindOf row s) s))) other
 unfolding isListed pick
-seen-entry (refused n e h) z = absurd (h z)
-seen-entry (unknown e f) z = simp f
-seen-entry (a-reset e f g) z = let h = rw g at f in simp (g, h)
-seen-entry (a-power e f g) z = let h = rw g at f in simp (g, h)
-seen-entry (a-medium e f g) z = simp (f, g .0, g .1)
+of-listed value other none-of (refused n e h) z = absurd (h z)
+of-listed value other none-of (unknown e f) z = simp f (none-of .2 _)
+of-listed value other none-of (a-reset e f g) z = let h = rw g at f in simp (g, h) (none-of .0 _)
+of-listed value other none-of (a-power e f g) z = let h = rw g at f in simp (g, h) (none-of .1 _ _)
+of-listed value other none-of (a-medium e f g) z = simp (f, g .0, g .1)
 
 pub seen-kind : {row level : ℕ} {s : List ℕ} {b : Block} → Seen row level s b → 0 < listedIn b → kindIn b ≡ kindOf row s
 seen-kind (refused n e h) l = absurd (omega arith)
@@ -103,7 +108,15 @@ pub answers-entry : AnswersEntry
 answers-entry row level s e =
     let v = seen row level s in
     let z = seen-number v ∙ e in
-    (sym (seen-listed v z), seen-entry v z)
+    (sym (seen-listed v z), of-listed kindIn 0 ((λ size. refl), (λ size mode. refl), (λ size. refl)) v z)
+
+pub answers-medium : AnswersMedium
+answers-medium row level s e =
+    let v = seen row level s in
+    let z = seen-number v ∙ e in (
+      of-listed codeIn none ((λ size. refl), (λ size mode. refl), (λ size. refl)) v z,
+      of-listed capabilitiesIn 0 ((λ size. refl), (λ size mode. refl), (λ size. refl)) v z,
+    )
 
 pub answers-mode : AnswersMode
 unfolding isPower factsOf sequence pick

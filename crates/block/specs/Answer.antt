@@ -2,6 +2,7 @@
 use Prim.Native.Nat.{ℕ}
 use mathlib.Core.List.{List}
 use lib.Dec.{eqb}
+use Rattle.rom.specs.Geometry.{none}
 use Rattle.rom.specs.Bytes.{pick}
 use Rattle.block.specs.declared.Block.{Block}
 use Rattle.block.specs.declared.Medium.{Medium}
@@ -13,7 +14,15 @@ use Rattle.format.specs.Block.{Facts, sizeOf, kindOf, isKnown, factsOf, refusal
 -- what is said of a medium or a PHY
 abbrev pub mediumOf : ℕ → ℕ → Facts → Medium
 mediumOf kind size f =
-    record { kind = kind; size = size; «active_invalid» = f .activeInvalid; «is_default» = f .isDefault; «resets_phy» = f .resetsPhy }
+    record {
+      kind = kind;
+      size = size;
+      «media_code» = f .code;
+      capabilities = f .capabilities;
+      «active_invalid» = f .activeInvalid;
+      «is_default» = f .isDefault;
+      «resets_phy» = f .resetsPhy;
+    }
 
 abbrev pub listed : ℕ → ℕ → Facts → Block
 listed kind size f = Listed (mediumOf kind size f)
@@ -65,6 +74,22 @@ kindIn (Reset size) = 0
 kindIn (Power size mode) = 0
 kindIn (Unknown size) = 0
 kindIn (Refused n) = 0
+
+-- its media code, none where it has none
+abbrev pub codeIn : Block → ℕ
+codeIn (Listed m) = m .«media_code»
+codeIn (Reset size) = none
+codeIn (Power size mode) = none
+codeIn (Unknown size) = none
+codeIn (Refused n) = none
+
+-- the capability word of a PHY, 0 where it is none
+abbrev pub capabilitiesIn : Block → ℕ
+capabilitiesIn (Listed m) = m .capabilities
+capabilitiesIn (Reset size) = 0
+capabilitiesIn (Power size mode) = 0
+capabilitiesIn (Unknown size) = 0
+capabilitiesIn (Refused n) = 0
 
 -- the mode byte of a power block, 0 where it is none
 abbrev pub modeIn : Block → ℕ

@@ -4,9 +4,10 @@ use mathlib.Core.Path.{_≡_}
 use mathlib.Core.Bool.{true}
 use mathlib.Core.List.{List}
 use lib.ListN.{take}
+use Rattle.rom.specs.Geometry.{none}
 use Rattle.rom.specs.Bytes.{pick, one, byteAt, Bytes}
 use Rattle.format.specs.Block.{sizeOf, kindOf, isKnown, factsOf, isListed, isPower, refusalOf}
-use Rattle.block.specs.Answer.{blockOf, numberOf, sizeIn, listedIn, kindIn, modeIn}
+use Rattle.block.specs.Answer.{blockOf, numberOf, sizeIn, listedIn, kindIn, codeIn, capabilitiesIn, modeIn}
 
 -- the answer's number is the block's refusal, and an accepted block has its size
 abbrev pub AnswersRefusal : Type 0
@@ -19,6 +20,12 @@ abbrev pub AnswersEntry : Type 0
 AnswersEntry = (row level : ℕ) (s : List ℕ) → refusalOf row level s ≡ 0 →
     (listedIn (blockOf row level s) ≡ one (isListed row level s))
     × (kindIn (blockOf row level s) ≡ pick (isListed row level s) (kindOf row s) 0)
+
+-- and the media code and the capability word of a listed block, as its fields have them
+abbrev pub AnswersMedium : Type 0
+AnswersMedium = (row level : ℕ) (s : List ℕ) → refusalOf row level s ≡ 0 →
+    (codeIn (blockOf row level s) ≡ pick (isListed row level s) (factsOf (kindOf row s) s .code) none)
+    × (capabilitiesIn (blockOf row level s) ≡ pick (isListed row level s) (factsOf (kindOf row s) s .capabilities) 0)
 
 -- and the mode byte of a power block, which is behind its type
 abbrev pub AnswersMode : Type 0

@@ -1,4 +1,5 @@
-// One block of an info leaf: its size, kind, flags and refusal (document 01, 'Leaf and blocks'; document 02, request 3).
+// One block of an info leaf: its size, kind, media code or capabilities, flags and refusal (document 01, 'Leaf and blocks';
+// document 02, requests 3 and 5).
 pub mod chip;
 mod search;
 pub mod shape;
@@ -6,6 +7,7 @@ pub mod shape;
 use chip::ROW_21041;
 use chip::is_permitted;
 use rom::ByteOffset;
+use rom::NONE;
 use rom::refusal;
 use search::is_in;
 ghost use mathlib.Core.Path.{_≡_};
@@ -42,10 +44,12 @@ const SYM_CODES: [u16; 5] = [3, 5, 6, 7, 8];
 
 const NEVER_DEFAULT: [u16; 3] = [4, 5, 8];
 
-// What is said of a listed block, a medium or a PHY.
+// What is said of a listed block, a medium or a PHY. A PHY has no media code, NONE, and a medium no capabilities, 0.
 pub struct Medium {
     pub kind: u16,
     pub size: usize,
+    pub media_code: u8,
+    pub capabilities: u16,
     pub active_invalid: bool,
     pub is_default: bool,
     pub resets_phy: bool,
@@ -170,13 +174,16 @@ fn judge_sia(rest: &[u8], at: usize, kind: u16, size: usize) -> Block
     if 128 <= code {
         return Block::Refused(refusal::BLOCK_CODE);
     }
-    let fine = is_in((code % 64) as u16, &SIA_CODES);
+    let media_code = code % 64;
+    let fine = is_in(media_code as u16, &SIA_CODES);
     if !fine {
         return Block::Refused(refusal::BLOCK_CODE);
     }
     Block::Listed(Medium {
         kind,
         size,
+        media_code,
+        capabilities: 0,
         active_invalid: false,
         is_default: false,
         resets_phy: false,
@@ -192,8 +199,8 @@ fn judge_port(rest: &[u8], at: usize, kind: u16, size: usize) -> Block
     if 64 <= code {
         return Block::Refused(refusal::BLOCK_CODE);
     }
-    let media_code = (code % 64) as u16;
-    let fine = is_in(media_code, &PORT_CODES);
+    let media_code = code % 64;
+    let fine = is_in(media_code as u16, &PORT_CODES);
     if !fine {
         return Block::Refused(refusal::BLOCK_CODE);
     }
@@ -202,10 +209,12 @@ fn judge_port(rest: &[u8], at: usize, kind: u16, size: usize) -> Block
         return Block::Refused(refusal::BLOCK_CODE);
     }
     let active_invalid = has_bit(ACTIVE_INVALID, command);
-    let is_default = counts_as_default(media_code, command);
+    let is_default = counts_as_default(media_code as u16, command);
     Block::Listed(Medium {
         kind,
         size,
+        media_code,
+        capabilities: 0,
         active_invalid,
         is_default,
         resets_phy: false,
@@ -247,17 +256,19 @@ fn judge_type_4(rest: &[u8], len: usize) -> Block
     if 64 <= code {
         return Block::Refused(refusal::BLOCK_CODE);
     }
-    let media_code = (code % 64) as u16;
-    let fine = is_in(media_code, &SYM_CODES);
+    let media_code = code % 64;
+    let fine = is_in(media_code as u16, &SYM_CODES);
     if !fine {
         return Block::Refused(refusal::BLOCK_CODE);
     }
     let command = rom::word_at(rest, ByteOffset(7));
     let active_invalid = has_bit(ACTIVE_INVALID, command);
-    let is_default = counts_as_default(media_code, command);
+    let is_default = counts_as_default(media_code as u16, command);
     Block::Listed(Medium {
         kind: 4,
         size: 1 + len,
+        media_code,
+        capabilities: 0,
         active_invalid,
         is_default,
         resets_phy: false,
@@ -314,6 +325,8 @@ fn judge_phy(rest: &[u8], len: usize, kind: u16, unit: usize) -> Block
     Block::Listed(Medium {
         kind,
         size: 1 + len,
+        media_code: NONE,
+        capabilities,
         active_invalid: false,
         is_default: false,
         resets_phy: 0 < resets,

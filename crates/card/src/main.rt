@@ -68,11 +68,19 @@ fn show_number(number: u8) {
     say(b"");
 }
 
-// No call is refused with 28.
+// Whether a call answers with a number: 22 is retired, and 28 is none.
+fn is_answered(number: u8) -> bool {
+    match number {
+        22 | 28 => false,
+        _ => true,
+    }
+}
+
 fn refusals() -> u8 {
     let mut number = 0u8;
-    while number <= refusal::REPEATED_MODE {
-        if number != 28 {
+    while number <= refusal::NO_FIXED_MEDIUM {
+        let answered = is_answered(number);
+        if answered {
             show_number(number);
         }
         number += 1;

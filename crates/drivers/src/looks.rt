@@ -165,12 +165,12 @@ fn show_looks(image: &[u8], arguments: Arguments, loaded: Walk, first: usize, en
     accepted
 }
 
-// How a walk goes by its connection type.
-fn way_words(line: Line, connection: u16) -> Line {
+// The end of a line that says how a walk goes by its connection type.
+fn show_way(line: Line, connection: u16) {
     match autosense::way_of(connection) {
-        Way::EveryLook => line.text(b"autosensed at every look"),
-        Way::Once => line.text(b"autosensed once"),
-        Way::Fixed => line.text(b"fixed"),
+        Way::EveryLook => line.text(b"autosensed at every look").print(),
+        Way::Once => line.text(b"autosensed once").print(),
+        Way::Fixed => words::show_connection(line.text(b"fixed: "), connection),
     }
 }
 
@@ -179,7 +179,7 @@ fn show_loaded(arguments: Arguments, walk: Walk) {
         .with(b", # blocks", [walk.blocks as u64, 0, 0, 0])
         .print();
     let line = line::of(b"  connection type @, ", [walk.connection as u64, 0, 0, 0]);
-    way_words(line, walk.connection).print();
+    show_way(line, walk.connection);
 }
 
 // Loads the image and takes the looks, whose first report is a word; the status.

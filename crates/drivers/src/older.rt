@@ -1,5 +1,4 @@
 // `card older`: what readers of every level see of a card, side by side, and whether they would walk alike.
-use autosense::Way;
 use block::NEWEST_LEVEL;
 use reader::Answer;
 use reader::Arguments;
@@ -271,13 +270,72 @@ fn show_level(image: &[u8], arguments: Arguments, answer: Answer, level: u8) {
     removed_words(line, image, arguments, level, answer.blocks).print();
 }
 
-// Whether looks serve a connection type.
-fn is_served(connection: u16) -> bool {
-    match autosense::way_of(connection) {
-        Way::EveryLook => true,
-        Way::Once => true,
-        Way::Fixed => false,
+// ## The same under a fixed type
+
+fn is_fixed(connection: u16) -> bool {
+    autosense::is_fixed(autosense::way_of(connection))
+}
+
+// The block that a reader's walk selects under a fixed type, or NONE.
+fn choice(image: &[u8], arguments: Arguments) -> u8 {
+    let loaded = autosense::load(autosense::fresh(), image, arguments);
+    autosense::fixed_block(loaded.walk)
+}
+
+// What a driver does that does not list the block that others select.
+fn show_other(other: u8) {
+    let line = Line::new().to(11);
+    if other == rom::NONE {
+        line.text(b"and refuses every look with 32").print();
+        return;
     }
+    line.with(b"and selects block #", [other as u64, 0, 0, 0])
+        .print();
+}
+
+// Whether a reader of an older level walks as one that selects this block.
+fn show_fixed_level(image: &[u8], arguments: Arguments, chosen: u8, level: u8) {
+    let line = line::of(b"  level #: ", [level as u64, 0, 0, 0]);
+    if chosen == rom::NONE {
+        line.text(b"yes, both refuse every look with 32: no listed block has this medium")
+            .print();
+        return;
+    }
+    let kind = survey::block_place(image, arguments, chosen).kind;
+    let removed = is_removed(kind, arguments.level, level);
+    if !removed {
+        line.with(
+                b"yes, it lists block #, the first with this medium",
+                [chosen as u64, 0, 0, 0],
+            )
+            .print();
+        return;
+    }
+    line.with(
+            b"no: it does not list block #, the first with this medium,",
+            [chosen as u64, 0, 0, 0],
+        )
+        .print();
+    show_other(choice(image, at_level(arguments, level)));
+}
+
+// To which medium a connection type is fixed, if it is.
+fn show_fixed(connection: u16) {
+    let fixed = is_fixed(connection);
+    if fixed {
+        let line = Line::new().text(b"The connection type is fixed: ");
+        words::show_connection(line, connection);
+    }
+}
+
+// The sentence about an older level, by the way to walk.
+fn show_sentence(image: &[u8], arguments: Arguments, answer: Answer, chosen: u8, level: u8) {
+    let fixed = is_fixed(answer.connection);
+    if fixed {
+        show_fixed_level(image, arguments, chosen, level);
+        return;
+    }
+    show_level(image, arguments, answer, level);
 }
 
 fn show_question(level: u8) {
@@ -294,15 +352,12 @@ fn show_question(level: u8) {
 }
 
 fn show_sentences(image: &[u8], arguments: Arguments, answer: Answer) {
-    let served = is_served(answer.connection);
-    if !served {
-        say(b"The connection type is fixed, so that no driver looks: all stand alike.");
-        return;
-    }
+    show_fixed(answer.connection);
     show_question(arguments.level);
+    let chosen = choice(image, arguments);
     let mut level = 0u8;
     while level < arguments.level {
-        show_level(image, arguments, answer, level);
+        show_sentence(image, arguments, answer, chosen, level);
         level += 1;
     }
 }

@@ -1,10 +1,11 @@
--- One block, given as the leaf's rest `s` from its first byte on (document 01, 'Leaf and blocks'; document 02, request 3). Its size, its
--- kind and what its fields say take no level: the level decides only which of the causes 14 to 17 count.
+-- One block, given as the leaf's rest `s` from its first byte on (document 01, 'Leaf and blocks'; document 02, requests 3 and 5). Its
+-- size, its kind and what its fields say take no level: the level decides only which of the causes 14 to 17 count.
 use Prim.Native.Nat.{ℕ, _+_, _*_, _/_, _%_}
 use mathlib.Core.List.{List, [], _∷_}
 use mathlib.Core.Bool.{Bool, false, _||_, _&&_, not}
 use lib.ListN.{length}
 use lib.Dec.{eqb, leb, ltb}
+use Rattle.rom.specs.Geometry.{none}
 use Rattle.rom.specs.Bytes.{pick, byteAt, wordAt, bit, isIn}
 use Rattle.rom.specs.Refusal.{Cause, _⇒_, firstMet}
 use Rattle.format.specs.Chips.{row21041, kindCompact, kind21041, isPermitted, siaCodes, portCodes, symCodes, neverDefault}
@@ -75,6 +76,7 @@ isWrong kind s = not (eqb (lengthOf s) (lengthFor kind s))
 
 -- ## What a block's fields say, type by type
 
+-- `code` is the media code, none where there is none, and `capabilities` the word of a PHY, 0 where there is none
 pub record Facts : Type 0 where
   pub wrongLength : Bool
   pub badCode : Bool
@@ -82,6 +84,8 @@ pub record Facts : Type 0 where
   pub activeInvalid : Bool
   pub isDefault : Bool
   pub resetsPhy : Bool
+  pub code : ℕ
+  pub capabilities : ℕ
   pub mode : ℕ
 
 -- a code byte with EXT: bit 7 is reserved
@@ -117,6 +121,8 @@ sia wrong at s =
       activeInvalid = false;
       isDefault = false;
       resetsPhy = false;
+      code = mediaCode (byteAt s at);
+      capabilities = 0;
       mode = 0;
     }
 
@@ -129,6 +135,8 @@ port wrong at s = record {
   activeInvalid = bit 15 (wordAt s (at + 2));
   isDefault = countsAsDefault (mediaCode (byteAt s at)) (wordAt s (at + 2));
   resetsPhy = false;
+  code = mediaCode (byteAt s at);
+  capabilities = 0;
   mode = 0;
 }
 
@@ -141,10 +149,12 @@ symbol wrong s = record {
   activeInvalid = bit 15 (wordAt s 7);
   isDefault = countsAsDefault (mediaCode (byteAt s 2)) (wordAt s 7);
   resetsPhy = false;
+  code = mediaCode (byteAt s 2);
+  capabilities = 0;
   mode = 0;
 }
 
--- types 1 and 3: a PHY is reset with r above 0
+-- types 1 and 3: a PHY has no media code, and is reset with r above 0
 unfoldable pub phy : Bool → ℕ → List ℕ → Facts
 phy wrong unit s = record {
   wrongLength = wrong;
@@ -153,6 +163,8 @@ phy wrong unit s = record {
   activeInvalid = false;
   isDefault = false;
   resetsPhy = ltb 0 (rCount unit s);
+  code = none;
+  capabilities = wordAt s (capabilitiesAt unit s);
   mode = 0;
 }
 
@@ -166,6 +178,8 @@ sequence wrong mode =
       activeInvalid = false;
       isDefault = false;
       resetsPhy = false;
+      code = none;
+      capabilities = 0;
       mode = mode;
     }
 

@@ -1,6 +1,5 @@
 // `card read`: the verdict, and what the card says.
 use block::Block;
-use libc::STDOUT_FILENO;
 use reader::Answer;
 use reader::Arguments;
 use report::words;
@@ -25,12 +24,11 @@ fn show_header(image: &[u8], answer: Answer) {
     line::of(b"  format version   #", [version, 0, 0, 0]).print();
     line::of(b"  controllers      #", [controllers, 0, 0, 0]).print();
     report::address_words(Line::new().text(b"  station address  "), answer.address).print();
-    line::of(
+    let line = line::of(
         b"  connection type  @, ",
         [answer.connection as u64, 0, 0, 0],
-    ).show(STDOUT_FILENO);
-    words::show_connection(answer.connection, STDOUT_FILENO);
-    say(b"");
+    );
+    words::show_connection(line, answer.connection);
 }
 
 fn show_counts(arguments: Arguments, answer: Answer) {

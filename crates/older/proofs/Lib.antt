@@ -2,6 +2,7 @@ pub mod Older
 pub mod OlderAnswer
 pub mod Numbered
 pub mod Simulation
+pub mod Lacking
 pub mod OlderReadings
 pub mod OlderReader
 pub mod Order

@@ -10,11 +10,11 @@ use lib.ListN.{length, getD, replicate}
 use borrow.Author.Tests.{eqb-true}
 use Rattle.rom.specs.Geometry.{none}
 use Rattle.rom.specs.Bytes.{pick, one}
-use Rattle.rom.proofs.Truth.{true-false}
+use Rattle.rom.proofs.Truth.{true-false, and-true, and-false}
 use Rattle.format.specs.Block.{kindOf, isKnown, factsOf, sequence, isMedium, isListed, isDefault}
 use Rattle.format.proofs.Levels.{known-up}
 use Rattle.leaf.specs.Leaf.{firstFrom}
-use Rattle.walk.specs.Walk.{blockIs, flags, flagAt, isInvalid}
+use Rattle.walk.specs.Walk.{blockIs, flags, flagAt, isInvalid, isFixedMedium}
 use Rattle.older.specs.Levels.{isRemoved}
 
 -- ## Flags
@@ -55,6 +55,14 @@ block-same p q r h [] k e = refl
 block-same p q r h (s ∷ bs) zero e = h s e
 block-same p q r h (s ∷ bs) (suc k) e = block-same p q r h bs k e
 
+pub block-fewer : (p q : List ℕ → Bool) → ((s : List ℕ) → q s ≡ false → p s ≡ false) → (bs : List (List ℕ)) (k : ℕ)
+    → blockIs q bs k ≡ false
+    → blockIs p bs k ≡ false
+unfolding blockIs
+block-fewer p q h [] k e = refl
+block-fewer p q h (s ∷ bs) zero e = h s e
+block-fewer p q h (s ∷ bs) (suc k) e = block-fewer p q h bs k e
+
 -- a block that p takes is the one of its number in the list
 pub block-at : (p q : List ℕ → Bool) (bs : List (List ℕ)) (k : ℕ) → blockIs p bs k ≡ true
     → (p (getD bs k []) ≡ true) × (blockIs q bs k ≡ q (getD bs k []))
@@ -66,7 +74,7 @@ block-at p q (s ∷ bs) (suc k) e = block-at p q bs k e
 -- ## Levels
 
 -- an entry that is not removed is listed at both levels or at neither
-listed-level : (row older newest : ℕ) → older ≤ newest → (s : List ℕ) → isRemoved row older newest s ≡ false
+pub listed-level : (row older newest : ℕ) → older ≤ newest → (s : List ℕ) → isRemoved row older newest s ≡ false
     → isListed row older s ≡ isListed row newest s
 unfolding isListed
 listed-level row older newest h s =
@@ -78,20 +86,49 @@ listed-level row older newest h s =
     go true false false u e = refl
     go false false x u e = refl
 
-invalid-level : (row older newest : ℕ) → older ≤ newest → (s : List ℕ) → isRemoved row older newest s ≡ false
+pub invalid-level : (row older newest : ℕ) → older ≤ newest → (s : List ℕ) → isRemoved row older newest s ≡ false
     → isInvalid row older s ≡ isInvalid row newest s
 unfolding isInvalid
 invalid-level row older newest h s r = rw (listed-level row older newest h s r)
 
-module _ (row older newest : ℕ) (h : older ≤ newest) (bs : List (List ℕ)) (k : ℕ)
-    (e : blockIs (isRemoved row older newest) bs k ≡ false) where
-  pub listed-same : flagAt (flags (isListed row older) bs) k ≡ flagAt (flags (isListed row newest) bs) k
-  listed-same = flag-block _ bs k ∙ block-same _ _ (isRemoved row older newest) (listed-level row older newest h) bs k e
-      ∙ sym (flag-block _ bs k)
+pub fixed-level : (connection row older newest : ℕ) → older ≤ newest → (s : List ℕ) → isRemoved row older newest s ≡ false
+    → isFixedMedium connection row older s ≡ isFixedMedium connection row newest s
+unfolding isFixedMedium
+fixed-level connection row older newest h s r = rw (listed-level row older newest h s r)
 
-  pub invalid-same : flagAt (flags (isInvalid row older) bs) k ≡ flagAt (flags (isInvalid row newest) bs) k
-  invalid-same = flag-block _ bs k ∙ block-same _ _ (isRemoved row older newest) (invalid-level row older newest h) bs k e
-      ∙ sym (flag-block _ bs k)
+-- the older level lists no block that the newest does not list
+fixed-down : (connection row older newest : ℕ) → older ≤ newest → (s : List ℕ) → isFixedMedium connection row newest s ≡ false
+    → isFixedMedium connection row older s ≡ false
+unfolding isFixedMedium isListed
+fixed-down connection row older newest h s =
+    go (isKnown newest (kindOf row s)) (isKnown older (kindOf row s)) (isMedium (kindOf row s)) _ (known-up older newest (kindOf row s) h)
+  where
+    go : (k l x y : Bool) → (l ≡ true → k ≡ true) → ((k && x) && y) ≡ false → ((l && x) && y) ≡ false
+    go k true x y u e = rw (u refl) at e
+    go k false x y u e = refl
+
+pub fixed-fewer : (connection row older newest : ℕ) → older ≤ newest → (bs : List (List ℕ)) (k : ℕ)
+    → flagAt (flags (isFixedMedium connection row newest) bs) k ≡ false
+    → flagAt (flags (isFixedMedium connection row older) bs) k ≡ false
+fixed-fewer connection row older newest h bs k e =
+    flag-block _ bs k ∙ block-fewer _ _ (fixed-down connection row older newest h) bs k (sym (flag-block _ bs k) ∙ e)
+
+-- a block that the older level lists is not removed
+pub not-removed : (row older newest : ℕ) (bs : List (List ℕ)) (k : ℕ) → blockIs (isListed row older) bs k ≡ true
+    → blockIs (isRemoved row older newest) bs k ≡ false
+unfolding isListed
+not-removed row older newest bs k e =
+    let t = block-at (isListed row older) (isRemoved row older newest) bs k e in
+    let s = getD bs k [] in
+    let known : isKnown older (kindOf row s) ≡ true = and-true _ (isMedium (kindOf row s)) (t .0) .0 in
+    t .1 ∙ rw known (and-false (isListed row newest s))
+
+-- so rows of what is alike at blocks that are not removed have the same flags there
+pub flags-same : (row older newest : ℕ) (p q : List ℕ → Bool) → ((s : List ℕ) → isRemoved row older newest s ≡ false → p s ≡ q s)
+    → (bs : List (List ℕ)) (k : ℕ) → blockIs (isRemoved row older newest) bs k ≡ false
+    → flagAt (flags p bs) k ≡ flagAt (flags q bs) k
+flags-same row older newest p q level bs k e =
+    flag-block p bs k ∙ block-same p q (isRemoved row older newest) level bs k e ∙ sym (flag-block q bs k)
 
 -- ## The default
 

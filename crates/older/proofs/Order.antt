@@ -1,22 +1,27 @@
 -- What the rows say of the table: the last block that is up is the first in table order. Assumes nothing.
-use Prim.Native.Nat.{ℕ, suc, _+_, _-_, _≤_}
+use Prim.Native.Nat.{ℕ, zero, suc, _+_, _-_, _≤_}
 use native.Mathlib.Omega.{arith}
 use native.Mathlib.Nat.{add-zero, zero-add}
 use mathlib.Core.List.{List, [], _∷_, _++_, map, map-append, append-nil, reverse, reverse-cons}
 use mathlib.Core.Path.{_≡_, refl, ap, sym, _∙_}
 use mathlib.Core.Bool.{Bool, true, false, _&&_, not}
-use lib.ListN.{length, getD, replicate, length-append, length-map, length-replicate}
+use lib.ListN.{length, getD, replicate, length-append, length-map, length-replicate, replicate-append-replicate}
 use Rattle.rom.specs.Bytes.{pick, one}
+use Rattle.rom.specs.Refusal.{firstMet}
+use Rattle.rom.proofs.Truth.{and-false}
 use Rattle.format.specs.Block.{sizeOf, isListed}
+use Rattle.header.specs.declared.Arguments.{Arguments}
 use Rattle.header.specs.Image.{restFrom}
 use Rattle.header.specs.Header.{rowFor, startFor, countFor}
 use Rattle.leaf.specs.Leaf.{Place, placed, keep, table, tableOf}
 use Rattle.leaf.proofs.Cuts.{cut-length}
-use Rattle.reader.specs.Reading.{blocksFor, acceptedAnswer}
+use Rattle.reader.specs.Reading.{blocksFor, judgeCauses, acceptedAnswer}
 use Rattle.rom.specs.Geometry.{none}
-use Rattle.walk.specs.Walk.{rowLength, flags, blockIs, isInvalid, isUp, rowsOf, loadedWalk, lastBelow, isCandidate, firstUp}
+use Rattle.walk.specs.Walk.{rowLength, noFlags, flags, blockIs, isInvalid, isFixedMedium, isUp, rowsOf, loadedWalk, lastBelow, isCandidate}
+use Rattle.walk.specs.Walk.{firstUp, fixedBlock}
 use Rattle.walk.proofs.Loads.{few-blocks}
-use Rattle.older.specs.Claims.{FlagForEach, RowsSay, numbersFrom, entryNumbers, firstOf, TableNumbers, FirstInOrder}
+use Rattle.older.specs.Claims.{FlagForEach, RowsSay, ZerosElsewhere, numbersFrom, entryNumbers, firstOf, TableNumbers, FirstInOrder}
+use Rattle.older.specs.Claims.{FixedInOrder}
 use Rattle.older.proofs.Numbered.{flag-block}
 use Rattle.older.proofs.OlderReadings.{parts}
 use Rattle.older.proofs.Simulation.{last-same}
@@ -25,7 +30,8 @@ use Rattle.older.proofs.Simulation.{last-same}
 
 pub rows-say : RowsSay
 unfolding loadedWalk rowsOf
-rows-say image a k = (flag-block _ (blocksFor image a) k, flag-block _ (blocksFor image a) k)
+rows-say image a k =
+    (flag-block _ (blocksFor image a) k, flag-block _ (blocksFor image a) k, flag-block _ (blocksFor image a) k)
 
 flags-length : (p : List ℕ → Bool) (bs : List (List ℕ)) → length bs ≤ 128 → length (flags p bs) ≡ rowLength
 unfolding flags
@@ -37,14 +43,37 @@ flags-length p bs h =
       length-replicate {A = ℕ} (128 - length bs) 0,
     )
 
+module _ (image : List ℕ) (a : Arguments) (e : firstMet (judgeCauses image a) ≡ 0) where
+  few : countFor image a ≤ 91
+  few = let b = parts image a e in few-blocks image a (b .0) (b .1)
+
+  short : length (blocksFor image a) ≤ 128
+  short = omega (arith, few, cut-length (rowFor a) (countFor image a) (restFrom (a .layout) image (startFor image a)))
+
 pub flag-for-each : FlagForEach
 unfolding loadedWalk rowsOf acceptedAnswer
 flag-for-each image a e =
-    let b = parts image a e in
-    let few = few-blocks image a (b .0) (b .1) in
-    let short : length (blocksFor image a) ≤ 128 =
-    omega (arith, few, cut-length (rowFor a) (countFor image a) (restFrom (a .layout) image (startFor image a))) in
-    (few, flags-length _ (blocksFor image a) short, flags-length _ (blocksFor image a) short)
+    let fits = short image a e in (
+      few image a e,
+      flags-length _ (blocksFor image a) fits,
+      flags-length _ (blocksFor image a) fits,
+      flags-length _ (blocksFor image a) fits,
+    )
+
+no-flag : (p : List ℕ → Bool) → ((s : List ℕ) → p s ≡ false) → (bs : List (List ℕ)) → map (λ s. one (p s)) bs ≡ replicate (length bs) 0
+no-flag p h [] = refl
+no-flag p h (s ∷ bs) = rw (h s, no-flag p h bs)
+
+pub zeros-elsewhere : ZerosElsewhere
+unfolding loadedWalk rowsOf flags noFlags isFixedMedium
+zeros-elsewhere image a e f =
+    let bs = blocksFor image a in
+    let all : length bs + (128 - length bs) ≡ 128 = omega (arith, short image a e) in
+    ap (λ (r : List ℕ). r ++ replicate (128 - length bs) 0)
+    (no-flag (isFixedMedium (acceptedAnswer image a .connection) (rowFor a) (a .level))
+    (λ s. rw f (and-false (isListed (rowFor a) (a .level) s))) bs)
+    ∙ replicate-append-replicate (length bs) (128 - length bs) 0
+    ∙ ap (λ (n : ℕ). replicate n 0) all
 
 -- ## Numbers
 
@@ -107,6 +136,18 @@ and-assoc : (x y z : Bool) → ((x && y) && z) ≡ (x && (y && z))
 and-assoc true y z = refl
 and-assoc false y z = refl
 
+-- the last block below the count is the first in table order
+table-order : (p : List ℕ → Bool) (q : ℕ → Bool) (image : List ℕ) (a : Arguments)
+    → lastBelow (taken p q (blocksFor image a)) (countFor image a) ≡ firstOf q (reverse (numbersFrom p 0 (blocksFor image a)))
+unfolding taken lastBelow
+table-order p q image a =
+    let bs = blocksFor image a in
+    let all : countFor image a ≡ 0 + length bs =
+    omega (arith, cut-length (rowFor a) (countFor image a) (restFrom (a .layout) image (startFor image a))) in
+    ap (lastBelow (taken p q bs)) all
+    ∙ sym (last-first p q bs 0 bs (λ j. ap (blockIs p bs) (zero-add j)))
+    ∙ or-none q (reverse (numbersFrom p 0 bs))
+
 pub first-in-order : FirstInOrder
 unfolding loadedWalk rowsOf acceptedAnswer firstUp isCandidate entryNumbers taken lastBelow
 first-in-order image a settled report =
@@ -114,14 +155,34 @@ first-in-order image a settled report =
     let p = isListed (rowFor a) (a .level) in
     let i = isInvalid (rowFor a) (a .level) in
     let q : ℕ → Bool = λ k. not (settled && blockIs i bs k) && isUp report k in
-    let all : countFor image a ≡ 0 + length bs =
-    omega (arith, cut-length (rowFor a) (countFor image a) (restFrom (a .layout) image (startFor image a))) in
     last-same _ (taken p q bs)
     (λ k. rw (flag-block p bs k, flag-block i bs k) (and-assoc (blockIs p bs k) (not (settled && blockIs i bs k)) (isUp report k)))
     (countFor image a)
-    ∙ ap (lastBelow (taken p q bs)) all
-    ∙ sym (last-first p q bs 0 bs (λ j. ap (blockIs p bs) (zero-add j)))
-    ∙ or-none q (reverse (numbersFrom p 0 bs))
+    ∙ table-order p q image a
+
+and-twice : (x y : Bool) → (x && y) ≡ (x && (x && y))
+and-twice true y = refl
+and-twice false y = refl
+
+-- a block of the fixed medium is listed
+pub fixed-within : (connection row level : ℕ) (bs : List (List ℕ)) (k : ℕ)
+    → blockIs (isFixedMedium connection row level) bs k
+    ≡ (blockIs (isListed row level) bs k && blockIs (isFixedMedium connection row level) bs k)
+unfolding blockIs isFixedMedium
+fixed-within connection row level [] k = refl
+fixed-within connection row level (s ∷ bs) zero = and-twice (isListed row level s) _
+fixed-within connection row level (s ∷ bs) (suc k) = fixed-within connection row level bs k
+
+pub fixed-in-order : FixedInOrder
+unfolding loadedWalk rowsOf acceptedAnswer fixedBlock entryNumbers taken lastBelow
+fixed-in-order image a =
+    let bs = blocksFor image a in
+    let p = isListed (rowFor a) (a .level) in
+    let m = isFixedMedium (acceptedAnswer image a .connection) (rowFor a) (a .level) in
+    let q : ℕ → Bool = λ k. blockIs m bs k in
+    last-same _ (taken p q bs) (λ k. flag-block m bs k ∙ fixed-within (acceptedAnswer image a .connection) (rowFor a) (a .level) bs k)
+    (countFor image a)
+    ∙ table-order p q image a
 
 -- ## The table's entries
 

@@ -12,11 +12,16 @@ use Rattle.rom.specs.Refusal.{firstMet}
 use Rattle.rom.proofs.Truth.{and-false}
 use Rattle.header.specs.declared.Arguments.{Arguments}
 use Rattle.walk.specs.declared.Walk.{Walk}
-use Rattle.walk.specs.Walk.{isUp, freshWalk, lastBelow, stays, isCandidate, firstUp, upIn, choice, chosen, stepped}
-use Rattle.walk.specs.Walk.{lookCauses, walkedTo, loadFor, lookFor, clearFor}
+use Rattle.walk.specs.declared.Choice.{Choice}
+use Rattle.walk.specs.declared.Way.{Way}
+use Rattle.walk.specs.declared.Way.the-variants.{EveryLook, Once, Fixed}
+use Rattle.walk.specs.Walk.{wayOf, isFixed, isUp, freshWalk, lastBelow, stays, isCandidate, firstUp, upIn, choice, sensed, fixedBlock}
+use Rattle.walk.specs.Walk.{chosen, stepped, lookCauses, walkedTo, loadFor, lookFor, clearFor}
 use Rattle.walk.proofs.Loads.{load-loaded}
-use Rattle.older.specs.Calls.{Call, load, look, clear, call, Seen, fresh, loaded, seen, after, run, DownAt, Down}
-use Rattle.older.specs.Alike.{Alike, DefaultKept, SameState, StandAlike}
+use Rattle.walk.proofs.Looks.{SameLeaf, look-keeps}
+use Rattle.walk.proofs.Fixed.{fixed-chosen, sensed-chosen}
+use Rattle.older.specs.Calls.{Call, load, look, clear, call, Seen, fresh, loaded, seen, after, run, Each, DownAt, QuietAt}
+use Rattle.older.specs.Alike.{Alike, DefaultKept, Kept, SameState, StandAlike}
 use Rattle.older.specs.Claims.{SeenTells, OneLook}
 
 -- ## Searches
@@ -38,6 +43,27 @@ last-kept removed p z h (suc n) = go (p n) (removed n) refl refl (last-kept remo
     go true false e r ih = r
     go false y e r ih = ih
 
+-- two searches, the second of which takes no more, and as much at blocks that are not removed: where the first finds no
+-- removed block, both find the same
+last-fewer : (removed p q : ℕ → Bool) → ((k : ℕ) → removed k ≡ false → q k ≡ p k) → ((k : ℕ) → p k ≡ false → q k ≡ false) → (n : ℕ)
+    → removed (lastBelow p n) ≡ false
+    → lastBelow q n ≡ lastBelow p n
+unfolding lastBelow pick
+last-fewer removed p q same fewer zero r = refl
+last-fewer removed p q same fewer (suc n) r = go (p n) refl (last-fewer removed p q same fewer n) r
+  where
+    go : (x : Bool) → p n ≡ x → (removed (lastBelow p n) ≡ false → lastBelow q n ≡ lastBelow p n)
+        → removed (pick x n (lastBelow p n)) ≡ false
+        → pick (q n) n (lastBelow q n) ≡ pick x n (lastBelow p n)
+    go true e ih r = rw (same n r ∙ e)
+    go false e ih r = rw (fewer n e) (ih r)
+
+-- so the choices under a fixed type are the same
+pub choice-same : (removed : ℕ → Bool) (new old : Walk) → Alike removed new old → removed (fixedBlock new) ≡ false
+    → fixedBlock old ≡ fixedBlock new
+unfolding fixedBlock
+choice-same removed new old leaf kept = rw (leaf .blocks) (last-fewer removed _ _ (leaf .fixed) (leaf .fewer) (new .blocks) kept)
+
 -- ## One look
 
 module _ (removed : ℕ → Bool) (new old : Walk) (report : List ℕ) (nowhere : removed none ≡ false)
@@ -48,9 +74,57 @@ module _ (removed : ℕ → Bool) (new old : Walk) (report : List ℕ) (nowhere 
   abbrev state : SameState new old
   state = together .state
 
-  causes-same : lookCauses old report ≡ lookCauses new report
+  -- ## The answer, by its causes and its choice
+
+  stepped-alike : chosen old report ≡ chosen new report → removed (chosen new report .selected) ≡ false
+      → StandAlike removed (stepped new report) (stepped old report)
+  unfolding stepped
+  stepped-alike same kept = record {
+    alike = record {
+      connection = leaf .connection;
+      blocks = leaf .blocks;
+      listed = leaf .listed;
+      invalid = leaf .invalid;
+      fixed = leaf .fixed;
+      fewer = leaf .fewer;
+    };
+    state = record {
+      loaded = state .loaded;
+      settled = rw same;
+      selected = rw same;
+      looks = rw (state .looks);
+      switches = rw (same, state .switches, state .selected);
+    };
+    kept = kept;
+  }
+
+  abbrev Looked : Type 0
+  Looked = (lookFor old report .number ≡ lookFor new report .number)
+      × StandAlike removed (lookFor new report .walk) (lookFor old report .walk)
+
+  looked : lookCauses old report ≡ lookCauses new report
+      → (firstMet (lookCauses new report) ≡ 0 → (chosen old report ≡ chosen new report) × (removed (chosen new report .selected) ≡ false))
+      → Looked
+  unfolding lookFor walkedTo pick
+  looked causes h = go (eqb (firstMet (lookCauses new report)) 0) refl
+    where
+      go : (b : Bool) → eqb (firstMet (lookCauses new report)) 0 ≡ b → Looked
+      go true e =
+          let c = h (eqb-true (firstMet (lookCauses new report)) 0 e) in
+          rw (causes, e) (refl, stepped-alike (c .0) (c .1))
+      go false e = rw (causes, e) (refl, together)
+
+  -- the causes are the same where the fixed medium is missing at both or at neither
+  causes-same : (isFixed (wayOf (old .connection)) && eqb (fixedBlock old) none)
+      ≡ (isFixed (wayOf (new .connection)) && eqb (fixedBlock new) none)
+      → lookCauses old report ≡ lookCauses new report
   unfolding lookCauses
-  causes-same = rw (state .loaded, state .looks, leaf .connection, leaf .blocks)
+  causes-same lacks = rw (lacks, state .loaded, state .looks, leaf .blocks)
+
+  way-same : isFixed (wayOf (old .connection)) ≡ isFixed (wayOf (new .connection))
+  way-same = ap (λ (c : ℕ). isFixed (wayOf c)) (leaf .connection)
+
+  -- ## Where the type is autosensed
 
   stays-same : stays old report ≡ stays new report
   unfolding stays
@@ -72,13 +146,13 @@ module _ (removed : ℕ → Bool) (new old : Walk) (report : List ℕ) (nowhere 
     unfolding upIn firstUp candidate
     up-kept = last-kept removed _ nowhere (λ k r. rw (quiet k r) (and-false (candidate new k))) (new .blocks)
 
-    chosen-same : chosen old report ≡ chosen new report
-    unfolding chosen
-    chosen-same = rw (stays-same, up-same, default .same, state .settled, state .selected)
+    sensed-same : sensed old report ≡ sensed new report
+    unfolding sensed
+    sensed-same = rw (stays-same, up-same, default .same, state .settled, state .selected)
 
-    chosen-kept : removed (chosen new report .selected) ≡ false
-    unfolding chosen pick
-    chosen-kept = go (stays new report) (eqb (upIn new report) none)
+    sensed-kept : removed (sensed new report .selected) ≡ false
+    unfolding sensed pick
+    sensed-kept = go (stays new report) (eqb (upIn new report) none)
       where
         go : (t u : Bool)
             → removed
@@ -88,34 +162,37 @@ module _ (removed : ℕ → Bool) (new old : Walk) (report : List ℕ) (nowhere 
         go false true = default .kept
         go false false = up-kept
 
-    stepped-alike : StandAlike removed (stepped new report) (stepped old report)
-    unfolding stepped
-    stepped-alike = record {
-      alike = record { connection = leaf .connection; blocks = leaf .blocks; listed = leaf .listed; invalid = leaf .invalid };
-      state = record {
-        loaded = state .loaded;
-        settled = rw chosen-same;
-        selected = rw chosen-same;
-        looks = rw (state .looks);
-        switches = rw (chosen-same, state .switches, state .selected);
-      };
-      kept = chosen-kept;
-    }
+  autosensed-alike : isFixed (wayOf (new .connection)) ≡ false → DefaultKept removed new old → DownAt removed new (look report) → Looked
+  autosensed-alike autosensed d h =
+      let old-sensed = sensed-chosen old report (way-same ∙ autosensed) in
+      let new-sensed = sensed-chosen new report autosensed in
+      looked (causes-same (rw (way-same, autosensed) refl))
+      (λ z. (
+        old-sensed ∙ sensed-same (h z) d ∙ sym new-sensed,
+        ap (λ (c : Choice). removed (c .selected)) new-sensed ∙ sensed-kept (h z) d,
+      ))
+
+  -- ## Where it is fixed
+
+  fixed-alike : isFixed (wayOf (new .connection)) ≡ true → removed (fixedBlock new) ≡ false → Looked
+  fixed-alike fixed kept =
+      let same = choice-same removed new old leaf kept in
+      let new-chosen = fixed-chosen new report fixed in
+      looked (causes-same (rw (same, way-same) refl))
+      (λ z. (
+        fixed-chosen old report (way-same ∙ fixed) ∙ ap (choice true) same ∙ sym new-chosen,
+        ap (λ (c : Choice). removed (c .selected)) new-chosen ∙ kept,
+      ))
 
 pub one-look : OneLook
-unfolding lookFor walkedTo pick
-one-look removed new old report nowhere together default h = go (eqb number 0) refl
+one-look removed new old report nowhere together = go (wayOf (new .connection)) refl
   where
-    number : ℕ
-    number = firstMet (lookCauses new report)
-
-    go : (b : Bool) → eqb number 0 ≡ b
+    go : (way : Way) → wayOf (new .connection) ≡ way → Kept way removed new old → QuietAt way removed new (look report)
         → (lookFor old report .number ≡ lookFor new report .number)
         × StandAlike removed (lookFor new report .walk) (lookFor old report .walk)
-    go true e =
-        rw (causes-same removed new old report nowhere together, e)
-        (refl, stepped-alike removed new old report nowhere together (h (eqb-true number 0 e)) default)
-    go false e = rw (causes-same removed new old report nowhere together, e) (refl, together)
+    go EveryLook e d h = autosensed-alike removed new old report nowhere together (ap isFixed e) d h
+    go Once e d h = autosensed-alike removed new old report nowhere together (ap isFixed e) d h
+    go Fixed e kept h = fixed-alike removed new old report nowhere together (ap isFixed e) kept
 
 -- ## What is seen
 
@@ -144,65 +221,68 @@ seen-tells v w a b e =
 
 -- ## Lists of calls
 
--- both fresh, or loaded and standing alike
-pub data Pair (removed : ℕ → Bool) : Walk → Walk → Type 0 where
-  idle : Pair removed freshWalk freshWalk
-  on : {new old : Walk} → new .loaded ≡ true → DefaultKept removed new old → StandAlike removed new old → Pair removed new old
+-- both fresh, or loaded and standing alike, under a type of the way
+pub data Pair (way : Way) (removed : ℕ → Bool) : Walk → Walk → Type 0 where
+  idle : Pair way removed freshWalk freshWalk
+  on : {new old : Walk} → new .loaded ≡ true → wayOf (new .connection) ≡ way → Kept way removed new old → StandAlike removed new old
+      → Pair way removed new old
 
-seen-same : {removed : ℕ → Bool} {new old : Walk} → Pair removed new old → seen old ≡ seen new
+seen-same : {way : Way} {removed : ℕ → Bool} {new old : Walk} → Pair way removed new old → seen old ≡ seen new
 unfolding seen
 seen-same idle = refl
-seen-same (on l d s) = rw (s .state .loaded, s .state .settled, s .state .selected, s .state .looks, s .state .switches)
+seen-same (on l e k s) = rw (s .state .loaded, s .state .settled, s .state .selected, s .state .looks, s .state .switches)
 
-fresh-look : (report : List ℕ) → lookFor freshWalk report ≡ record { number = 20; walk = freshWalk }
+pub fresh-look : (report : List ℕ) → lookFor freshWalk report ≡ record { number = 20; walk = freshWalk }
 unfolding lookFor lookCauses firstMet walkedTo pick freshWalk
 fresh-look report = refl
 
--- a look changes neither whether a walk is loaded nor its default
-look-keeps : (w : Walk) (report : List ℕ)
-    → (lookFor w report .walk .loaded ≡ w .loaded) × (lookFor w report .walk .«default_number» ≡ w .«default_number»)
-unfolding lookFor walkedTo stepped pick
-look-keeps w report = go (eqb (firstMet (lookCauses w report)) 0)
-  where
-    go : (t : Bool)
-        → (pick t (stepped w report) w .loaded ≡ w .loaded) × (pick t (stepped w report) w .«default_number» ≡ w .«default_number»)
-    go true = (refl, refl)
-    go false = (refl, refl)
+-- a look leaves what is kept
+default-on : (removed : ℕ → Bool) {v w next older : Walk} → SameLeaf v next → SameLeaf w older → DefaultKept removed v w
+    → DefaultKept removed next older
+default-on removed n o k = record { same = o .«default» ∙ k .same ∙ sym (n .«default»); kept = ap removed (n .«default») ∙ k .kept }
 
-module _ (removed : ℕ → Bool) (nowhere : removed none ≡ false) (image : List ℕ) (newest older : Arguments) (new old : Walk)
+kept-on : (way : Way) (removed : ℕ → Bool) {v w next older : Walk} → SameLeaf v next → SameLeaf w older → Kept way removed v w
+    → Kept way removed next older
+kept-on EveryLook removed n o k = default-on removed n o k
+kept-on Once removed n o k = default-on removed n o k
+kept-on Fixed removed n o k = ap removed (n .fixed) ∙ k
+
+module _ (way : Way) (removed : ℕ → Bool) (nowhere : removed none ≡ false) (image : List ℕ) (newest older : Arguments) (new old : Walk)
     (new-loads : loadFor freshWalk image newest ≡ record { number = 0; walk = new })
     (old-loads : loadFor freshWalk image older ≡ record { number = 0; walk = old })
-    (loads : Pair removed new old) where
+    (loads : Pair way removed new old) where
   -- one call: the same number, and the walks after it
   abbrev Step : Walk → Walk → Call → Type 0
   Step v w c = (call image older w c .number ≡ call image newest v c .number)
-      × Pair removed (call image newest v c .walk) (call image older w c .walk)
+      × Pair way removed (call image newest v c .walk) (call image older w c .walk)
 
-  load-step : {v w : Walk} → Pair removed v w → Step v w load
+  load-step : {v w : Walk} → Pair way removed v w → Step v w load
   unfolding call
   load-step idle = rw (new-loads, old-loads) (refl, loads)
-  load-step {v} {w} (on l d s) = rw (← load-loaded v image newest l, ← load-loaded w image older (s .state .loaded ∙ l)) (refl, on l d s)
+  load-step {v} {w} (on l e k s) =
+      rw (← load-loaded v image newest l, ← load-loaded w image older (s .state .loaded ∙ l)) (refl, on l e k s)
 
-  look-step : {v w : Walk} (report : List ℕ) → Pair removed v w → DownAt removed v (look report) → Step v w (look report)
+  look-step : {v w : Walk} (report : List ℕ) → Pair way removed v w → QuietAt way removed v (look report) → Step v w (look report)
   unfolding call
   look-step report idle h = rw (fresh-look report) (refl, idle)
-  look-step {v} {w} report (on l d s) h =
-      let r = one-look removed v w report nowhere s d h in
+  look-step {v} {w} report (on l e k s) h =
+      let r = one-look removed v w report nowhere s (rw e k) (rw e h) in
       let n = look-keeps v report in
       let o = look-keeps w report in
-      (r .0, on (n .0 ∙ l) (record { same = o .1 ∙ d .same ∙ sym (n .1); kept = ap removed (n .1) ∙ d .kept }) (r .1))
+      (r .0, on (n .loaded ∙ l) (ap wayOf (n .connection) ∙ e) (kept-on way removed n o k) (r .1))
 
-  step : {v w : Walk} (c : Call) → Pair removed v w → DownAt removed v c → Step v w c
+  step : {v w : Walk} (c : Call) → Pair way removed v w → QuietAt way removed v c → Step v w c
   unfolding call clearFor
   step load p h = load-step p
   step (look report) p h = look-step report p h
   step clear p h = (refl, idle)
 
-  run-same : {v w : Walk} → Pair removed v w → (cs : List Call) → Down removed image newest v cs
+  run-same : {v w : Walk} → Pair way removed v w → (cs : List Call) → Each (QuietAt way removed) image newest v cs
       → run image newest v cs ≡ run image older w cs
   unfolding run after
   run-same p [] h = refl
   run-same p (c ∷ cs) h = let t = step c p (h .0) in rw (t .0, seen-same (t .1), run-same (t .1) cs (h .1))
 
-  pub runs-agree : (cs : List Call) → Down removed image newest freshWalk cs → run image newest freshWalk cs ≡ run image older freshWalk cs
+  pub runs-agree : (cs : List Call) → Each (QuietAt way removed) image newest freshWalk cs
+      → run image newest freshWalk cs ≡ run image older freshWalk cs
   runs-agree cs h = run-same idle cs h

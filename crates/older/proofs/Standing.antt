@@ -1,14 +1,16 @@
--- A reached walk stands on no block or on an entry: a default is listed, and so is every candidate. Assumes nothing.
+-- A reached walk stands on no block or on an entry: a default is listed, and so is every candidate and every block of the fixed
+-- medium. Assumes nothing.
 use Prim.Native.Nat.{ℕ, zero, suc}
 use native.Mathlib.Nat.{zero-add}
 use mathlib.Core.List.{List, []}
-use mathlib.Core.Path.{_≡_, refl, _∙_}
-use mathlib.Core.Bool.{Bool, true, false, _&&_}
+use mathlib.Core.Path.{_≡_, refl, sym, _∙_}
+use mathlib.Core.Bool.{Bool, true, false}
 use mathlib.Core.Logic.{_⊎_, inl, inr}
 use lib.Dec.{eqb}
 use lib.ListN.{getD}
 use Rattle.rom.specs.Bytes.{pick}
 use Rattle.rom.specs.Refusal.{firstMet}
+use Rattle.rom.proofs.Truth.{and-true}
 use Rattle.header.specs.declared.Arguments.{Arguments}
 use Rattle.header.specs.Header.{rowFor}
 use Rattle.format.specs.Block.{isListed, isDefault}
@@ -16,10 +18,12 @@ use Rattle.leaf.specs.Leaf.{firstFrom}
 use Rattle.reader.specs.Reading.{blocksFor, acceptedAnswer}
 use Rattle.walk.specs.declared.Walk.{Walk}
 use Rattle.rom.specs.Geometry.{none}
-use Rattle.walk.specs.Walk.{flags, flagAt, isUp, rowsOf, freshWalk, loadedWalk, lastBelow, stays, isCandidate, firstUp, upIn, choice}
-use Rattle.walk.specs.Walk.{chosen, stepped, lookCauses, loadCauses, walkedTo, loadFor, lookFor, clearFor}
+use Rattle.walk.specs.Walk.{wayOf, isFixed, noFlags, flags, flagAt, isFixedMedium, isUp, noRows, rowsOf, freshWalk, loadedWalk, lastBelow}
+use Rattle.walk.specs.Walk.{stays, isCandidate, firstUp, upIn, choice, sensed, fixedBlock, chosen, stepped}
+use Rattle.walk.specs.Walk.{lookCauses, loadCauses, walkedTo, loadFor, lookFor, clearFor}
 use Rattle.older.specs.FromFresh.{FromFresh, fresh, load, look, clear}
 use Rattle.older.specs.Claims.{StandsOnEntry}
+use Rattle.older.proofs.Order.{fixed-within}
 use Rattle.older.proofs.Numbered.{Found, found, absent, at, block-at, default-listed, flag-block}
 
 -- no block, or one that is listed
@@ -29,12 +33,9 @@ OnEntry listed x = (x ≡ none) ⊎ (flagAt listed x ≡ true)
 record Stands (w : Walk) : Type 0 where
   selected : OnEntry (w .rows .listed) (w .selected)
   «default» : OnEntry (w .rows .listed) (w .«default_number»)
+  fixed : (k : ℕ) → flagAt (w .rows .fixed) k ≡ true → flagAt (w .rows .listed) k ≡ true
 
 -- ## A candidate is listed
-
-both-true : (x y : Bool) → (x && y) ≡ true → x ≡ true
-both-true true y e = refl
-both-true false y e = e
 
 last-on : (listed : List ℕ) (p : ℕ → Bool) → ((k : ℕ) → p k ≡ true → flagAt listed k ≡ true) → (n : ℕ) → OnEntry listed (lastBelow p n)
 unfolding lastBelow pick
@@ -49,8 +50,8 @@ up-on : (w : Walk) (report : List ℕ) → OnEntry (w .rows .listed) (upIn w rep
 unfolding upIn firstUp isCandidate
 up-on w report =
     last-on (w .rows .listed) _
-    (λ k e. both-true (flagAt (w .rows .listed) k) _
-    (both-true (isCandidate (w .rows .listed) (w .rows .«active_invalid») (w .settled) k) (isUp report k) e)) (w .blocks)
+    (λ k e. and-true (flagAt (w .rows .listed) k) _
+    (and-true (isCandidate (w .rows .listed) (w .rows .«active_invalid») (w .settled) k) (isUp report k) e .0) .0) (w .blocks)
 
 -- ## A default is listed
 
@@ -64,11 +65,19 @@ default-on row level bs = go (firstFrom (isDefault row level) 0 bs) (found (isDe
         let e : d ≡ j = q ∙ zero-add j in
         inr (rw e (flag-block (isListed row level) bs j ∙ t .1 ∙ default-listed row level (getD bs j []) (t .0)))
 
+-- ## A block of the fixed medium is listed
+
+fixed-on : (connection row level : ℕ) (bs : List (List ℕ)) (k : ℕ) → flagAt (flags (isFixedMedium connection row level) bs) k ≡ true
+    → flagAt (flags (isListed row level) bs) k ≡ true
+fixed-on connection row level bs k e =
+    flag-block (isListed row level) bs k
+    ∙ and-true _ _ (sym (fixed-within connection row level bs k) ∙ sym (flag-block (isFixedMedium connection row level) bs k) ∙ e) .0
+
 -- ## Calls
 
 stands-fresh : Stands freshWalk
-unfolding freshWalk
-stands-fresh = record { selected = inl refl; «default» = inl refl }
+unfolding freshWalk noRows noFlags
+stands-fresh = record { selected = inl refl; «default» = inl refl; fixed = λ k e. e }
 
 module _ (w : Walk) (s : Stands w) where
   stands-load : (image : List ℕ) (a : Arguments) → Stands (loadFor w image a .walk)
@@ -76,12 +85,16 @@ module _ (w : Walk) (s : Stands w) where
   stands-load image a = go (eqb (firstMet (loadCauses w image a)) 0)
     where
       go : (t : Bool) → Stands (pick t (loadedWalk image a) w)
-      go true = record { selected = inl refl; «default» = default-on (rowFor a) (a .level) (blocksFor image a) }
+      go true = record {
+        selected = inl refl;
+        «default» = default-on (rowFor a) (a .level) (blocksFor image a);
+        fixed = fixed-on (acceptedAnswer image a .connection) (rowFor a) (a .level) (blocksFor image a);
+      }
       go false = s
 
-  chosen-on : (report : List ℕ) → OnEntry (w .rows .listed) (chosen w report .selected)
-  unfolding chosen pick
-  chosen-on report = go (stays w report) (eqb (upIn w report) none)
+  sensed-on : (report : List ℕ) → OnEntry (w .rows .listed) (sensed w report .selected)
+  unfolding sensed pick
+  sensed-on report = go (stays w report) (eqb (upIn w report) none)
     where
       go : (t u : Bool)
           → OnEntry (w .rows .listed)
@@ -91,12 +104,20 @@ module _ (w : Walk) (s : Stands w) where
       go false true = s .«default»
       go false false = up-on w report
 
+  chosen-on : (report : List ℕ) → OnEntry (w .rows .listed) (chosen w report .selected)
+  unfolding chosen fixedBlock pick
+  chosen-on report = go (isFixed (wayOf (w .connection)))
+    where
+      go : (t : Bool) → OnEntry (w .rows .listed) (pick t (choice true (fixedBlock w)) (sensed w report) .selected)
+      go true = last-on (w .rows .listed) (flagAt (w .rows .fixed)) (s .fixed) (w .blocks)
+      go false = sensed-on report
+
   stands-look : (report : List ℕ) → Stands (lookFor w report .walk)
   unfolding lookFor walkedTo stepped pick
   stands-look report = go (eqb (firstMet (lookCauses w report)) 0)
     where
       go : (t : Bool) → Stands (pick t (stepped w report) w)
-      go true = record { selected = chosen-on report; «default» = s .«default» }
+      go true = record { selected = chosen-on report; «default» = s .«default»; fixed = s .fixed }
       go false = s
 
 stands : (w : Walk) → FromFresh w → Stands w

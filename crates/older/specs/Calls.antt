@@ -1,4 +1,4 @@
--- Lists of calls, and what is seen after each of them (document 01, 'The walk').
+-- Lists of calls, and what is seen after each of them (document 01, 'The walk'; document 02, request 5).
 use Prim.Native.Nat.{ℕ}
 use mathlib.Core.Path.{_≡_}
 use mathlib.Core.List.{List, [], _∷_}
@@ -8,6 +8,8 @@ use Rattle.rom.specs.Refusal.{firstMet}
 use Rattle.header.specs.declared.Arguments.{Arguments}
 use Rattle.walk.specs.declared.Walk.{Walk}
 use Rattle.walk.specs.declared.Walked.{Walked}
+use Rattle.walk.specs.declared.Way.{Way}
+use Rattle.walk.specs.declared.Way.the-variants.{EveryLook, Once, Fixed}
 use Rattle.walk.specs.Walk.{isUp, lookCauses, loadFor, lookFor, clearFor}
 
 -- a load of the image at hand, a look with a report, or a clear
@@ -43,6 +45,11 @@ unfoldable pub run : List ℕ → Arguments → Walk → List Call → List Afte
 run image a w [] = []
 run image a w (c ∷ cs) = after (call image a w c) ∷ run image a (call image a w c .walk) cs
 
+-- at each call of a list, with the walk that it gets
+abbrev pub Each : (Walk → Call → Type 0) → List ℕ → Arguments → Walk → List Call → Type 0
+Each p image a w [] = Unit {0}
+Each p image a w (c ∷ cs) = p w c × Each p image a (call image a w c .walk) cs
+
 -- at no look of the list that the walk accepts is a block of these up
 abbrev pub DownAt : (ℕ → Bool) → Walk → Call → Type 0
 DownAt these w load = Unit {0}
@@ -50,5 +57,16 @@ DownAt these w (look report) = firstMet (lookCauses w report) ≡ 0 → (k : ℕ
 DownAt these w clear = Unit {0}
 
 abbrev pub Down : (ℕ → Bool) → List ℕ → Arguments → Walk → List Call → Type 0
-Down these image a w [] = Unit {0}
-Down these image a w (c ∷ cs) = DownAt these w c × Down these image a (call image a w c .walk) cs
+Down these image a w cs = Each (DownAt these) image a w cs
+
+-- by the way to walk: links play no part under a fixed type
+abbrev pub QuietAt : Way → (ℕ → Bool) → Walk → Call → Type 0
+QuietAt EveryLook these = DownAt these
+QuietAt Once these = DownAt these
+QuietAt Fixed these = λ w c. Unit {0}
+
+-- each look at a loaded walk is refused with this number
+abbrev pub RefusedAt : ℕ → Walk → Call → Type 0
+RefusedAt n w load = Unit {0}
+RefusedAt n w (look report) = w .loaded ≡ true → lookFor w report .number ≡ n
+RefusedAt n w clear = Unit {0}

@@ -17,14 +17,17 @@ use Rattle.leaf.specs.Leaf.{Place, placed, keep, table, countOf, firstFrom, lea
 use Rattle.reader.specs.declared.Answer.{Answer}
 use Rattle.reader.specs.Reading.{blocksFor, tableFor, judgeCauses, acceptedAnswer, judgeAnswer}
 use Rattle.walk.specs.declared.Walk.{Walk}
-use Rattle.walk.specs.Walk.{rowLength, blockIs, flagAt, isInvalid, isUp, freshWalk, loadedWalk, firstUp, lookFor}
+use Rattle.walk.specs.declared.Way.{Way}
+use Rattle.walk.specs.declared.Way.the-variants.{EveryLook, Once, Fixed}
+use Rattle.walk.specs.Walk.{wayOf, isFixed, rowLength, noFlags, blockIs, flagAt, isInvalid, isFixedMedium, isUp, freshWalk, loadedWalk}
+use Rattle.walk.specs.Walk.{firstUp, fixedBlock, lookFor}
 use Rattle.older.specs.Levels.{isKept, onlyNewest, isRemoved, removedBlock}
-use Rattle.older.specs.Calls.{Call, look, DownAt, Down, seen, run}
+use Rattle.older.specs.Calls.{Call, look, Each, Down, QuietAt, RefusedAt, seen, run}
 use Rattle.older.specs.Written.{Arrays, Room, answerOf, TableEntry, asEntry, tableIn, those, removed, kept, numbersOf}
 use Rattle.older.specs.FromFresh.{FromFresh}
-use Rattle.older.specs.Alike.{DefaultKept, StandAlike}
+use Rattle.older.specs.Alike.{Kept, StandAlike}
 
--- ## Demand 3: the older reader and the older walk against the newest (document 01, 'The walk')
+-- ## Demand 3: the older reader and the older walk against the newest (document 01, 'The walk'; document 02, request 5)
 
 -- the older answer and table against the newest
 pub record OlderReads (image : List ℕ) (a : Arguments) (older : ℕ) (new old : Answer) (newTable oldTable : List TableEntry) : Type 0 where
@@ -48,13 +51,36 @@ ReadsAgree image a older =
     (answerOf image (atLevel a newestLevel) n) (answerOf image (atLevel a older) o)
     (tableIn image (atLevel a newestLevel) n) (tableIn image (atLevel a older) o)
 
--- for every list of calls: if the default is no removed entry, and at no look that the newest walk accepts one is up, then the
--- same is seen after each call
+-- the conditions where the type is autosensed: the default is no removed entry, and at no look that the newest walk accepts one
+-- is up
+abbrev pub NoneRemoved : List ℕ → Arguments → ℕ → List Call → Type 0
+NoneRemoved image a older calls =
+    (removedBlock image a older (judgeAnswer image (atLevel a newestLevel) .«default_number») ≡ false)
+    × Down (removedBlock image a older) image (atLevel a newestLevel) freshWalk calls
+
+-- what the newest walk selects under a fixed type, or none
+abbrev pub newestChoice : List ℕ → Arguments → ℕ
+newestChoice image a = fixedBlock (loadedWalk image (atLevel a newestLevel))
+
+-- the condition where it is fixed: the newest choice is an entry that the older level lists, or there is none
+abbrev pub ChoiceListed : List ℕ → Arguments → ℕ → Type 0
+ChoiceListed image a older =
+    (newestChoice image a ≡ none) ⊎ (blockIs (isListed (rowFor a) older) (blocksFor image a) (newestChoice image a) ≡ true)
+
+-- by the way to walk
+abbrev pub Comparable : Way → List ℕ → Arguments → ℕ → List Call → Type 0
+Comparable EveryLook image a older calls = NoneRemoved image a older calls
+Comparable Once image a older calls = NoneRemoved image a older calls
+Comparable Fixed image a older calls = ChoiceListed image a older
+
+-- the way to walk under the image's connection type
+abbrev pub wayFor : List ℕ → Arguments → Way
+wayFor image a = wayOf (judgeAnswer image (atLevel a newestLevel) .connection)
+
+-- for every list of calls: under the conditions of the way to walk the same is seen after each call
 abbrev pub WalksAgree : List ℕ → Arguments → ℕ → Type 0
 WalksAgree image a older =
-    (calls : List Call) →
-    removedBlock image a older (judgeAnswer image (atLevel a newestLevel) .«default_number») ≡ false →
-    Down (removedBlock image a older) image (atLevel a newestLevel) freshWalk calls →
+    (calls : List Call) → Comparable (wayFor image a) image a older calls →
     run image (atLevel a newestLevel) freshWalk calls ≡ run image (atLevel a older) freshWalk calls
 
 -- for every image and arguments that the newest reader accepts, 12 apart, and every older level
@@ -74,6 +100,15 @@ ReadBelow =
     × ((o : Arrays) → Room image a o →
     (answerOf image (atLevel a older) o ≡ acceptedAnswer image (atLevel a older))
     × (tableIn image (atLevel a older) o ≡ map (asEntry (rowFor a)) (tableFor image (atLevel a older))))
+
+-- under a fixed type without a choice every look at a loaded walk is refused with 32, at both levels
+abbrev pub NoChoice : Type 0
+NoChoice =
+    (image : List ℕ) (a : Arguments) (older : ℕ) → older < newestLevel →
+    firstMet (judgeCauses image (atLevel a newestLevel)) ≡ 0 →
+    isFixed (wayFor image a) ≡ true → newestChoice image a ≡ none →
+    (calls : List Call) →
+    Each (RefusedAt 32) image (atLevel a newestLevel) freshWalk calls × Each (RefusedAt 32) image (atLevel a older) freshWalk calls
 
 -- what is seen of loaded walks tells all that is compared of them
 abbrev pub SeenTells : Type 0
@@ -109,10 +144,12 @@ OlderDefault = (row older newest : ℕ) (bs : List (List ℕ)) → older ≤ new
 
 -- ## What it rests on: one look at two walks that stand alike
 
--- with no removed block up or the default, both answer with the same number and stand alike again
+-- with no removed block up or the default, or under a fixed type the choice, both answer with the same number and stand alike
+-- again
 abbrev pub OneLook : Type 0
 OneLook = (removed : ℕ → Bool) (new old : Walk) (report : List ℕ) → removed none ≡ false →
-    StandAlike removed new old → DefaultKept removed new old → DownAt removed new (look report) →
+    StandAlike removed new old → Kept (wayOf (new .connection)) removed new old →
+    QuietAt (wayOf (new .connection)) removed new (look report) →
     (lookFor old report .number ≡ lookFor new report .number) × StandAlike removed (lookFor new report .walk) (lookFor old report .walk)
 
 -- ## Rows (demand 2)
@@ -122,12 +159,21 @@ abbrev pub FlagForEach : Type 0
 FlagForEach = (image : List ℕ) (a : Arguments) → firstMet (judgeCauses image a) ≡ 0 →
     (loadedWalk image a .blocks ≤ 91)
     × (length (loadedWalk image a .rows .listed) ≡ rowLength) × (length (loadedWalk image a .rows .«active_invalid») ≡ rowLength)
+    × (length (loadedWalk image a .rows .fixed) ≡ rowLength)
 
--- a flag is 1 exactly if that block is listed, or is and has Active_Invalid
+-- a flag is 1 exactly if that block is listed, or is and has Active_Invalid, or is and has the fixed medium
 abbrev pub RowsSay : Type 0
 RowsSay = (image : List ℕ) (a : Arguments) (k : ℕ) →
     (flagAt (loadedWalk image a .rows .listed) k ≡ blockIs (isListed (rowFor a) (a .level)) (blocksFor image a) k)
     × (flagAt (loadedWalk image a .rows .«active_invalid») k ≡ blockIs (isInvalid (rowFor a) (a .level)) (blocksFor image a) k)
+    × (flagAt (loadedWalk image a .rows .fixed) k
+    ≡ blockIs (isFixedMedium (loadedWalk image a .connection) (rowFor a) (a .level)) (blocksFor image a) k)
+
+-- the row of the fixed medium is all zeros where the type is not fixed
+abbrev pub ZerosElsewhere : Type 0
+ZerosElsewhere = (image : List ℕ) (a : Arguments) → firstMet (judgeCauses image a) ≡ 0
+    → isFixed (wayOf (loadedWalk image a .connection)) ≡ false
+    → loadedWalk image a .rows .fixed ≡ noFlags
 
 -- ## Table order
 
@@ -161,6 +207,13 @@ FirstInOrder = (image : List ℕ) (a : Arguments) (settled : Bool) (report : Lis
     ≡ firstOf (λ k. not (settled && blockIs (isInvalid (rowFor a) (a .level)) (blocksFor image a) k) && isUp report k)
     (entryNumbers image a)
 
+-- under a fixed type it is the first of them that has the fixed medium
+abbrev pub FixedInOrder : Type 0
+FixedInOrder = (image : List ℕ) (a : Arguments) →
+    fixedBlock (loadedWalk image a)
+    ≡ firstOf (λ k. blockIs (isFixedMedium (loadedWalk image a .connection) (rowFor a) (a .level)) (blocksFor image a) k)
+    (entryNumbers image a)
+
 -- the blocks that demand 3 calls removed are those of the newest table's removed entries
 abbrev pub RemovedNumbers : Type 0
 RemovedNumbers =
@@ -182,3 +235,7 @@ CountsExactly = (w : Walk) → FromFresh w →
 -- and they stand on no block or on an entry of their table
 abbrev pub StandsOnEntry : Type 0
 StandsOnEntry = (w : Walk) → FromFresh w → (w .selected ≡ none) ⊎ (flagAt (w .rows .listed) (w .selected) ≡ true)
+
+-- and under a fixed type they have switched once at most
+abbrev pub FixedSwitches : Type 0
+FixedSwitches = (w : Walk) → FromFresh w → isFixed (wayOf (w .connection)) ≡ true → w .switches ≤ 1

@@ -1,5 +1,5 @@
 // Words for numbers: the one table of each. Media, connection types, the bits of a Magic command and those of a mode byte are
-// named as 000 names them. Those of refusals and connection types end what they stand in, and go to a file.
+// named as 000 names them. Those of refusals end what they stand in, and go to a file.
 use text::decimal_words;
 use text::hex_words;
 use text::line::Line;
@@ -34,7 +34,6 @@ pub fn show_refusal(number: u8, file: i32) {
 19 the report is too short, or has a byte above 1
 20 the walk is fresh: nothing is loaded
 21 the walk is loaded already
-22 the connection type is fixed: looks do not serve it
 23 65,535 looks have been taken
 24 the sheet's length is wrong, or the sum of its sizes is
 25 a kind, a body or the control byte is wrong in the sheet
@@ -43,6 +42,7 @@ pub fn show_refusal(number: u8, file: i32) {
 29 the CRC of the Magic Packet block is wrong
 30 a reserved byte of the Magic Packet block is not 0
 31 a bit of the mode byte is set in two power blocks
+32 no listed block has the fixed medium
 ",
         number as u64,
     );
@@ -67,9 +67,10 @@ pub fn media_words(line: Line, code: u8) -> Line
     ))
 }
 
-pub fn show_connection(connection: u16, file: i32) {
-    let words = hex_words(
-        b"0000 10BaseT
+// Ends a line with a connection type.
+pub fn show_connection(line: Line, connection: u16) {
+    line.text(hex_words(
+            b"0000 10BaseT
 0100 10BaseT with Nway
 0204 10BaseT full duplex
 0400 10BaseT without link pass test
@@ -92,9 +93,9 @@ pub fn show_connection(connection: u16, file: i32) {
 0900 autosense with Nway
 ffff none selected
 ",
-        connection,
-    );
-    io::write_all(file, words);
+            connection,
+        ))
+        .print();
 }
 
 // A block's kind: an extended type, or one of the two forms without.

@@ -44,8 +44,6 @@ pub const FRESH: u8 = 20;
 
 pub const LOADED: u8 = 21;
 
-pub const FIXED_TYPE: u8 = 22;
-
 pub const LOOKS: u8 = 23;
 
 pub const SHEET: u8 = 24;
@@ -61,3 +59,5 @@ pub const MAGIC_CRC: u8 = 29;
 pub const MAGIC_RESERVED: u8 = 30;
 
 pub const REPEATED_MODE: u8 = 31;
+
+pub const NO_FIXED_MEDIUM: u8 = 32;

@@ -1,5 +1,5 @@
 -- A load by what the reader answers: an accepted leaf has at most 91 blocks. Assumes nothing.
-use Prim.Native.Nat.{ℕ, zero, suc, _-_, _≤_, _<_, zero-le}
+use Prim.Native.Nat.{ℕ, zero, suc, _-_, _≤_, zero-le}
 use native.Mathlib.Omega.{arith}
 use mathlib.Core.List.{List}
 use mathlib.Core.Path.{_≡_, sym}
@@ -108,7 +108,7 @@ module _ (w : Walk) (image : List ℕ) (a : Arguments) where
     load-refused n = rw (load-number, ne-eqb (r .answer .number) 0 n)
 
     pub load-done : (z : r .answer .number ≡ 0) (rest : List ℕ) → rest ≡ restOf image a r → (rows : Rows)
-        → rows ≡ rowsOf (r .row) (a .level) (cut (r .row) (r .answer .blocks) rest)
+        → rows ≡ rowsOf (r .answer .connection) (r .row) (a .level) (cut (r .row) (r .answer .blocks) rest)
         → record {
           number = r .answer .number;
           walk = record {

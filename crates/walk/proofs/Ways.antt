@@ -10,7 +10,7 @@ use Rattle.rom.specs.Bytes.{pick}
 use Rattle.rom.specs.Refusal.{firstMet}
 use Rattle.walk.specs.declared.Walk.{Walk}
 use Rattle.walk.specs.declared.Way.the-variants.{EveryLook, Once, Fixed}
-use Rattle.walk.specs.Walk.{wayOf, stays, upIn, chosen, lookCauses, stepped, walkedTo, lookFor}
+use Rattle.walk.specs.Walk.{wayOf, stays, upIn, sensed, fixedBlock, chosen, lookCauses, stepped, walkedTo, lookFor}
 use Rattle.walk.specs.Claims.{under, EqualButType, SameWay, EmptyAsOnce}
 use Rattle.walk.proofs.Computes.{look-computes}
 
@@ -44,7 +44,7 @@ under-last c d w = refl
 
 module _ (c d : ℕ) (same : wayOf c ≡ wayOf d) (w : Walk) (report : List ℕ) where
   causes-under : lookCauses (under c w) report ≡ lookCauses (under d w) report
-  unfolding lookCauses under
+  unfolding lookCauses fixedBlock under
   causes-under = rw same
 
   stays-under : stays (under c w) report ≡ stays (under d w) report
@@ -52,8 +52,8 @@ module _ (c d : ℕ) (same : wayOf c ≡ wayOf d) (w : Walk) (report : List ℕ)
   stays-under = rw same
 
   chosen-under : chosen (under c w) report ≡ chosen (under d w) report
-  unfolding chosen upIn under
-  chosen-under = rw stays-under
+  unfolding chosen sensed fixedBlock upIn under
+  chosen-under = rw (same, stays-under)
 
   -- the next walk is equal but for the type too
   stepped-under : stepped (under c w) report ≡ under c (stepped (under d w) report)

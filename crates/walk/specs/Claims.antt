@@ -1,15 +1,17 @@
--- What is claimed of single calls, and of lists of looks under two types of one way. The crate `older` claims what holds over
--- lists of loads, looks and clears, and of the rows of loaded walks.
+-- What is claimed of single calls, and of lists of looks: under two types of one way, and under a fixed type. The crate `older`
+-- claims what holds over lists of loads, looks and clears, and of the rows of loaded walks.
 use Prim.Native.Nat.{ℕ}
 use mathlib.Core.Path.{_≡_}
 use mathlib.Core.List.{List, [], _∷_, map}
 use mathlib.Core.Bool.{true}
 use Rattle.rom.specs.Refusal.{firstMet, Exact}
+use Rattle.format.specs.Chips.{connectionRows}
 use Rattle.header.specs.declared.Arguments.{Arguments}
 use Rattle.reader.specs.Reading.{judgeCauses}
 use Rattle.walk.specs.declared.Walk.{Walk}
-use Rattle.walk.specs.Walk.{wayOf, lookCauses, loadCauses, loadFor, lookFor, clearFor}
+use Rattle.walk.specs.Walk.{wayOf, isFixed, fixedBlock, mostLooks, lookCauses, loadCauses, loadFor, lookFor, clearFor}
 use Rattle.walk.specs.Cases.{looked, lookCases}
+use Rattle.walk.specs.FixedCases.{lookedAt, numberAfter, unlessMissing, fixedCases, typeOf, fixedTables, fixedOf}
 
 -- ## Refusals (demand 1)
 
@@ -79,3 +81,29 @@ SameWay = (c d : ℕ) → wayOf c ≡ wayOf d → (v w : Walk) → EqualButType 
 -- an empty connection word is walked as 0x8800
 abbrev pub EmptyAsOnce : Type 0
 EmptyAsOnce = (v w : Walk) → EqualButType 0xFFFF 0x8800 v w → (reports : List (List ℕ)) → LookAlike 0xFFFF 0x8800 v w reports
+
+-- ## Fixed connections (document 02, request 5)
+
+-- under a fixed type each accepted look of a list selects this block and settles
+abbrev pub Selects : ℕ → Walk → List (List ℕ) → Type 0
+Selects k w [] = Unit {0}
+Selects k w (report ∷ reports) =
+    (lookFor w report .number ≡ 0 → (lookFor w report .walk .selected ≡ k) × (lookFor w report .walk .settled ≡ true))
+    × Selects k (lookFor w report .walk) reports
+
+-- the same block whatever the reports say
+abbrev pub FixedSelects : Type 0
+FixedSelects = (w : Walk) → isFixed (wayOf (w .connection)) ≡ true → (reports : List (List ℕ)) → Selects (fixedBlock w) w reports
+
+-- looks at leaves with the fixed medium and without answer as they stand in the list of cases, with every link up and with none;
+-- 32 comes before 23, and before 19
+abbrev pub FixedWorked : Type 0
+FixedWorked =
+    (map (lookedAt 1) fixedCases ≡ fixedCases)
+    × (map (lookedAt 0) fixedCases ≡ fixedCases)
+    × (map (numberAfter mostLooks) fixedCases ≡ map (unlessMissing 23) fixedCases)
+    × (map (numberAfter 0) fixedCases ≡ map (unlessMissing 19) fixedCases)
+
+-- and these are of each fixed type of each chip's row
+abbrev pub FixedCovered : Type 0
+FixedCovered = map (λ types. map typeOf types) fixedTables ≡ map fixedOf connectionRows

@@ -1,3 +1,4 @@
 pub mod Walk
 pub mod Cases
+pub mod FixedCases
 pub mod Claims

@@ -1,13 +1,13 @@
--- The autosense walk: its state, and what each call answers (document 01, 'The walk'; document 02, request 4). The state is the
--- code's struct `Walk`. A walk that is passed in may hold anything, so a flag past a row's end is none, and switches stay at
--- their most.
-use Prim.Native.Nat.{ℕ, zero, suc, _+_, _-_}
+-- The autosense walk: its state, and what each call answers (document 01, 'The walk'; document 02, requests 4 and 5). The
+-- state is the code's struct `Walk`. A walk that is passed in may hold anything, so a flag past a row's end is none, and
+-- switches stay at their most.
+use Prim.Native.Nat.{ℕ, zero, suc, _+_, _-_, _%_}
 use mathlib.Core.List.{List, [], _∷_, _++_, map}
 use mathlib.Core.Bool.{Bool, true, false, _||_, _&&_, not}
 use lib.Dec.{eqb, ltb}
 use lib.ListN.{length, replicate}
 use Rattle.rom.specs.Geometry.{none}
-use Rattle.rom.specs.Bytes.{pick, byteAt, isIn, one, anyBelow}
+use Rattle.rom.specs.Bytes.{pick, byteAt, bit, isIn, one, anyBelow}
 use Rattle.rom.specs.Refusal.{Cause, _⇒_, firstMet}
 use Rattle.format.specs.Block.{kindOf, factsOf, isListed}
 use Rattle.header.specs.declared.Arguments.{Arguments}
@@ -40,11 +40,35 @@ isOnce EveryLook = false
 isOnce Once = true
 isOnce Fixed = false
 
--- whether looks are refused
+-- whether looks go by the fixed medium
 abbrev pub isFixed : Way → Bool
 isFixed EveryLook = false
 isFixed Once = false
 isFixed Fixed = true
+
+-- ## The medium that a type is fixed to (document 02, request 5)
+
+-- the low byte, which is a media code where it is below 9
+abbrev pub lowByte : ℕ → ℕ
+lowByte connection = connection % 256
+
+abbrev pub mediaCodes : ℕ
+mediaCodes = 9
+
+-- the other types name a capability bit of a PHY, but for 0x0010 and 0x0211, which name none
+unfoldable pub isCapable : ℕ → ℕ → Bool
+isCapable connection capabilities =
+    pick (eqb connection 0x0009) (bit 11 capabilities)
+    (pick (eqb connection 0x020A) (bit 12 capabilities)
+    (pick (eqb connection 0x000D) (bit 13 capabilities)
+    (pick (eqb connection 0x020E) (bit 14 capabilities)
+    (pick (eqb connection 0x000F) (bit 15 capabilities) false))))
+
+-- whether a block with this media code and these capabilities has the medium: a PHY has no media code, and no other block
+-- has capabilities
+unfoldable pub hasMedium : ℕ → ℕ → ℕ → Bool
+hasMedium connection code capabilities =
+    pick (ltb (lowByte connection) mediaCodes) (eqb code (lowByte connection)) (isCapable connection capabilities)
 
 -- ## Rows of flags
 
@@ -72,12 +96,22 @@ flagAt row k = eqb (byteAt row k) 1
 unfoldable pub isInvalid : ℕ → ℕ → List ℕ → Bool
 isInvalid row level s = isListed row level s && factsOf (kindOf row s) s .activeInvalid
 
+-- a listed block that has the fixed medium; none where the type is not fixed
+unfoldable pub isFixedMedium : ℕ → ℕ → ℕ → List ℕ → Bool
+isFixedMedium connection row level s =
+    let facts = factsOf (kindOf row s) s in
+    isListed row level s && (isFixed (wayOf connection) && hasMedium connection (facts .code) (facts .capabilities))
+
 -- no flag in any row
 unfoldable pub noRows : Rows
-noRows = record { listed = noFlags; «active_invalid» = noFlags }
+noRows = record { listed = noFlags; «active_invalid» = noFlags; fixed = noFlags }
 
-unfoldable pub rowsOf : ℕ → ℕ → List (List ℕ) → Rows
-rowsOf row level bs = record { listed = flags (isListed row level) bs; «active_invalid» = flags (isInvalid row level) bs }
+unfoldable pub rowsOf : ℕ → ℕ → ℕ → List (List ℕ) → Rows
+rowsOf connection row level bs = record {
+  listed = flags (isListed row level) bs;
+  «active_invalid» = flags (isInvalid row level) bs;
+  fixed = flags (isFixedMedium connection row level) bs;
+}
 
 -- ## Fresh and loaded
 
@@ -100,7 +134,7 @@ loadedWalk image a = record {
   loaded = true;
   connection = acceptedAnswer image a .connection;
   blocks = acceptedAnswer image a .blocks;
-  rows = rowsOf (rowFor a) (a .level) (blocksFor image a);
+  rows = rowsOf (acceptedAnswer image a .connection) (rowFor a) (a .level) (blocksFor image a);
   «default_number» = acceptedAnswer image a .«default_number»;
   settled = false;
   selected = none;
@@ -140,10 +174,20 @@ upIn w report = firstUp (w .rows .listed) (w .rows .«active_invalid») (w .sett
 abbrev pub choice : Bool → ℕ → Choice
 choice settled selected = record { settled = settled; selected = selected }
 
-unfoldable pub chosen : Walk → List ℕ → Choice
-chosen w report =
+-- 1 and 2 where the type is autosensed
+unfoldable pub sensed : Walk → List ℕ → Choice
+sensed w report =
     pick (stays w report) (choice (w .settled) (w .selected))
     (pick (eqb (upIn w report) none) (choice (w .settled) (w .«default_number»)) (choice true (upIn w report)))
+
+-- under a fixed type the first block in table order that has the fixed medium, or none; no link, default or Active_Invalid
+-- plays a part
+unfoldable pub fixedBlock : Walk → ℕ
+fixedBlock w = lastBelow (flagAt (w .rows .fixed)) (w .blocks)
+
+-- it is selected and settled becomes yes
+unfoldable pub chosen : Walk → List ℕ → Choice
+chosen w report = pick (isFixed (wayOf (w .connection))) (choice true (fixedBlock w)) (sensed w report)
 
 -- 3: looks rise by 1, and switches too if the selection changed; none counts as a selection
 abbrev pub mostLooks : ℕ
@@ -175,7 +219,7 @@ badReport report blocks = ltb (length report) blocks || anyBelow (λ k. ltb 1 (b
 unfoldable pub lookCauses : Walk → List ℕ → List Cause
 lookCauses w report =
     (20 ⇒ not (w .loaded))
-    ∷ (22 ⇒ isFixed (wayOf (w .connection)))
+    ∷ (32 ⇒ isFixed (wayOf (w .connection)) && eqb (fixedBlock w) none)
     ∷ (23 ⇒ eqb (w .looks) mostLooks)
     ∷ (19 ⇒ badReport report (w .blocks))
     ∷ []

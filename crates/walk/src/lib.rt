@@ -1,10 +1,12 @@
-// The autosense walk: its record, and what a call answers (document 01, 'The walk'; document 02, request 4).
+// The autosense walk: its record, and what a call answers (document 01, 'The walk'; document 02, requests 4 and 5).
 
-// A flag for each block, by its number: whether it is listed, and whether it is and has Active_Invalid.
+// A flag for each block, by its number: whether it is listed, whether it is and has Active_Invalid, and whether it is and has
+// the medium that the connection type is fixed to.
 #[repr(C)]
 pub struct Rows {
     pub listed: [u8; 128],
     pub active_invalid: [u8; 128],
+    pub fixed: [u8; 128],
 }
 
 // A walk, fresh or loaded. No block is selected before the first look.

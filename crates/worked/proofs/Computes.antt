@@ -11,8 +11,8 @@ use Rattle.reader.specs.Table.{tabled}
 use Rattle.reader.specs.Reading.{leafCausesFor, judgeCauses, refusedAnswer, acceptedAnswer, answerFor, judgeAnswer, readCauses, readAnswer}
 use Rattle.reader.specs.Reading.{readInto}
 use Rattle.reader.specs.Reading.{readKinds, readOffsets}
-use Rattle.walk.specs.Walk.{noFlags, flags, blockIs, isInvalid, noRows, rowsOf, freshWalk, loadedWalk, loadCauses, loadFor}
-use Rattle.walk.proofs.Computes.{look-computes}
+use Rattle.walk.specs.Walk.{noFlags, blockIs, noRows, freshWalk, loadedWalk, loadCauses, loadFor}
+use Rattle.walk.proofs.Computes.{look-computes, rows-compute}
 use Rattle.older.specs.Calls.{call, seen, after, run}
 use Rattle.older.specs.Written.{answerOf, entries, tableIn}
 use Rattle.rom.specs.Store.{wordBytes}
@@ -43,7 +43,7 @@ reading-computes = tt
 
 -- and walks of it
 unfoldable pub walk-computes : Unit {0}
-unfolding reading-computes look-computes noFlags flags blockIs isInvalid noRows rowsOf freshWalk loadedWalk loadCauses loadFor
+unfolding reading-computes look-computes rows-compute noFlags blockIs noRows freshWalk loadedWalk loadCauses loadFor
     call seen after run
 walk-computes = tt
 

@@ -1,5 +1,5 @@
--- Cases a to k of document 01, 'Blocks to prove', as whole images, read and walked, and a card with a power block. Cases a to j are
--- those of crate `leaf`.
+-- Cases a to k of document 01, 'Blocks to prove', as whole images, read and walked, and cards with a power block and under fixed
+-- types. Cases a to j are those of crate `leaf`.
 use Prim.Native.Nat.{ℕ, _/_, _%_}
 use mathlib.Core.List.{List, [], _∷_, _++_, map}
 use mathlib.Core.Bool.{Bool, true, false}
@@ -133,6 +133,34 @@ powerImageCases =
       calls = load ∷ look (0 ∷ 1 ∷ 0 ∷ []) ∷ look (1 ∷ 1 ∷ 1 ∷ []) ∷ [];
       seen = then false none 0 0 ∷ then false 0 1 1 ∷ then true 2 2 2 ∷ [];
     }
+    ∷ []
+
+-- refused with a number, and then settled, selected, looks, switches
+abbrev pub refusedThen : ℕ → Bool → ℕ → ℕ → ℕ → After
+refusedThen number settled selected looks switches = record { number = number; walk = loaded settled selected looks switches }
+
+-- loaded first
+abbrev underFixed : leaves.LeafCase → List Call → List After → ImageCase
+underFixed reading calls seen = record { layout = withoutMagic; reading = reading; calls = load ∷ calls; seen = then false none 0 0 ∷ seen }
+
+-- 10BaseT in a compact block and in one of type 0
+abbrev leafTwice : List ℕ
+leafTwice = 0x00 ∷ 0x00 ∷ 0x1F ∷ 0x02 ∷ (0x00 ∷ replicate 3 0) ++ 0x85 ∷ 0x00 ∷ 0x00 ∷ replicate 3 0
+
+-- cards under fixed types: the first in table order that has the medium, whatever is up, and 19 as ever; at another level
+-- another block, where the first is unknown; and a card without the medium
+unfoldable pub fixedImageCases : List ImageCase
+fixedImageCases =
+    underFixed
+    (leaves.accepted 21143 7
+    ((0x03 ∷ 0x00 ∷ 0x03 ∷ []) ++ (0x88 ∷ 0x04 ∷ 0x03 ∷ replicate 6 0) ++ (0x88 ∷ 0x04 ∷ 0x03 ∷ replicate 6 0)
+    ++ 0x86 ∷ 0x02 ∷ 0x00 ∷ replicate 4 0) 3 0 0 (2 ∷ 4 ∷ 4 ∷ []) (51 ∷ 42 ∷ 33 ∷ []))
+    (look (0 ∷ 0 ∷ 0 ∷ []) ∷ look (1 ∷ 0 ∷ 1 ∷ []) ∷ look (0 ∷ 1 ∷ 2 ∷ []) ∷ [])
+    (then true 1 1 1 ∷ then true 1 2 1 ∷ refusedThen 19 true 1 2 1 ∷ [])
+    ∷ underFixed (leaves.accepted 21140 7 leafTwice 2 0 0 (0 ∷ 256 ∷ []) (38 ∷ 34 ∷ [])) (look (1 ∷ 0 ∷ []) ∷ []) (then true 1 1 1 ∷ [])
+    ∷ underFixed (leaves.accepted 21140 0 leafTwice 1 0 1 (256 ∷ []) (34 ∷ [])) (look (1 ∷ 0 ∷ []) ∷ []) (then true 0 1 1 ∷ [])
+    ∷ underFixed (leaves.accepted 21143 7 (0x10 ∷ 0x00 ∷ 0x01 ∷ 0x86 ∷ 0x02 ∷ 0x00 ∷ replicate 4 0) 1 0 0 (2 ∷ []) (33 ∷ []))
+    (look (1 ∷ []) ∷ look [] ∷ []) (refusedThen 32 false none 0 0 ∷ refusedThen 32 false none 0 0 ∷ [])
     ∷ []
 
 -- ## The order of an image's causes, with a Magic Packet block

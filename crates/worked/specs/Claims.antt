@@ -1,18 +1,20 @@
--- What computes: the worked cases, sheets with their images, and why demand 3's two conditions on the walks are needed.
+-- What computes: the worked cases, sheets with their images, and why demand 3's conditions on the walks are needed.
 use Prim.Native.Nat.{ℕ, _<_}
 use mathlib.Core.Path.{_≡_}
 use mathlib.Core.List.{List, [], _∷_, _++_, map}
-use mathlib.Core.Bool.{false}
+use mathlib.Core.Bool.{Bool, true, false}
 use lib.ListN.{replicate}
 use Rattle.rom.specs.Geometry.{withoutMagic, withMagic}
 use Rattle.rom.specs.Refusal.{firstMet}
 use Rattle.format.specs.Chips.{newestLevel}
+use Rattle.format.specs.Block.{isListed}
 use Rattle.header.specs.declared.Arguments.{Arguments}
-use Rattle.header.specs.Header.{atLevel}
-use Rattle.reader.specs.Reading.{judgeCauses, judgeAnswer}
-use Rattle.walk.specs.Walk.{freshWalk}
+use Rattle.header.specs.Header.{rowFor, atLevel}
+use Rattle.reader.specs.Reading.{blocksFor, judgeCauses, judgeAnswer}
+use Rattle.walk.specs.Walk.{isFixed, blockIs, freshWalk}
 use Rattle.older.specs.Calls.{Call, Down, run}
 use Rattle.older.specs.Levels.{removedBlock}
+use Rattle.older.specs.Claims.{NoneRemoved, newestChoice, wayFor}
 use Rattle.sheet.specs.Lists.{over}
 use Rattle.sheet.specs.Write.{writeNumber, written}
 use Rattle.sheet.specs.Make.{makeNumber, makeLength, made}
@@ -31,6 +33,10 @@ MagicImagesWorked = map whole.worked whole.magicImageCases ≡ whole.magicImageC
 -- and so is a card with a power block
 abbrev pub PowerImagesWorked : Type 0
 PowerImagesWorked = map whole.worked whole.powerImageCases ≡ whole.powerImageCases
+
+-- and so are cards under fixed types
+abbrev pub FixedImagesWorked : Type 0
+FixedImagesWorked = map whole.worked whole.fixedImageCases ≡ whole.fixedImageCases
 
 -- 29 and 30 stand behind 4 and before 5
 abbrev pub OrderWorked : Type 0
@@ -58,26 +64,35 @@ MagicSheetsWorked =
     × (map (λ n. writeNumber withMagic (long n) (caseMagic .image)) (59 ∷ 60 ∷ []) ≡ 0 ∷ 26 ∷ [])
     × (makeNumber withMagic untidyMagic 21143 57 ≡ 27)
 
--- ## Without either condition of demand 3, two walks differ
+-- ## Without one of the conditions of demand 3, two walks differ
 
--- an image that the newest reader accepts, an older level, and calls after which the two walks are not alike
-pub record Differ : Type 0 where
+-- an image that the newest reader accepts, whose connection type is fixed or is not, an older level, and calls after which the
+-- two walks are not alike
+pub record Differ (fixed : Bool) : Type 0 where
   pub image : List ℕ
   pub arguments : Arguments
   pub older : ℕ
   pub calls : List Call
   pub below : older < newestLevel
   pub accepted : firstMet (judgeCauses image (atLevel arguments newestLevel)) ≡ 0
+  pub way : isFixed (wayFor image arguments) ≡ fixed
   pub differ : run image (atLevel arguments newestLevel) freshWalk calls ≡ run image (atLevel arguments older) freshWalk calls → ⊥
 
 -- a removed default, though no removed entry is up at a look that the newest walk accepts
 pub record RemovedDefault : Type 0 where
-  pub walks : Differ
+  pub walks : Differ false
   pub down : Down (removedBlock (walks .image) (walks .arguments) (walks .older)) (walks .image)
       (atLevel (walks .arguments) newestLevel) freshWalk (walks .calls)
 
 -- a removed entry up, though the default is none
 pub record RemovedUp : Type 0 where
-  pub walks : Differ
+  pub walks : Differ false
   pub «default» : removedBlock (walks .image) (walks .arguments) (walks .older)
       (judgeAnswer (walks .image) (atLevel (walks .arguments) newestLevel) .«default_number») ≡ false
+
+-- under a fixed type, a choice that the older level does not list, though the default is none and no removed entry is up
+pub record RemovedChoice : Type 0 where
+  pub walks : Differ true
+  pub unlisted : blockIs (isListed (rowFor (walks .arguments)) (walks .older)) (blocksFor (walks .image) (walks .arguments))
+      (newestChoice (walks .image) (walks .arguments)) ≡ false
+  pub none-removed : NoneRemoved (walks .image) (walks .arguments) (walks .older) (walks .calls)

@@ -47,9 +47,14 @@ fn main() {
         card.private[..18].copy_from_slice(&random.bytes::<18>());
         card
     });
+    let fixed = images(|random| Card {
+        private: random.bytes(),
+        ..fixed_card()
+    });
     contest_by_value(&tidy);
     contest_walking("typical", newest, &tidy);
     contest_walking("longest", newest_21041, &longest);
+    contest_walking("fixed", newest, &fixed);
     contest_sheets("typical", 21143, &tidy);
     contest_sheets("longest", 21041, &longest);
     // How the cost of making grows with the blocks.
@@ -84,6 +89,13 @@ fn powered_card() -> Card {
     blocks.push(block::power(0x01, &[0x0821, 0x0000]));
     blocks.push(block::power(0x0E, &[0x0821, 0x0020]));
     Card::tidy(21143, 0x0800, blocks)
+}
+
+/// The typical leaf, set to 100BaseTx, the medium of its third block.
+fn fixed_card() -> Card {
+    let mut card = typical_card();
+    card.leaves[0].connection = 0x0003;
+    card
 }
 
 fn images(card: impl Fn(&mut Random) -> Card) -> Vec<Image> {
@@ -164,7 +176,7 @@ fn contest_reading(leaf: &str, arguments: Arguments, images: &[Image]) {
 }
 
 /// Loading into a fresh walk, and looks of a settled walk at reports with a quarter of the links
-/// up, so that most of them select anew.
+/// up, so that most of them select anew where the leaf is autosensed.
 fn contest_walking(leaf: &str, arguments: Arguments, images: &[Image]) {
     contest(
         &format!("load {leaf}"),
@@ -205,11 +217,11 @@ fn contest_by_value(images: &[Image]) {
     );
 }
 
-/// A walk that has settled on the first entry of the table.
+/// A walk that has settled at a look with all links up.
 fn settled(image: &[u8], arguments: Arguments) -> Walk {
     let loaded = walk::fast::load(walk::fast::fresh(), image, arguments).walk;
     let walked = walk::fast::look(loaded, &[1; HIGHEST_COUNT]);
-    assert!(walked.walk.settled, "the newest walk serves the leaf");
+    assert!(walked.walk.settled, "the newest walk finds a medium");
     walked.walk
 }
 

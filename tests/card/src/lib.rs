@@ -58,6 +58,37 @@ pub fn card(words: &str) -> Run {
     shell(&format!("./card {words}"), Path::new("/nowhere"))
 }
 
+/// The fixed connection types by their names in 000 ('Selected Connection Type'), but without '(Twisted Pair)', '(Symbol
+/// Scrambler)' and '(Fiber)', and with 'full duplex' for 'Full_Duplex' and 'link pass' for 'Link Pass'.
+const FIXED_NAMES: [(u16, &str); 18] = [
+    (0x0000, "10BaseT"),
+    (0x0100, "10BaseT with Nway"),
+    (0x0204, "10BaseT full duplex"),
+    (0x0400, "10BaseT without link pass test"),
+    (0x0001, "10Base2 (BNC)"),
+    (0x0002, "10Base5 (AUI)"),
+    (0x0003, "100BaseTx"),
+    (0x0205, "100BaseTx full duplex"),
+    (0x0006, "100BaseT4"),
+    (0x0007, "100BaseFx"),
+    (0x0208, "100BaseFx full duplex"),
+    (0x0009, "MII 10BaseT"),
+    (0x020A, "MII 10BaseT full duplex"),
+    (0x000D, "MII 100BaseTx"),
+    (0x020E, "MII 100BaseTx full duplex"),
+    (0x000F, "MII 100BaseT4"),
+    (0x0010, "MII 100BaseFx"),
+    (0x0211, "MII 100BaseFx full duplex"),
+];
+
+/// The name of a fixed connection type; none of one that is autosensed.
+pub fn fixed_name(connection: u16) -> Option<&'static str> {
+    let mut names = FIXED_NAMES.iter();
+    names
+        .find(|(it, _)| *it == connection)
+        .map(|(_, name)| *name)
+}
+
 /// A power block: its number, its places and its mode byte.
 #[derive(Debug, Clone)]
 pub struct PowerBlock {

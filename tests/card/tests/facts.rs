@@ -1,6 +1,6 @@
 //! What the bench tool says of a card, held to the second implementation.
 
-use card::{PowerBlock, Run, card, option, power_blocks, samples, temporary, words};
+use card::{PowerBlock, Run, card, fixed_name, option, power_blocks, samples, temporary, words};
 use second::crc::{IMAGE_LENGTH, MAGIC_CRC_OFFSET, lay_srom_crc, magic_crc, srom_crc};
 use second::images::{Card, Image, MagicBlock, Sample, block};
 use second::layout::{LAYOUTS, Layout};
@@ -717,14 +717,15 @@ fn is_walked(name: &str, image: &[u8], arguments: Arguments, random: &mut Random
 /// A connection type and its way to walk.
 fn way_line(connection: u16) -> String {
     let way = match Way::of(connection) {
-        Way::EveryLook => "autosensed at every look",
-        Way::Once => "autosensed once",
-        Way::Fixed => "fixed",
+        Way::EveryLook => "autosensed at every look".to_string(),
+        Way::Once => "autosensed once".to_string(),
+        Way::Fixed => format!("fixed: {}", fixed_name(connection).unwrap()),
     };
     format!("  connection type 0x{connection:04x}, {way}")
 }
 
-/// "every other type counts as fixed", and a look under it is refused: each type of each chip.
+/// "every other type counts as fixed", and a look under it at a card without a block gets 32: each type of
+/// each chip. Of a fixed one `read` has the same name.
 #[test]
 fn ways_to_walk() {
     let file = temporary("ways_to_walk").join("card.rom");
@@ -732,9 +733,14 @@ fn ways_to_walk() {
         for connection in connections(chip) {
             fs::write(&file, Card::tidy(chip, connection, vec![]).image()).unwrap();
             let run = card(&format!("walk {} {chip} 0", file.display()));
-            let is_fixed = Way::of(connection) == Way::Fixed;
+            let name = fixed_name(connection);
             assert_eq!(run.written.lines().nth(1), Some(&*way_line(connection)));
-            assert_eq!(run.status, i32::from(is_fixed), "{}", run.written);
+            let is_refused = run.written.contains("REFUSED 32: ");
+            assert_eq!(is_refused, name.is_some(), "{}", run.written);
+            assert_eq!(run.status, i32::from(is_refused), "{}", run.written);
+            let read = card(&format!("read {} {chip}", file.display())).written;
+            let line = name.map(|name| format!("  connection type  0x{connection:04x}, {name}\n"));
+            assert!(line.is_none_or(|line| read.contains(&line)), "{read}");
         }
     }
 }

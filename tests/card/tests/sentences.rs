@@ -1,13 +1,13 @@
 //! The sentences of `./card older`, held to all walks of the second implementation: every list of looks, a reader and an older
-//! one side by side (document 01, 'The walk' and demand 3; document 02, request 4).
+//! one side by side (document 01, 'The walk' and demand 3; document 02, requests 4 and 5).
 
-use card::{card, samples, temporary, words};
-use second::calls::{block_count, mark, serve};
+use card::{card, fixed_name, samples, temporary, words};
+use second::calls::{block_count, connect, mark};
 use second::images::{Card, block};
 use second::layout::LAYOUTS;
 use second::random::Random;
 use second::reader::{Arguments, CHIPS, COMPACT, NEWEST_LEVEL, read_all, starts};
-use second::walk::{AUTOSENSE, AUTOSENSE_ONCE, EMPTY_CONNECTION, Walk, Way, fast};
+use second::walk::{AUTOSENSE, AUTOSENSE_ONCE, EMPTY_CONNECTION, NONE, Walk, fast};
 use std::collections::{BTreeSet, VecDeque};
 use std::fmt::Write as _;
 use std::fs;
@@ -101,6 +101,22 @@ fn reports(blocks: usize) -> Vec<Vec<u8>> {
     reports
 }
 
+/// The block that every accepted look at a walk under a fixed type selects, at first and then; none where every look is refused
+/// with 32.
+fn selected_always(walk: Walk, reports: &[Vec<u8>]) -> Option<u8> {
+    let (after, _) = look(walk, &reports[0]);
+    let looks = reports
+        .iter()
+        .flat_map(|it| [look(walk, it), look(after, it)]);
+    let seen = looks.map(|(_, (number, _, selected, _))| (number, selected));
+    let seen: BTreeSet<_> = seen.filter(|&(number, _)| number != 19).collect();
+    match Vec::from_iter(seen)[..] {
+        [(0, block)] => Some(block),
+        [(32, NONE)] => None,
+        ref others => panic!("{others:?}"),
+    }
+}
+
 /// A report with one link up.
 fn alone(blocks: usize, block: usize) -> Vec<u8> {
     (0..blocks).map(|other| u8::from(other == block)).collect()
@@ -117,6 +133,13 @@ fn removed(image: &[u8], reader: Arguments, older: u8) -> Vec<usize> {
         starts.iter().position(is_there).unwrap()
     };
     entries.into_iter().filter(is_removed).map(block).collect()
+}
+
+/// What the next line says of an older level.
+fn sentence<'a>(lines: &mut dyn Iterator<Item = &'a str>, level: u8) -> &'a str {
+    let line = lines.next().unwrap();
+    let begin = format!("  level {level}: ");
+    line.strip_prefix(&begin).expect("a sentence for the level")
 }
 
 /// The numbers of blocks as a sentence names them: the first six, and whether there are more.
@@ -138,9 +161,14 @@ struct Tally {
     whatever: usize,
     while_down: usize,
     no: usize,
-    fixed: usize,
     long: usize,
     empty: usize,
+    /// Under a fixed type: an older level that lists the first block with the medium, readers without such a block, and older
+    /// levels that select another or refuse.
+    lists: usize,
+    without: usize,
+    selects: usize,
+    refuses: usize,
 }
 
 impl Tally {
@@ -160,9 +188,7 @@ impl Tally {
             let mut first = removed.iter().take(NAMED);
             first.all(|&block| tells_apart(&alone(blocks, block)))
         };
-        let line = lines.next().unwrap();
-        let begin = format!("  level {level}: ");
-        let sentence = line.strip_prefix(&begin).expect("a sentence for the level");
+        let sentence = sentence(lines, level);
         if sentence == "yes, whatever links are up" {
             assert!(start.stays_alike(&reports(blocks)));
             self.whatever += 1;
@@ -190,6 +216,47 @@ impl Tally {
         self.no += 1;
     }
 
+    /// The same under a fixed type.
+    fn hold_fixed(
+        &mut self,
+        lines: &mut dyn Iterator<Item = &str>,
+        image: &[u8],
+        reader: Arguments,
+        level: u8,
+    ) {
+        let start = Pair::load(image, reader, level);
+        let reports = reports(start.newer.blocks.into());
+        let sentence = sentence(lines, level);
+        let Some(choice) = selected_always(start.newer, &reports) else {
+            let without = "yes, both refuse every look with 32: no listed block has this medium";
+            assert_eq!(sentence, without);
+            assert!(start.stays_alike(&reports));
+            self.without += 1;
+            return;
+        };
+        let first = format!("block {choice}, the first with this medium");
+        if sentence == format!("yes, it lists {first}") {
+            assert!(start.stays_alike(&reports));
+            self.lists += 1;
+            return;
+        }
+        assert_eq!(sentence, format!("no: it does not list {first},"));
+        let is_accepted = |report: &&Vec<u8>| look(start.newer, report).1.0 == 0;
+        let mut accepted = reports.iter().filter(is_accepted);
+        assert!(accepted.all(|report| !start.look(report).1));
+        let does = match selected_always(start.older, &reports) {
+            Some(block) => {
+                self.selects += 1;
+                format!("selects block {block}")
+            }
+            None => {
+                self.refuses += 1;
+                "refuses every look with 32".to_string()
+            }
+        };
+        assert_eq!(lines.next().unwrap(), format!("           and {does}"));
+    }
+
     /// Holds what the tool says of a card that the newest reader accepts, as a reader of each level.
     fn hold_card(&mut self, file: &str, image: &[u8], newest: Arguments) {
         for level in 0..=NEWEST_LEVEL {
@@ -205,25 +272,18 @@ impl Tally {
         let (_, below) = run.written.rsplit_once("\n\n").unwrap();
         let mut lines = below.lines();
         let connection = read_all(image, reader).0.connection;
-        if Way::of(connection) != Way::Fixed {
-            assert_eq!(lines.next(), Some(&*title(reader.level)));
-            for level in 0..reader.level {
-                self.hold(&mut lines, image, reader, level);
-                self.empty += usize::from(connection == EMPTY_CONNECTION);
+        let fixed = fixed_name(connection);
+        if let Some(name) = fixed {
+            let line = format!("The connection type is fixed: {name}");
+            assert_eq!(lines.next(), Some(&*line));
+        }
+        assert_eq!(lines.next(), Some(&*title(reader.level)));
+        for level in 0..reader.level {
+            match fixed {
+                Some(_) => self.hold_fixed(&mut lines, image, reader, level),
+                None => self.hold(&mut lines, image, reader, level),
             }
-        } else {
-            let fixed = "The connection type is fixed, so that no driver looks: all stand alike.";
-            assert_eq!(lines.next(), Some(fixed));
-            for level in 0..reader.level {
-                let start = Pair::load(image, reader, level);
-                let reports = reports(start.newer.blocks.into());
-                let walks = [start.newer, start.older];
-                let is_refused =
-                    |report: &Vec<u8>| walks.iter().all(|&it| look(it, report).1.0 == 22);
-                assert!(reports.iter().all(is_refused));
-                assert!(start.stays_alike(&reports));
-            }
-            self.fixed += 1;
+            self.empty += usize::from(connection == EMPTY_CONNECTION);
         }
         assert_eq!(lines.next(), None);
     }
@@ -246,15 +306,13 @@ fn title(reader: u8) -> String {
     }
 }
 
-/// A random card for the chip, of either layout, whose first controller has from 1 to 12 blocks, mostly of a type that looks
-/// serve, and in half of the cases with more blocks that have Active_Invalid.
+/// A random card for the chip, of either layout, autosensed or fixed, whose first controller has from 1 to 12 blocks, and in
+/// half of the cases with more blocks that have Active_Invalid.
 fn random_card(random: &mut Random, chip: u16) -> Card {
     loop {
         let layout = random.pick(&LAYOUTS);
         let mut card = Card::valid(random, chip, layout);
-        if !random.one_in(6) {
-            serve(random, &mut card);
-        }
+        connect(random, &mut card);
         if random.one_in(2) {
             mark(random, &mut card);
         }
@@ -290,8 +348,19 @@ fn long_cards() -> Vec<(Card, u16)> {
     ]
 }
 
+/// A compact block and one of type 0, which level 0 does not list, for the medium that the card is set to.
+fn fixed_card() -> Card {
+    let blocks = vec![
+        block::compact(3, 0, 0x4000),
+        block::non_mii(3, 0, 0),
+        block::compact(0, 0, 0),
+    ];
+    Card::tidy(21140, 0x0003, blocks)
+}
+
 /// "yes, whatever": no list of looks tells the walks apart. "yes, while": none does in which no removed block is up, and each
-/// removed block, were it up alone, would. "no": a look with no link up does. A fixed type: every look is refused with 22.
+/// removed block, were it up alone, would. "no": a look with no link up does. Under a fixed type, "yes": none does, and "no":
+/// every accepted look does.
 #[test]
 fn older_sentences() {
     let mut tally = Tally::default();
@@ -304,7 +373,9 @@ fn older_sentences() {
         }
     }
     let folder = temporary("sentences");
-    for (card, chip) in long_cards() {
+    let mut made = long_cards();
+    made.push((fixed_card(), 21140));
+    for (card, chip) in made {
         tally.hold_made(&folder, &card, chip);
         cards += 1;
     }
@@ -322,12 +393,17 @@ fn older_sentences() {
         whatever,
         while_down,
         no,
-        fixed,
         long,
         empty,
+        lists,
+        without,
+        selects,
+        refuses,
     } = tally;
-    let counts = [whatever, while_down, no, fixed, long, empty];
-    assert!(counts.into_iter().min() > Some(2), "{tally:?}");
+    let sensed = [whatever, while_down, no, long, empty];
+    let fixed = [lists, without, selects, refuses];
+    let least = sensed.into_iter().chain(fixed).min();
+    assert!(least > Some(2), "{tally:?}");
 }
 
 /// A card that is refused with 31 is read at every level below (document 02, request 3), and of the others nothing is

@@ -71,15 +71,17 @@ fn every_transcript() {
 }
 
 /// "every number": but those that no command can cause (docs/DECISIONS.md, 'The bench tool'), and
-/// the list has all.
+/// the list has all. There is no 28, and "Refusal 22 is retired".
 #[test]
 fn every_refusal() {
     let stored = fs::read_to_string(folder().join("refusals.txt")).unwrap();
-    for number in (1..=27).chain(29..=31) {
+    for number in 1..=32 {
+        let is_number = ![22, 28].contains(&number);
         let is_caused = stored.contains(&format!("REFUSED {number}: "));
-        assert_eq!(is_caused, ![12, 20, 21].contains(&number), "{number}");
+        let can_be_caused = is_number && ![12, 20, 21].contains(&number);
+        assert_eq!(is_caused, can_be_caused, "{number}");
         let is_listed = stored.contains(&format!("\n  {number:>2}  "));
-        assert!(is_listed, "{number}");
+        assert_eq!(is_listed, is_number, "{number}");
     }
 }
 

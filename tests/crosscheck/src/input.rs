@@ -3,7 +3,7 @@
 use crate::tally::{Name, Tally};
 use library::compare::{self, Difference, Pair};
 use library::lent::hex;
-use library::levels::Older;
+use library::levels::{Choice, Older};
 use library::twins::Twins;
 use library::{Layout, Magic};
 use second::calls::{Call, Step};
@@ -153,7 +153,8 @@ fn compare_steps(steps: &[(Step, usize)], tally: &mut Tally) -> Result<(), Diffe
     Ok(())
 }
 
-/// Demand 3. Where a condition is not met, the calls are compared and the levels are not.
+/// Demand 3, under a fixed type with its one condition. Where a condition is not met, the calls are
+/// compared and the levels are not.
 fn compare_levels(
     image: &[u8],
     arguments: Arguments,
@@ -177,15 +178,22 @@ fn compare_levels(
         tally.count(name, 0);
         tally.count(name, 0);
     }
+    let (looks, selections) = (shown.looks as u64, shown.selections as u64);
     let seen = &mut tally.levels[usize::from(level)];
     seen.lists += 1;
-    if older.is_default_removed || shown.had_removed_up {
+    tally.fixed.lists += u64::from(older.choice.is_some());
+    if !older.is_promised(&shown) {
         return Ok(());
     }
     seen.under_conditions += 1;
     seen.with_removed += u64::from(!older.removed.is_empty());
-    seen.looks += shown.looks as u64;
-    seen.selections += shown.selections as u64;
+    seen.looks += looks;
+    seen.selections += selections;
+    if let Some(choice) = older.choice {
+        tally.fixed.with_choice += u64::from(choice == Choice::Listed);
+        tally.fixed.without_choice += u64::from(choice == Choice::Missing);
+        tally.fixed.looks += looks;
+    }
     shown.difference.map_or(Ok(()), Err)
 }
 

@@ -242,7 +242,7 @@ fn twins(random: &mut Random) -> Input {
 }
 
 /// "23 looks at 65,535": a walk of two media that looks as often and some times more, is cleared
-/// and looks again.
+/// and looks again; under a fixed type whose medium neither has, 32 is answered for 0 and 23.
 fn spent(random: &mut Random) -> Input {
     let media = [0, 1].map(|code| block::sia(code, None, 0, 0));
     let layout = random.pick(&LAYOUTS);
@@ -250,7 +250,7 @@ fn spent(random: &mut Random) -> Input {
         magic: MagicBlock::of_layout(random, layout),
         ..Card::tidy(21143, AUTOSENSE, media.to_vec())
     };
-    calls::serve(random, &mut card);
+    calls::connect(random, &mut card);
     let image = card.image();
     let arguments = Arguments::newest(21143).laid_out(layout);
     let load = Step::Load(image.to_vec(), arguments);

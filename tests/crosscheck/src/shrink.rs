@@ -374,6 +374,7 @@ mod tests {
     use second::reader::read_all;
     use second::sheet::write;
     use second::sheets::{Sheet, output};
+    use second::walk::{Autosense, Way};
     use std::iter;
 
     const ARGUMENTS: Arguments = Arguments::newest(21143);
@@ -457,6 +458,53 @@ mod tests {
             (Step::Look(vec![1, 1]), 5),
         ];
         assert_eq!(smallest, Input::Walk(expected));
+    }
+
+    /// A difference between two levels under a fixed type: a load, a look and the newest choice are
+    /// left.
+    #[test]
+    fn two_levels() {
+        let differ = |input: &Input| {
+            let Input::Levels {
+                image,
+                arguments,
+                level,
+                list,
+            } = input
+            else {
+                return false;
+            };
+            let [newest, older] = [arguments.level, *level].map(|level| {
+                let arguments = Arguments {
+                    level,
+                    ..*arguments
+                };
+                let mut walk = Autosense::default();
+                for call in list {
+                    match call {
+                        Call::Load => walk.load(image, arguments),
+                        Call::Look(report) => walk.look(report),
+                        Call::Clear => walk.clear(),
+                    };
+                }
+                walk.walk()
+            });
+            Way::of(newest.connection) == Way::Fixed && newest.selected != older.selected
+        };
+        for input in Rounds::new(2).flatten().filter(differ).take(10) {
+            let smallest = shrink(input, differ);
+            let Input::Levels {
+                image,
+                arguments,
+                list,
+                ..
+            } = smallest
+            else {
+                panic!("another call: {smallest:?}");
+            };
+            assert_eq!(list, [Call::Load, Call::Look(vec![0])]);
+            assert_eq!(read_all(&image, arguments).0.blocks, 1);
+        }
     }
 
     /// A difference at accepted images alone: the CRCs are mended, so that what is not needed

@@ -3,7 +3,7 @@
 use library::twins::Shown;
 use second::reader::NEWEST_LEVEL;
 
-const HIGHEST_REFUSAL: usize = 31;
+const HIGHEST_REFUSAL: usize = 32;
 
 /// The exported calls.
 #[derive(Debug, Clone, Copy)]
@@ -42,12 +42,12 @@ const NAMES: [&str; 13] = [
 
 /// How often each call answered each number, what demand 3's lists showed, and what looks under an
 /// empty connection word showed.
-#[derive(Default)]
 pub struct Tally {
     numbers: [[u64; HIGHEST_REFUSAL + 1]; NAMES.len()],
     /// Views that handed back an empty part; they have no number.
     empty_views: u64,
     pub levels: [Level; NEWEST_LEVEL as usize],
+    pub fixed: Fixed,
     pub twins: Shown,
 }
 
@@ -55,13 +55,36 @@ pub struct Tally {
 #[derive(Debug, Clone, Copy, Default)]
 pub struct Level {
     pub lists: u64,
-    /// Lists under both conditions, and those of them with a removed entry.
+    /// Lists under the conditions, and those of them with a removed entry.
     pub under_conditions: u64,
     pub with_removed: u64,
-    /// The looks that the newest walk accepted under both conditions, and those of them that left a
+    /// The looks that the newest walk accepted under the conditions, and those of them that left a
     /// block selected.
     pub looks: u64,
     pub selections: u64,
+}
+
+/// What the lists under a fixed connection type showed, at all older levels together.
+#[derive(Debug, Clone, Copy, Default)]
+pub struct Fixed {
+    pub lists: u64,
+    /// Lists under the condition: with a choice that the older level lists, and without a choice.
+    pub with_choice: u64,
+    pub without_choice: u64,
+    /// The looks that the newest walk accepted under the condition.
+    pub looks: u64,
+}
+
+impl Default for Tally {
+    fn default() -> Self {
+        Self {
+            numbers: [[0; HIGHEST_REFUSAL + 1]; NAMES.len()],
+            empty_views: 0,
+            levels: Default::default(),
+            fixed: Fixed::default(),
+            twins: Shown::default(),
+        }
+    }
 }
 
 impl Tally {
@@ -81,7 +104,8 @@ impl Tally {
     }
 
     /// The numbers that were answered, a row for each, with a column for each call; then the lists
-    /// of demand 3, a row for each older level; then the looks under 0xFFFF.
+    /// of demand 3, a row for each older level; then those of them under a fixed type; then the
+    /// looks under 0xFFFF.
     pub fn table(&self) -> String {
         let mut table = row("number", NAMES.map(String::from));
         for number in 0..=HIGHEST_REFUSAL {
@@ -108,6 +132,18 @@ impl Tally {
             ];
             table += &row(&level.to_string(), cells.map(cell));
         }
+        let titles = ["lists", "with choice", "without", "looks"];
+        table += &row("\ntype", titles.map(String::from));
+        let Fixed {
+            lists,
+            with_choice,
+            without_choice,
+            looks,
+        } = self.fixed;
+        table += &row(
+            "fixed",
+            [lists, with_choice, without_choice, looks].map(cell),
+        );
         let titles = ["lists", "looks", "selected", "kept"];
         table += &row("\ntype", titles.map(String::from));
         let Shown {

@@ -31,15 +31,32 @@ fn same_table() {
     assert!(text.ends_with(" differences 0\n"), "{text}");
 }
 
+/// The cells of the row that begins with a word, in the table of 20 rounds. A number that is 0
+/// leaves its cell empty.
+fn cells(first: &str) -> Vec<u64> {
+    let text = String::from_utf8(run(&["0", "1", "20"]).stdout).expect("the table is text");
+    let mut rows = text.lines().map(str::split_whitespace);
+    let row = rows.find_map(|mut cells| (cells.next() == Some(first)).then_some(cells));
+    let row = row.unwrap_or_else(|| panic!("no row {first}\n{text}"));
+    row.map(|cell| cell.parse().expect("a number")).collect()
+}
+
 /// Document 02, request 4: lists of looks under 0xFFFF are held to 0x8800, and some of them would part
 /// under 0x0800.
 #[test]
 fn looks_under_an_empty_connection_word() {
-    let text = String::from_utf8(run(&["0", "1", "20"]).stdout).expect("the table is text");
-    let mut rows = text.lines().map(str::split_whitespace);
-    let row = rows.find_map(|mut cells| (cells.next() == Some("0xffff")).then_some(cells));
-    let cells: Vec<_> = row.expect("a row for the type").collect();
-    // A number that is 0 leaves its cell empty.
-    assert_eq!(cells.len(), 4, "{text}");
-    assert_eq!(cells[0], "20", "{text}");
+    let cells = cells("0xffff");
+    assert_eq!(cells.len(), 4, "{cells:?}");
+    assert_eq!(cells[0], 20, "{cells:?}");
+}
+
+/// Document 02, request 5: lists under a fixed type are compared "whenever the newest choice is an
+/// entry that it lists, or there is none", and others are not; and 32 is answered.
+#[test]
+fn lists_under_a_fixed_type() {
+    let [lists, with_choice, without, looks] = cells("fixed")[..] else {
+        panic!("an empty cell");
+    };
+    assert!(with_choice + without < lists && looks > with_choice);
+    assert_eq!(cells("32").len(), 1);
 }

@@ -321,13 +321,14 @@ pub(crate) fn walk_text(walk: &Walk) -> String {
         hex(&row[..length])
     };
     format!(
-        "loaded {}, connection {:#06x}, blocks {}, listed [{}], active_invalid [{}], default {}, \
-         settled {}, selected {}, looks {}, switches {}",
+        "loaded {}, connection {:#06x}, blocks {}, listed [{}], active_invalid [{}], fixed [{}], \
+         default {}, settled {}, selected {}, looks {}, switches {}",
         walk.loaded,
         walk.connection,
         walk.blocks,
         row(&walk.rows.listed),
         row(&walk.rows.active_invalid),
+        row(&walk.rows.fixed),
         walk.default_number,
         walk.settled,
         walk.selected,

@@ -1,12 +1,13 @@
 //! Demand 3 on real runs: the newest level against one below it, over one image and one list of
-//! calls.
+//! calls. Its two conditions are those of an autosensed type; "Under a fixed type one condition
+//! replaces demand 3's two" (document 02, request 5).
 
 use crate::compare::{self, Difference, Pair};
 use crate::lent::hex;
 use crate::{Answer, Arguments, Walk};
 use second::calls::Call;
 use second::reader::{COMPACT, HIGHEST_COUNT, NEWEST_LEVEL, NO_DEFAULT, RESET, read_all};
-use second::walk::{Autosense, NONE};
+use second::walk::{Autosense, NONE, Way};
 
 /// "arrays no shorter than the block count".
 const LENGTHS: (usize, usize) = (HIGHEST_COUNT, HIGHEST_COUNT);
@@ -20,6 +21,20 @@ pub struct Older<'a> {
     pub removed: Vec<usize>,
     /// Demand 3's first condition is that it is not.
     pub is_default_removed: bool,
+    /// The newest choice under a fixed connection type; none under an autosensed one.
+    pub choice: Option<Choice>,
+}
+
+/// What the newest walk selects under a fixed connection type.
+#[derive(Debug, Clone, Copy, PartialEq, Eq)]
+pub enum Choice {
+    /// An entry that the older level lists.
+    Listed,
+    /// No listed block has the medium.
+    Missing,
+    /// A removed entry, so that the condition is not met; and whether the older level lists another
+    /// block with the medium.
+    Removed { has_other: bool },
 }
 
 /// What a list showed.
@@ -33,6 +48,10 @@ pub struct Shown {
     /// The looks that were accepted, and those of them that left a block selected.
     pub looks: usize,
     pub selections: usize,
+    /// The looks at a loaded walk, and those of them that the newest and the older level refused
+    /// with 32.
+    pub loaded_looks: usize,
+    pub without_medium: [usize; 2],
 }
 
 impl<'a> Older<'a> {
@@ -46,7 +65,14 @@ impl<'a> Older<'a> {
         if answer.number > 0 {
             return None;
         }
-        let numbers = block_numbers(image, newest);
+        let older = Arguments { level, ..newest };
+        let loaded = |arguments| {
+            let mut walk = Autosense::default();
+            walk.load(image, arguments);
+            walk.walk()
+        };
+        let walk = loaded(newest);
+        let numbers = block_numbers(&walk);
         assert_eq!(numbers.len(), entries.len(), "the walk lists the table");
         let removed: Vec<_> = numbers
             .into_iter()
@@ -55,13 +81,33 @@ impl<'a> Older<'a> {
             .map(|(number, _)| number)
             .collect();
         let is_default_removed = removed.contains(&answer.default_number.into());
+        let is_fixed = Way::of(answer.connection) == Way::Fixed;
+        let choice = is_fixed.then(|| match walk.fixed_choice() {
+            None => Choice::Missing,
+            Some(block) if removed.contains(&block) => Choice::Removed {
+                has_other: loaded(older).fixed_choice().is_some(),
+            },
+            Some(_) => Choice::Listed,
+        });
         Some(Self {
             image,
             newest,
-            older: Arguments { level, ..newest },
+            older,
             removed,
             is_default_removed,
+            choice,
         })
+    }
+
+    /// Whether both walks must have been alike after each call of a list that showed this: "a walk
+    /// below the newest level matches whenever the newest choice is an entry that it lists, or
+    /// there is none"; under an autosensed type "the default medium must be none of the removed
+    /// entries, and no accepted look may have a removed entry up".
+    pub fn is_promised(&self, shown: &Shown) -> bool {
+        match self.choice {
+            Some(choice) => !matches!(choice, Choice::Removed { .. }),
+            None => !self.is_default_removed && !shown.had_removed_up,
+        }
     }
 
     /// What demand 3 says of the two answers and tables.
@@ -107,8 +153,12 @@ impl<'a> Older<'a> {
     }
 
     /// The list with the removed entries down in the looks that the newest walk accepts, and in no
-    /// others: demand 3's second condition.
+    /// others: demand 3's second condition. Under a fixed type, which has no such condition, the list
+    /// as it is.
     pub fn keep_down(&self, mut list: Vec<Call>) -> Vec<Call> {
+        if self.choice.is_some() {
+            return list;
+        }
         let mut walk = Autosense::default();
         for call in &mut list {
             match call {
@@ -136,6 +186,7 @@ impl<'a> Older<'a> {
         let (mut newest, mut older) = (Pair::fresh()?, Pair::fresh()?);
         let mut shown = Shown::default();
         for call in list {
+            let was_loaded = newest.library.loaded;
             let newest_number = newest.call(call, self.image, self.newest)?;
             let older_number = older.call(call, self.image, self.older)?;
             count(call, newest_number);
@@ -152,9 +203,13 @@ impl<'a> Older<'a> {
                     faults: Vec::new(),
                 });
             }
-            if let Call::Look(report) = call
-                && newest_number == 0
-            {
+            let Call::Look(report) = call else {
+                continue;
+            };
+            shown.loaded_looks += usize::from(was_loaded);
+            shown.without_medium[0] += usize::from(newest_number == 32);
+            shown.without_medium[1] += usize::from(older_number == 32);
+            if newest_number == 0 {
                 shown.had_removed_up |= self.removed.iter().any(|&block| report[block] == 1);
                 shown.looks += 1;
                 shown.selections += usize::from(newest.library.selected != NONE);
@@ -183,11 +238,10 @@ fn compared(number: u8, walk: &Walk) -> (u8, Option<(bool, u8, u16, u16)>) {
     (number, walk.loaded.then_some(state))
 }
 
-/// The block numbers of the table's entries, in its order.
-fn block_numbers(image: &[u8], arguments: Arguments) -> Vec<usize> {
-    let mut walk = Autosense::default();
-    walk.load(image, arguments);
-    let listed = walk.walk().rows.listed;
-    let numbers = (0..listed.len()).rev();
-    numbers.filter(|&number| listed[number] == 1).collect()
+/// The block numbers of the entries that a walk lists, in table order.
+fn block_numbers(walk: &Walk) -> Vec<usize> {
+    let numbers = (0..walk.rows.listed.len()).rev();
+    numbers
+        .filter(|&number| walk.rows.listed[number] == 1)
+        .collect()
 }

@@ -87,7 +87,7 @@ fn layout_source() -> String {
         ),
         ("srom_magic", &["password", "address", "command"]),
         ("srom_magic_answer", &["number", "magic"]),
-        ("srom_rows", &["listed", "active_invalid"]),
+        ("srom_rows", &["listed", "active_invalid", "fixed"]),
         (
             "srom_walk",
             &[
@@ -153,7 +153,7 @@ fn layout_expected() -> Vec<String> {
         ),
         layout!("srom_magic", Magic, password, address, command),
         layout!("srom_magic_answer", MagicAnswer, number, magic),
-        layout!("srom_rows", Rows, listed, active_invalid),
+        layout!("srom_rows", Rows, listed, active_invalid, fixed),
         layout!(
             "srom_walk",
             Walk,
@@ -192,7 +192,8 @@ fn header_is_cpp17() {
     header_in("c++", "-std=c++17", "cc");
 }
 
-/// The header's names for document 01's refusals, by their numbers, and document 02's from 29 on.
+/// The header's names for document 01's refusals, by their numbers, and document 02's from 29 on. There is no 28, and 22 "is
+/// retired".
 const REFUSALS: [&str; 31] = [
     "ACCEPTED",
     "BAD_IMAGE_LENGTH",
@@ -216,7 +217,6 @@ const REFUSALS: [&str; 31] = [
     "BAD_REPORT",
     "WALK_FRESH",
     "WALK_LOADED",
-    "FIXED_CONNECTION",
     "TOO_MANY_LOOKS",
     "BAD_SHEET",
     "BAD_SHEET_ENTRY",
@@ -225,6 +225,7 @@ const REFUSALS: [&str; 31] = [
     "BAD_MAGIC_CRC",
     "BAD_MAGIC_RESERVED",
     "REPEATED_MODE",
+    "NO_FIXED_MEDIUM",
 ];
 
 /// Each number that the header names is the second implementation's, or the documents'.
@@ -243,7 +244,7 @@ fn header_numbers() {
         ("EMPTY_CONNECTION".to_owned(), EMPTY_CONNECTION.into()),
     ];
     expected.extend(CHIPS.map(|chip| (chip.to_string(), chip.into())));
-    let numbers = (0..=27).chain(29..);
+    let numbers = (0..=21).chain(23..=27).chain(29..);
     expected.extend(REFUSALS.map(str::to_owned).into_iter().zip(numbers));
     assert_eq!(NONE, NO_DEFAULT);
     let header = fs::read_to_string(root().join("include/srom.h")).unwrap();
@@ -363,12 +364,13 @@ fn header_sheet_layout() {
 fn walk_fields(walk: &Walk) -> String {
     let row = |row: &[u8]| row.iter().map(u8::to_string).collect::<String>();
     format!(
-        " {} {} {} {} {} {} {} {} {} {}",
+        " {} {} {} {} {} {} {} {} {} {} {}",
         u8::from(walk.loaded),
         walk.connection,
         walk.blocks,
         row(&walk.rows.listed),
         row(&walk.rows.active_invalid),
+        row(&walk.rows.fixed),
         walk.default_number,
         u8::from(walk.settled),
         walk.selected,
@@ -526,8 +528,8 @@ fn probe_counts_power_blocks() {
     assert_eq!(output.status.code(), Some(0));
 }
 
-/// The kinds of steps that a look takes (document 01, 'The walk', steps 1 and 2), before the walk is settled and after, and
-/// refusals.
+/// The kinds of steps that a look takes (document 01, 'The walk', steps 1 and 2), before the walk is settled and after; those
+/// under a fixed type (document 02, request 5); and refusals.
 #[derive(Debug, Clone, Copy, PartialEq, Eq, PartialOrd, Ord)]
 enum Step {
     NoneBefore,
@@ -548,6 +550,10 @@ enum Step {
     StaysUpOnDefault,
     StaysOnce,
     StaysInvalid,
+    /// Under a fixed type, from no block, and again with its link up or another's.
+    FixedFirst,
+    FixedUp,
+    FixedDown,
     RefusedReport,
     RefusedFixed,
 }
@@ -562,6 +568,7 @@ fn is_step(step: Step, before: &Walk, links: &[u8], number: u8, after: &Walk) ->
     let mut ups = (0..links.len()).filter(|&block| links[block] == 1);
     let (from, to) = (before.selected, after.selected);
     let is_once = Way::of(before.connection) == Way::Once;
+    let is_fixed = Way::of(before.connection) == Way::Fixed && after.settled;
     let was_default = from == before.default_number;
     let on_default = to == before.default_number && to != NONE && !is_up(to);
     let with_none_up = on_default && ups.clone().next().is_none();
@@ -572,7 +579,7 @@ fn is_step(step: Step, before: &Walk, links: &[u8], number: u8, after: &Walk) ->
     let stays_down = stays && !is_up(to);
     let is_it = match step {
         RefusedReport => return number == 19,
-        RefusedFixed => return number == 22,
+        RefusedFixed => return number == 32,
         NoneBefore => to == NONE && !after.settled,
         NoneAfter => to == NONE && before.settled,
         DefaultBefore => with_none_up && !after.settled && !was_default,
@@ -589,6 +596,9 @@ fn is_step(step: Step, before: &Walk, links: &[u8], number: u8, after: &Walk) ->
         StaysUpOnDefault => stays && is_up(to) && was_default,
         StaysOnce => stays_down && is_once && !is_invalid(to.into()),
         StaysInvalid => stays_down && !is_once && is_invalid(to.into()),
+        FixedFirst => is_fixed && from == NONE && !is_up(to),
+        FixedUp => is_fixed && from == to && is_up(to),
+        FixedDown => is_fixed && from == to && !is_up(to) && ups.next().is_some(),
     };
     number == 0 && is_it
 }
@@ -611,6 +621,9 @@ fn sentence(step: Step, number: u8, after: &Walk) -> String {
         StaysUp | StaysUpOnDefault => format!("stays on block {block}, whose link is up"),
         StaysOnce => format!("stays on block {block}, since the connection type senses once"),
         StaysInvalid => format!("stays on block {block}, since it has Active_Invalid"),
+        FixedFirst | FixedUp | FixedDown => {
+            format!("block {block}, the first in table order that has the fixed medium")
+        }
     };
     let settled = if after.settled {
         "settled"
@@ -713,15 +726,25 @@ fn scenes() -> Vec<Scene> {
             sensed_once,
         ),
         (
-            made("probe-fixed.rom", 0),
+            sample("boiler-house.rom"),
             21143,
-            vec![("10", RefusedFixed)],
+            vec![
+                ("1101", FixedFirst),
+                ("0010", FixedUp),
+                ("0100", FixedDown),
+                ("0020", RefusedReport),
+            ],
+        ),
+        (
+            sample("missing-medium.rom"),
+            21143,
+            vec![("111", RefusedFixed)],
         ),
     ]
 }
 
-/// Document 01, 'The walk', and document 02, request 4: the probe says of each kind of step what happened, and every kind is
-/// met.
+/// Document 01, 'The walk', and document 02, requests 4 and 5: the probe says of each kind of step what happened, and every kind
+/// is met.
 #[test]
 fn probe_tells_every_step() {
     let mut told = BTreeSet::new();

@@ -33,6 +33,7 @@ static void show_walk(srom_walk walk)
     printf(" %u %u %u", walk.loaded, walk.connection, walk.blocks);
     show_row(walk.rows.listed);
     show_row(walk.rows.active_invalid);
+    show_row(walk.rows.fixed);
     printf(" %u %u %u %u %u\n", walk.default_number, walk.settled, walk.selected, walk.looks, walk.switches);
 }
 

@@ -1,13 +1,14 @@
 //! Lists of calls to walk with: loads, looks with reports of every sort, and clears.
 
-use crate::images::damage::{command_offset, kind};
-use crate::images::{Card, DAMAGES, Sample};
+use crate::images::damage::{code_byte, command_offset, kind};
+use crate::images::{Card, DAMAGES, Leaf, Sample};
 use crate::layout::{LAYOUTS, Layout};
 use crate::random::Random;
 use crate::reader::{
-    ACTIVE_INVALID, Arguments, DEFAULT, HIGHEST_COUNT, connections, controller_offset, header_size,
+    self, ACTIVE_INVALID, Arguments, DEFAULT, HIGHEST_COUNT, MEDIA_CODE, connections,
+    controller_offset, header_size,
 };
-use crate::walk::{Autosense, EMPTY_CONNECTION, Way};
+use crate::walk::{Autosense, EMPTY_CONNECTION, Medium, Way, has_fixed_medium};
 use std::fmt::{self, Display, Formatter};
 
 /// A call of a list. A load takes the image and the arguments that go with the list.
@@ -148,13 +149,11 @@ pub fn steps(random: &mut Random) -> Vec<Step> {
     (0..length).map(step).collect()
 }
 
-/// A sample that the newest reader of a layout accepts, mostly served, and marked in half of the
-/// cases.
+/// A sample that the newest reader of a layout accepts, autosensed or fixed, and marked in half of
+/// the cases.
 pub fn accepted(random: &mut Random, layout: Layout) -> Sample {
     let mut sample = Sample::valid_in(random, layout);
-    if !random.one_in(16) {
-        serve(random, &mut sample.card);
-    }
+    connect(random, &mut sample.card);
     if random.one_in(2) {
         mark(random, &mut sample.card);
     }
@@ -164,16 +163,30 @@ pub fn accepted(random: &mut Random, layout: Layout) -> Sample {
 /// A sample of any layout and of a level that is mostly the newest, whose card is accepted and has
 /// empty connection words.
 pub fn emptied(random: &mut Random) -> Sample {
-    let layout = random.pick(&LAYOUTS);
-    let mut sample = accepted(random, layout);
+    let mut sample = at_some_level(random);
     for leaf in &mut sample.card.leaves {
         leaf.connection = EMPTY_CONNECTION;
     }
+    sample
+}
+
+/// The same with fixed connection types.
+pub fn fixed(random: &mut Random) -> Sample {
+    let mut sample = at_some_level(random);
+    fix(random, &mut sample.card);
+    sample
+}
+
+/// An accepted sample of any layout, and of a level that is mostly the newest.
+fn at_some_level(random: &mut Random) -> Sample {
+    let layout = random.pick(&LAYOUTS);
+    let mut sample = accepted(random, layout);
     sample.arguments.level = level(random);
     sample
 }
 
-/// The arguments of a list's loads, and a card for them that is mostly accepted and served.
+/// The arguments of a list's loads, and a card for them that is mostly accepted, autosensed or
+/// fixed.
 pub fn sample(random: &mut Random) -> Sample {
     let mut sample = match random.below(16) {
         0 => {
@@ -186,9 +199,7 @@ pub fn sample(random: &mut Random) -> Sample {
         }
         _ => Sample::valid(random),
     };
-    if !random.one_in(16) {
-        serve(random, &mut sample.card);
-    }
+    connect(random, &mut sample.card);
     mark(random, &mut sample.card);
     sample.arguments.level = level(random);
     sample
@@ -199,17 +210,69 @@ fn level(random: &mut Random) -> u8 {
     random.pick(&[0, 1, 2, 3, 4, 5, 6, 7, 7, 7, 7, 7, 7])
 }
 
-/// Gives every leaf a connection type that looks serve.
-pub fn serve(random: &mut Random, card: &mut Card) {
-    for leaf in &mut card.leaves {
-        leaf.connection = random.pick(&served(leaf.chip));
+/// Gives every leaf a connection type that is autosensed, or, in one card of three, a fixed one.
+pub fn connect(random: &mut Random, card: &mut Card) {
+    match random.below(3) {
+        0 => fix(random, card),
+        _ => autosense(random, card),
     }
 }
 
-/// The connection types of a chip that looks serve.
-fn served(chip: u16) -> Vec<u16> {
-    let is_served = |&connection: &u16| Way::of(connection) != Way::Fixed;
-    connections(chip).filter(is_served).collect()
+/// Gives every leaf a connection type that is autosensed.
+pub fn autosense(random: &mut Random, card: &mut Card) {
+    for leaf in &mut card.leaves {
+        leaf.connection = random.pick(&autosensed(leaf.chip));
+    }
+}
+
+/// Gives every leaf a fixed connection type, mostly one whose medium a block of it has, and its media
+/// code to others too.
+fn fix(random: &mut Random, card: &mut Card) {
+    for leaf in &mut card.leaves {
+        let is_fixed = |&connection: &u16| Way::of(connection) == Way::Fixed;
+        let any: Vec<_> = connections(leaf.chip).filter(is_fixed).collect();
+        let with_choice = with_choice(leaf, &any);
+        let is_any = with_choice.is_empty() || random.one_in(6);
+        leaf.connection = random.pick(if is_any { &any } else { &with_choice });
+        if let Some(Medium::Code(code)) = Medium::of(leaf.connection) {
+            recode(random, leaf, code);
+        }
+    }
+}
+
+/// Those of the connection types whose medium a block of a leaf has, for a leaf that the newest
+/// reader accepts.
+fn with_choice(leaf: &Leaf, connections: &[u16]) -> Vec<u16> {
+    let image = Card::tidy(leaf.chip, EMPTY_CONNECTION, leaf.blocks.clone()).image();
+    let (_, blocks) = reader::leaf(&image, Arguments::newest(leaf.chip), usize::MAX)
+        .expect("the newest reader accepts the leaf");
+    let mut types = connections.to_vec();
+    types.retain(|&connection| blocks.iter().any(|it| has_fixed_medium(it, connection)));
+    types
+}
+
+/// Gives a media code to some of the blocks that can have it. None of these stays the default, so
+/// that there are no two.
+fn recode(random: &mut Random, leaf: &mut Leaf, code: u8) {
+    let chip = leaf.chip;
+    for block in &mut leaf.blocks {
+        let kind = kind(block, chip);
+        let Some((offset, codes, _)) = code_byte(kind) else {
+            continue;
+        };
+        if codes.contains(&code) && random.one_in(2) {
+            block[offset] = block[offset] & !MEDIA_CODE | code;
+            if let Some(command) = command_offset(kind) {
+                block[command + 1] &= !((DEFAULT >> 8) as u8);
+            }
+        }
+    }
+}
+
+/// The connection types of a chip that are autosensed.
+fn autosensed(chip: u16) -> Vec<u16> {
+    let is_autosensed = |&connection: &u16| Way::of(connection) != Way::Fixed;
+    connections(chip).filter(is_autosensed).collect()
 }
 
 /// Sets Active_Invalid in some of the media that have a command, with or without the default bit.
@@ -256,15 +319,15 @@ pub fn near_lengths(random: &mut Random, count: usize) -> (usize, usize) {
 #[cfg(test)]
 mod tests {
     use super::*;
-    use crate::reader::CHIPS;
+    use crate::reader::{CHIPS, NEWEST_LEVEL};
 
     /// "From the state, before any from the input": the lists meet each refusal of load and look
     /// but 12 and 23, and mostly acceptance.
     #[test]
     fn every_refusal() {
         let mut random = Random::new(1);
-        let (mut loads, mut looks) = ([0; 32], [0; 32]);
-        for _ in 0..10_000 {
+        let (mut loads, mut looks) = ([0; 33], [0; 33]);
+        for _ in 0..11_000 {
             let sample = sample(&mut random);
             let image = sample.card.image();
             let blocks = block_count(&image, sample.arguments);
@@ -278,21 +341,64 @@ mod tests {
                 }
             }
         }
-        let met = |often: [usize; 32]| (0..32).filter(move |&number| often[number] > 10);
+        let met = |often: [usize; 33]| (0..33).filter(move |&number| often[number] > 10);
         let numbers = (2..=11).chain(13..=18).chain([21, 29, 30, 31]);
         assert!(met(loads).eq([0].into_iter().chain(numbers)));
-        assert!(met(looks).eq([0, 19, 20, 22]));
+        assert!(met(looks).eq([0, 19, 20, 32]));
         assert!(looks[0] > 50_000, "{looks:?}");
     }
 
-    /// "Looks serve 0x0800, 0x8800 and 0x0900", and by document 02, request 4, 0xFFFF: of each chip's
-    /// row, those that are in it.
+    /// Document 01's types that are autosensed, and by document 02, request 4, 0xFFFF: of each
+    /// chip's row, those that are in it.
     #[test]
-    fn served_of_each_chip() {
+    fn autosensed_of_each_chip() {
         for chip in CHIPS {
             let other = if chip == 21041 { 0x0900 } else { 0x8800 };
-            assert_eq!(served(chip), [0x0800, other, 0xFFFF], "{chip}");
+            assert_eq!(autosensed(chip), [0x0800, other, 0xFFFF], "{chip}");
         }
+    }
+
+    /// "the newest choice is an entry that it lists, or there is none": fixed cards are accepted,
+    /// and at each level below the newest that removes entries there are those whose choice it
+    /// lists, whose choice it does not list, with another to select and without, and those without
+    /// a choice.
+    #[test]
+    fn fixed_cards() {
+        let mut random = Random::new(3);
+        let mut met = [[0; 4]; 5];
+        for _ in 0..5_000 {
+            let sample = fixed(&mut random);
+            let image = sample.card.image();
+            let choice = |level| {
+                let mut walk = Autosense::default();
+                let arguments = Arguments {
+                    level,
+                    ..sample.arguments
+                };
+                assert_eq!(walk.load(&image, arguments), 0, "{sample:02x?}");
+                let walk = walk.walk();
+                assert_eq!(Way::of(walk.connection), Way::Fixed);
+                walk.fixed_choice()
+            };
+            let newest = choice(NEWEST_LEVEL);
+            for (level, met) in met.iter_mut().enumerate() {
+                let older = choice(level as u8);
+                met[match (newest, older) {
+                    (None, _) => 0,
+                    _ if newest == older => 1,
+                    (_, None) => 2,
+                    _ => 3,
+                }] += 1;
+            }
+        }
+        for (level, met) in met.into_iter().enumerate() {
+            assert!(
+                met[..3].iter().all(|&often| often > 100),
+                "{level}: {met:?}"
+            );
+        }
+        // A compact block and type 0 alone have media in common.
+        assert!(met[0][3] > 20, "{met:?}");
     }
 
     /// "command bit 15 is Active_Invalid, 14 Default": marked cards hold media with either and
@@ -303,7 +409,7 @@ mod tests {
         let mut top_bits = [0; 4];
         for _ in 0..5_000 {
             let mut sample = Sample::valid(&mut random);
-            serve(&mut random, &mut sample.card);
+            connect(&mut random, &mut sample.card);
             mark(&mut random, &mut sample.card);
             let number = Autosense::default().load(&sample.card.image(), sample.arguments);
             assert_eq!(number, 0, "{sample:02x?}");

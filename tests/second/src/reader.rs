@@ -42,6 +42,9 @@ pub const EXTENDED: u8 = 0x80;
 /// The bit of a code byte that says that six more bytes follow.
 pub const EXT: u8 = 0x40;
 
+/// The bits of a code byte that are the media code.
+pub(crate) const MEDIA_CODE: u8 = 0x3F;
+
 /// The two top bits of a command word, of which only the lower is set in a default.
 pub const ACTIVE_INVALID: u16 = 0x8000;
 pub const DEFAULT: u16 = 0x4000;
@@ -180,7 +183,6 @@ pub(crate) enum Refusal {
     Report = 19,
     FreshWalk = 20,
     LoadedWalk = 21,
-    FixedConnection = 22,
     LooksSpent = 23,
     SheetLengthOrSum = 24,
     KindOrBody = 25,
@@ -189,6 +191,7 @@ pub(crate) enum Refusal {
     MagicCrc = 29,
     MagicReserved = 30,
     RepeatedMode = 31,
+    NoFixedMedium = 32,
 }
 
 impl Refusal {
@@ -217,6 +220,10 @@ pub(crate) struct Block {
     pub size: usize,
     /// None where the level does not know the type.
     pub kind: Option<u16>,
+    /// The media code of a known block that has one; a PHY block has none.
+    pub code: Option<u8>,
+    /// The capabilities of a known PHY block, and 0 in all others.
+    pub capabilities: u16,
     pub is_default: bool,
     pub is_active_invalid: bool,
     pub resets_phy: bool,
@@ -434,6 +441,8 @@ fn block(image: &[u8], start: usize, arguments: Arguments) -> Result<Block, Refu
         start,
         size: bytes.len(),
         kind: Some(kind),
+        code: None,
+        capabilities: 0,
         is_default: false,
         is_active_invalid: false,
         resets_phy: false,
@@ -454,6 +463,7 @@ fn block(image: &[u8], start: usize, arguments: Arguments) -> Result<Block, Refu
                 !is_code(code, kind) || has_reserved_bits(command, kind),
                 Refusal::CodeOrReservedBits,
             )?;
+            block.code = Some(code & MEDIA_CODE);
             block.is_default = is_default(code, command);
             block.is_active_invalid = command & ACTIVE_INVALID != 0;
         }
@@ -466,6 +476,7 @@ fn block(image: &[u8], start: usize, arguments: Arguments) -> Result<Block, Refu
                 advertises_too_much(capabilities, advertisement),
                 Refusal::Advertisement,
             )?;
+            block.capabilities = capabilities;
             block.resets_phy = reset_length > 0;
         }
         Fields::Reset => {}

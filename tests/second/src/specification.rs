@@ -30,13 +30,28 @@ pub fn arguments(line: &str) -> Vec<&str> {
     let mut rest = line.trim();
     while !rest.is_empty() {
         let (word, behind) = match rest.strip_prefix('(') {
-            Some(inner) => inner.split_once(')').unwrap(),
+            Some(inner) => closed(inner),
             None => rest.split_once(' ').unwrap_or((rest, "")),
         };
         found.push(word);
         rest = behind.trim_start();
     }
     found
+}
+
+/// What stands before the parenthesis that closes an open one, and what stands behind it.
+fn closed(inner: &str) -> (&str, &str) {
+    let mut open = 1;
+    let end = inner.find(|letter| {
+        match letter {
+            '(' => open += 1,
+            ')' => open -= 1,
+            _ => {}
+        }
+        open == 0
+    });
+    let end = end.expect("the parenthesis is closed");
+    (&inner[..end], &inner[end + 1..])
 }
 
 /// A number, in decimal or hexadecimal, or `none`.
@@ -50,23 +65,28 @@ pub fn number(word: &str) -> usize {
     }
 }
 
-/// The bytes of a list: numbers with `∷` between them, `replicate n x` and `++`.
+/// The bytes of a list: numbers with `∷` between them, `replicate n x` and `++`; `n / 256` and `n % 256` are the bytes of a
+/// word.
 pub fn bytes(list: &str) -> Vec<u8> {
     let mut bytes = Vec::new();
     let words = list.replace(['(', ')', ';'], " ");
     let mut words = words.split_whitespace();
     while let Some(word) = words.next() {
+        let mut next = || number(words.next().unwrap());
         match word {
             "∷" | "[]" | "++" => {}
             "replicate" => {
-                let count = number(words.next().unwrap());
-                let value = number(words.next().unwrap());
-                bytes.extend(vec![value as u8; count]);
+                let count = next();
+                let value = next();
+                bytes.extend(vec![value; count]);
             }
-            _ => bytes.push(number(word).try_into().unwrap()),
+            "/" => *bytes.last_mut().unwrap() /= next(),
+            "%" => *bytes.last_mut().unwrap() %= next(),
+            _ => bytes.push(number(word)),
         }
     }
-    bytes
+    let byte = |number: usize| number.try_into().unwrap();
+    bytes.into_iter().map(byte).collect()
 }
 
 /// A list, with each of these names in it, and the arguments behind it, replaced by what the text defines under it in one

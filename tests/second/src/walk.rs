@@ -1,5 +1,5 @@
 //! The autosense walk (document 01, "The walk"; document 02, request 4, for the empty connection
-//! word), which keeps the table as a list of entries.
+//! word, and request 5, for fixed connections), which keeps the table as a list of entries.
 
 pub mod fast;
 
@@ -11,7 +11,7 @@ pub const NONE: u8 = 255;
 /// The length of a walk's rows: a flag for each block that a leaf can hold, and more.
 pub const ROW_LENGTH: usize = 128;
 
-/// The connection types that looks serve. The last says that nothing was selected.
+/// The connection types that are autosensed. The last says that nothing was selected.
 pub const AUTOSENSE: u16 = 0x0800;
 pub const AUTOSENSE_NWAY: u16 = 0x0900;
 pub const AUTOSENSE_ONCE: u16 = 0x8800;
@@ -24,7 +24,7 @@ pub enum Way {
     EveryLook,
     /// Autosensed once: a settled walk stays on its block.
     Once,
-    /// Not autosensed, so that every look is refused.
+    /// Set to one medium: every look selects the first block for it.
     Fixed,
 }
 
@@ -40,6 +40,46 @@ impl Way {
     }
 }
 
+/// What a block has that a fixed connection type is set to.
+#[derive(Debug, Clone, Copy, PartialEq, Eq)]
+pub(crate) enum Medium {
+    /// This media code.
+    Code(u8),
+    /// This bit of a PHY block's capabilities.
+    Capability(u8),
+}
+
+impl Medium {
+    /// "by the low byte's media code below 9, else a PHY block with the capability bit of the MII
+    /// name" (document 02, request 5). None under a type that is not fixed, and where no block has
+    /// the medium: "0x0010 and 0x0211 always get" 32.
+    pub(crate) fn of(connection: u16) -> Option<Self> {
+        let [low_byte, _] = connection.to_le_bytes();
+        match connection {
+            _ if Way::of(connection) != Way::Fixed => None,
+            _ if low_byte < 9 => Some(Self::Code(low_byte)),
+            0x0009 => Some(Self::Capability(11)),
+            0x020A => Some(Self::Capability(12)),
+            0x000D => Some(Self::Capability(13)),
+            0x020E => Some(Self::Capability(14)),
+            0x000F => Some(Self::Capability(15)),
+            _ => None,
+        }
+    }
+
+    fn is_of(self, block: &Block) -> bool {
+        match self {
+            Self::Code(code) => block.code == Some(code),
+            Self::Capability(bit) => block.capabilities >> bit & 1 == 1,
+        }
+    }
+}
+
+/// Whether a block has the medium that a fixed connection type is set to.
+pub(crate) fn has_fixed_medium(block: &Block, connection: u16) -> bool {
+    Medium::of(connection).is_some_and(|medium| medium.is_of(block))
+}
+
 /// A row of flags for each property, by block number. The library's C interface has the same layout.
 #[repr(C)]
 #[derive(Debug, Clone, Copy, PartialEq, Eq)]
@@ -47,12 +87,15 @@ pub struct Rows {
     pub listed: [u8; ROW_LENGTH],
     /// 1 for the listed blocks with Active_Invalid only.
     pub active_invalid: [u8; ROW_LENGTH],
+    /// 1 for the listed blocks with the fixed medium only.
+    pub fixed: [u8; ROW_LENGTH],
 }
 
 impl Rows {
     pub const EMPTY: Self = Self {
         listed: [0; ROW_LENGTH],
         active_invalid: [0; ROW_LENGTH],
+        fixed: [0; ROW_LENGTH],
     };
 }
 
@@ -83,6 +126,13 @@ impl Walk {
         looks: 0,
         switches: 0,
     };
+
+    /// The block that looks select under a fixed connection type: "the first listed block for it"
+    /// (document 02, request 5), by table order the highest; none where no block has the medium.
+    pub fn fixed_choice(&self) -> Option<usize> {
+        let has_medium = |block: &usize| self.rows.fixed.get(*block) == Some(&1);
+        (0..self.blocks.into()).rev().find(has_medium)
+    }
 }
 
 /// What a call hands back: number 0 and the walk after it, or the refusal's number and the walk as
@@ -120,6 +170,7 @@ pub struct Loaded {
 struct Entry {
     block: usize,
     is_active_invalid: bool,
+    has_fixed_medium: bool,
 }
 
 impl Autosense {
@@ -167,6 +218,7 @@ impl Autosense {
             rows: Rows {
                 listed: row(|_| true),
                 active_invalid: row(|entry| entry.is_active_invalid),
+                fixed: row(|entry| entry.has_fixed_medium),
             },
             default_number: number(loaded.default),
             settled: loaded.settled,
@@ -184,6 +236,7 @@ impl Autosense {
         let entry = |(number, block): (usize, &Block)| Entry {
             block: number,
             is_active_invalid: block.is_active_invalid,
+            has_fixed_medium: has_fixed_medium(block, header.connection),
         };
         *self = Self::Loaded(Loaded {
             connection: header.connection,
@@ -202,22 +255,31 @@ impl Autosense {
         let Self::Loaded(loaded) = self else {
             return Err(Refusal::FreshWalk);
         };
-        let is_fixed = Way::of(loaded.connection) == Way::Fixed;
-        refuse_if(is_fixed, Refusal::FixedConnection)?;
+        let fixed = loaded.fixed_choice()?;
         refuse_if(loaded.looks == u16::MAX, Refusal::LooksSpent)?;
         let report = report.get(..loaded.blocks).ok_or(Refusal::Report)?;
         refuse_if(report.iter().any(|&byte| byte > 1), Refusal::Report)?;
-        loaded.step(report);
+        loaded.step(fixed, report);
         Ok(())
     }
 }
 
 impl Loaded {
-    /// The three steps of a look.
-    fn step(&mut self, report: &[u8]) {
+    /// The block that every look selects under a fixed type; none under every other type.
+    fn fixed_choice(&self) -> Result<Option<usize>, Refusal> {
+        if Way::of(self.connection) != Way::Fixed {
+            return Ok(None);
+        }
+        let mut choices = self.table.iter().filter(|entry| entry.has_fixed_medium);
+        let first = choices.next().ok_or(Refusal::NoFixedMedium)?;
+        Ok(Some(first.block))
+    }
+
+    /// The three steps of a look. A fixed type's block is selected whatever steps 1 and 2 say.
+    fn step(&mut self, fixed: Option<usize>, report: &[u8]) {
         let before = self.selected;
-        if !self.stays(report) {
-            match self.candidate(report) {
+        if fixed.is_some() || !self.stays(report) {
+            match fixed.or_else(|| self.candidate(report)) {
                 Some(block) => {
                     self.selected = Some(block);
                     self.settled = true;

@@ -1,17 +1,17 @@
-//! What crates/worked, crates/magic and crates/leaf compute with is the second implementation's: each
-//! sheet of specs/Sheets.antt is written to its image, and made of it again; each Magic Packet block
-//! of specs/Cases.antt is read as it says, boards before one are refused as they say, case k is walked
-//! as it says, the blocks of leaves start where they say, and leaves with power blocks are read as
-//! they say.
+//! What crates/worked, crates/magic and crates/leaf compute with is the second implementation's:
+//! each sheet of specs/Sheets.antt is written to its image, and made of it again; each Magic Packet
+//! block of specs/Cases.antt is read as it says, boards before one are refused as they say, case k
+//! and cards under fixed types are walked as they say, the blocks of leaves start where they say,
+//! and leaves with power blocks are read as they say.
 
 use second::cases::{REPORTS_K, card_b, cases};
 use second::crc::{IMAGE_LENGTH, lay_crcs, lay_srom_crc};
-use second::images::{Card, MagicBlock, TIDY_LEAF};
+use second::images::{Card, Image, MagicBlock, TIDY_LEAF};
 use second::layout::{LAYOUTS, Layout, MAGIC_OFFSET};
 use second::magic::read_magic;
 use second::reader::{Arguments, read_all, starts};
 use second::sheet;
-use second::specification::{self, bytes, number, opened, text};
+use second::specification::{self, arguments, bytes, number, opened, text};
 use second::walk::{Autosense, NONE};
 
 /// The names of crates/magic/specs/Cases.antt that lists use, each before those that it is made of.
@@ -130,25 +130,71 @@ fn case_k_is_walked_as_second_walks_it() {
             let arguments = Arguments::at_level(21143, 6).laid_out(layout);
             let mut walk = Autosense::default();
             assert_eq!(walk.load(&card.image(), arguments), 0);
-            let mut seen = vec![stands(&walk)];
+            let mut seen = vec![stands(0, &walk)];
             for report in REPORTS_K {
-                assert_eq!(walk.look(&report), 0);
-                seen.push(stands(&walk));
+                let number = walk.look(&report);
+                seen.push(stands(number, &walk));
             }
             assert_eq!(seen.join(" ∷ ") + " ∷ []", words[2], "{words:?}");
         }
     }
 }
 
-/// Where a walk stands after an accepted call, as the list of case k has it.
-fn stands(walk: &Autosense) -> String {
+/// Where a walk stands after a call that answered a number, as the lists have it.
+fn stands(number: u8, walk: &Autosense) -> String {
     let walk = walk.walk();
     let selected = match walk.selected {
         NONE => "none".to_string(),
         block => block.to_string(),
     };
     let (settled, looks, switches) = (walk.settled, walk.looks, walk.switches);
-    format!("then {settled} {selected} {looks} {switches}")
+    let call = match number {
+        0 => "then".to_string(),
+        number => format!("refusedThen {number}"),
+    };
+    format!("{call} {settled} {selected} {looks} {switches}")
+}
+
+#[test]
+fn cards_under_fixed_types_are_walked_as_second_walks_them() {
+    let text = text("worked/specs/Cases.antt");
+    let (_, list) = text.split_once("\nfixedImageCases =\n").unwrap();
+    let (list, _) = list.split_once("\n\n").unwrap();
+    let cases: Vec<_> = list.split("underFixed").skip(1).collect();
+    assert!(cases.len() >= 4, "only {} cards", cases.len());
+    for case in cases {
+        let case = case.split_whitespace().collect::<Vec<_>>().join(" ");
+        let [reading, calls, seen] = arguments(&case)[..3] else {
+            panic!("{case}");
+        };
+        let reading = arguments(reading);
+        let (chip, level) = (number(reading[1]) as u16, number(reading[2]) as u8);
+        let leaf = bytes(&opened(reading[3], &text, &["leafTwice"]));
+        let (image, reader) = (with_leaf(chip, &leaf), Arguments::at_level(chip, level));
+        let (answer, entries) = read_all(&image, reader);
+        let counts = [answer.listed, answer.resets, answer.skipped].map(|it| it.to_string());
+        assert_eq!(counts, reading[4..7], "{case}");
+        assert_eq!(tables(&entries), reading[7..], "{case}");
+        let mut walk = Autosense::default();
+        assert_eq!(walk.load(&image, reader), 0);
+        let mut found = Vec::new();
+        let mut words = arguments(calls).into_iter();
+        while let Some(word) = words.next() {
+            if word == "look" {
+                let number = walk.look(&bytes(words.next().unwrap()));
+                found.push(stands(number, &walk));
+            }
+        }
+        assert_eq!(found.join(" ∷ ") + " ∷ []", seen, "{case}");
+    }
+}
+
+/// A card for the chip, with these bytes as its leaf.
+fn with_leaf(chip: u16, leaf: &[u8]) -> Image {
+    let mut image = Card::tidy(chip, 0x0800, vec![]).image();
+    image[TIDY_LEAF..][..leaf.len()].copy_from_slice(leaf);
+    lay_crcs(&mut image, Layout::PLAIN);
+    image
 }
 
 #[test]
@@ -181,21 +227,14 @@ fn leaves_with_power_blocks_are_read_as_second_reads_them() {
     for (made_by, words) in cases {
         let (chip, level) = (number(words[0]) as u16, number(words[1]) as u8);
         let leaf = bytes(&opened(words[2], &text, &LEAVES));
-        let mut image = Card::tidy(chip, 0x0800, vec![]).image();
-        image[TIDY_LEAF..][..leaf.len()].copy_from_slice(&leaf);
-        lay_crcs(&mut image, Layout::PLAIN);
+        let image = with_leaf(chip, &leaf);
         let (answer, entries) = read_all(&image, Arguments::at_level(chip, level));
         let found = match answer.number {
             0 => {
                 let counts = [answer.listed, answer.resets, answer.skipped, answer.power];
-                let list = |of: fn(&(u16, u16)) -> u16| {
-                    let elements = entries.iter().map(|entry| format!("{} ∷ ", of(entry)));
-                    elements.collect::<String>() + "[]"
-                };
-                let tables = [list(|entry| entry.0), list(|entry| entry.1)];
                 [
                     counts.map(|count| count.to_string()).to_vec(),
-                    tables.to_vec(),
+                    tables(&entries).to_vec(),
                 ]
                 .concat()
             }
@@ -208,4 +247,13 @@ fn leaves_with_power_blocks_are_read_as_second_reads_them() {
         }
         assert_eq!(found, expected, "{made_by} {words:?}");
     }
+}
+
+/// Kinds and offsets, as two lists.
+fn tables(entries: &[(u16, u16)]) -> [String; 2] {
+    let list = |of: fn(&(u16, u16)) -> u16| {
+        let elements = entries.iter().map(|entry| format!("{} ∷ ", of(entry)));
+        elements.collect::<String>() + "[]"
+    };
+    [list(|entry| entry.0), list(|entry| entry.1)]
 }

@@ -1,47 +1,41 @@
--- Each return is one case of the choice, as the tests found it. Assumes nothing.
-use borrow.Author.Tests.{eq-eqb, ne-eqb}
+-- By the way to walk: the block with the fixed medium, or what is sensed. Assumes nothing.
 use Rattle.rom.specs.Bytes.{pick}
-use Rattle.walk.specs.Walk.{chosen, upIn}
+use Rattle.walk.specs.Walk.{chosen}
 use borrow.Author.Needs.{needs}
 use Rattle.autosense.proofs.choose.Statement.{statement}
 use Rattle.autosense.proofs.choose.Tie as tie
 
-stays-there-requires : tie.Need-stays-there-requires
-stays-there-requires c κs = search needs
+way-of-requires : tie.Need-way-of-requires
+way-of-requires c κs = search needs
+
+is-fixed-requires : tie.Need-is-fixed-requires
+is-fixed-requires c κs = search needs
+
+fixed-block-requires : tie.Need-fixed-block-requires
+fixed-block-requires c κs = search needs
 
 returns : tie.Need-returns
 unfolding chosen pick
-returns c = simp (← c .before .stays-there .ensures, c .if1 .taken)
+returns c =
+    simp (
+      ← c .before .before .before .way-of .ensures,
+      ← c .before .before .is-fixed .ensures,
+      c .before .if1 .taken,
+      c .fixed-block .ensures,
+    )
 
-slice-aggregate-first-up : tie.Need-slice-aggregate-first-up
-slice-aggregate-first-up c = search needs
-
-slice-aggregate-first-up-2 : tie.Need-slice-aggregate-first-up-2
-slice-aggregate-first-up-2 c = search needs
-
-first-up-requires : tie.Need-first-up-requires
-first-up-requires c κs = search needs
+sense-requires : tie.Need-sense-requires
+sense-requires c κs = search needs
 
 returns-2 : tie.Need-returns-2
-unfolding chosen upIn pick
+unfolding chosen pick
 returns-2 c =
-    let moves = c .before .before .before .before .before .before .before in
-    simp (← moves .before .stays-there .ensures, moves .if1 .left, ← c .before .first-up .ensures, eq-eqb _ _ (c .if2 .taken))
-
-returns-3 : tie.Need-returns-3
-unfolding chosen upIn pick
-returns-3 c =
-    let moves = c .before .before .before .before .before .before .before in
-    simp (← moves .before .stays-there .ensures, moves .if1 .left, ← c .before .first-up .ensures, ne-eqb _ _ (c .if2 .left))
+    simp (
+      ← c .before .before .before .way-of .ensures,
+      ← c .before .before .is-fixed .ensures,
+      c .before .if1 .left,
+      c .sense .ensures,
+    )
 
 pub choose-spec : {M : Type 1} → statement M
-choose-spec =
-    tie.close
-    (tie.spec
-    stays-there-requires
-    returns
-    slice-aggregate-first-up
-    slice-aggregate-first-up-2
-    first-up-requires
-    returns-2
-    returns-3)
+choose-spec = tie.close (tie.spec way-of-requires is-fixed-requires fixed-block-requires returns sense-requires returns-2)

@@ -1,8 +1,8 @@
 -- The causes in their order, each as its test found it. Assumes nothing.
-use mathlib.Core.Path.{ap, sym, _∙_}
+use mathlib.Core.Path.{sym, _∙_}
 use borrow.Author.Tests.{eq-eqb, ne-eqb}
 use Rattle.rom.proofs.Reached.{reached, stop, skip, end}
-use Rattle.walk.specs.Walk.{isFixed, lookCauses}
+use Rattle.walk.specs.Walk.{lookCauses}
 use borrow.Author.Needs.{needs}
 use Rattle.autosense.proofs.look_refusal.Statement.{statement}
 use Rattle.autosense.proofs.look_refusal.Tie as tie
@@ -11,29 +11,20 @@ returns : tie.Need-returns
 unfolding lookCauses
 returns c = reached (stop (c .if1 .taken))
 
-way-of-requires : tie.Need-way-of-requires
-way-of-requires c κs = search needs
-
-is-fixed-requires : tie.Need-is-fixed-requires
-is-fixed-requires c κs = search needs
+lacks-medium-requires : tie.Need-lacks-medium-requires
+lacks-medium-requires c κs = search needs
 
 returns-2 : tie.Need-returns-2
 unfolding lookCauses
-returns-2 c =
-    let way = c .before .before in
-    reached
-    (skip (way .before .if1 .left)
-    (stop (ap isFixed (sym (way .way-of .ensures)) ∙ sym (c .before .is-fixed .ensures) ∙ c .if2 .taken)))
+returns-2 c = reached (skip (c .before .before .if1 .left) (stop (sym (c .before .lacks-medium .ensures) ∙ c .if2 .taken)))
 
 returns-3 : tie.Need-returns-3
 unfolding lookCauses
 returns-3 c =
-    let autosensed = c .before .before in
-    let way = autosensed .before .before in
+    let medium = c .before .before in
     reached
-    (skip (way .before .if1 .left)
-    (skip (ap isFixed (sym (way .way-of .ensures)) ∙ sym (autosensed .before .is-fixed .ensures) ∙ autosensed .if2 .left)
-    (stop (eq-eqb _ _ (c .if3 .taken)))))
+    (skip (medium .before .before .if1 .left)
+    (skip (sym (medium .before .lacks-medium .ensures) ∙ medium .if2 .left) (stop (eq-eqb _ _ (c .if3 .taken)))))
 
 bad-report-requires : tie.Need-bad-report-requires
 bad-report-requires c κs = search needs
@@ -41,32 +32,21 @@ bad-report-requires c κs = search needs
 returns-4 : tie.Need-returns-4
 unfolding lookCauses
 returns-4 c =
-    let autosensed = c .before .before .before .before in
-    let way = autosensed .before .before in
+    let medium = c .before .before .before .before in
     reached
-    (skip (way .before .if1 .left)
-    (skip (ap isFixed (sym (way .way-of .ensures)) ∙ sym (autosensed .before .is-fixed .ensures) ∙ autosensed .if2 .left)
+    (skip (medium .before .before .if1 .left)
+    (skip (sym (medium .before .lacks-medium .ensures) ∙ medium .if2 .left)
     (skip (ne-eqb _ _ (c .before .before .if3 .left)) (stop (sym (c .before .bad-report .ensures) ∙ c .if4 .taken)))))
 
 returns-5 : tie.Need-returns-5
 unfolding lookCauses
 returns-5 c =
-    let autosensed = c .before .before .before .before in
-    let way = autosensed .before .before in
+    let medium = c .before .before .before .before in
     reached
-    (skip (way .before .if1 .left)
-    (skip (ap isFixed (sym (way .way-of .ensures)) ∙ sym (autosensed .before .is-fixed .ensures) ∙ autosensed .if2 .left)
+    (skip (medium .before .before .if1 .left)
+    (skip (sym (medium .before .lacks-medium .ensures) ∙ medium .if2 .left)
     (skip (ne-eqb _ _ (c .before .before .if3 .left)) (skip (sym (c .before .bad-report .ensures) ∙ c .if4 .left) end))))
 
 pub look-refusal-spec : {M : Type 1} → statement M
 look-refusal-spec =
-    tie.close
-    (tie.spec
-    returns
-    way-of-requires
-    is-fixed-requires
-    returns-2
-    returns-3
-    bad-report-requires
-    returns-4
-    returns-5)
+    tie.close (tie.spec returns lacks-medium-requires returns-2 returns-3 bad-report-requires returns-4 returns-5)

@@ -11,11 +11,11 @@ use Rattle.autosense.proofs.rows_of.Statement.{statement}
 use Rattle.autosense.proofs.rows_of.Tie as tie
 
 abbrev Inv-loop : tie.InvT-loop
-Inv-loop blocks count row level listed₀ active-invalid₀ rest₀ k₀ listed active-invalid rest k =
-    Filled row level (cut row count blocks) (cut row (count - k) rest) k listed active-invalid × (k ≤ count)
+Inv-loop blocks count row level connection listed₀ active-invalid₀ fixed₀ rest₀ k₀ listed active-invalid fixed rest k =
+    Filled connection row level (cut row count blocks) (cut row (count - k) rest) k listed active-invalid fixed × (k ≤ count)
 
 abbrev μ-loop : tie.MeasureT-loop
-μ-loop blocks count row level listed₀ active-invalid₀ rest₀ k₀ listed active-invalid rest k = count - k
+μ-loop blocks count row level connection listed₀ active-invalid₀ fixed₀ rest₀ k₀ listed active-invalid fixed rest k = count - k
 
 no-flags-requires : tie.Need-no-flags-requires Inv-loop μ-loop
 no-flags-requires c κs = search needs
@@ -23,8 +23,15 @@ no-flags-requires c κs = search needs
 no-flags-requires-2 : tie.Need-no-flags-requires-2 Inv-loop μ-loop
 no-flags-requires-2 c κs = search needs
 
+no-flags-requires-3 : tie.Need-no-flags-requires-3 Inv-loop μ-loop
+no-flags-requires-3 c κs = search needs
+
 loop-holds : tie.Need-loop-holds Inv-loop μ-loop
-loop-holds c = (rows-start _ _ _ _ (c .before .before .before .pre .0) (c .before .no-flags .ensures) (c .no-flags2 .ensures), search needs)
+loop-holds c = (
+  rows-start _ _ _ _ _ (c .before .before .before .before .pre .0) (c .before .before .no-flags .ensures)
+      (c .before .no-flags2 .ensures) (c .no-flags3 .ensures),
+  search needs,
+)
 
 judge-block-requires : tie.Need-judge-block-requires Inv-loop μ-loop
 judge-block-requires c κs = search needs
@@ -44,18 +51,26 @@ invalid-flag-requires c κs = search needs
 array-write-active-invalid : tie.Need-array-write-active-invalid Inv-loop μ-loop
 array-write-active-invalid c = omega arith
 
+fixed-flag-requires : tie.Need-fixed-flag-requires Inv-loop μ-loop
+fixed-flag-requires c κs = search needs
+
+array-write-fixed : tie.Need-array-write-fixed Inv-loop μ-loop
+array-write-fixed c = omega arith
+
 size-of-requires : tie.Need-size-of-requires Inv-loop μ-loop
 size-of-requires c κs = search needs
 
 sub-rest : tie.Need-sub-rest Inv-loop μ-loop
 sub-rest c =
-    next-fits _ _ _ _ (c .before .before .before .before .before .loop .inv .0 .accepted)
-    (c .before .before .before .before .loop-test .taken) (c .before .before .before .judge-block .ensures) (c .size-of .ensures)
+    next-fits _ _ _ _ (c .before .before .before .before .before .before .loop .inv .0 .accepted)
+    (c .before .before .before .before .before .loop-test .taken) (c .before .before .before .before .judge-block .ensures)
+    (c .size-of .ensures)
 
 part-rest-start : tie.Need-part-rest-start Inv-loop μ-loop
 part-rest-start c =
-    next-fits _ _ _ _ (c .before .before .before .before .before .loop .inv .0 .accepted)
-    (c .before .before .before .before .loop-test .taken) (c .before .before .before .judge-block .ensures) (c .size-of .ensures)
+    next-fits _ _ _ _ (c .before .before .before .before .before .before .loop .inv .0 .accepted)
+    (c .before .before .before .before .before .loop-test .taken) (c .before .before .before .before .judge-block .ensures)
+    (c .size-of .ensures)
 
 part-rest-end : tie.Need-part-rest-end Inv-loop μ-loop
 part-rest-end c = le-refl _
@@ -67,17 +82,19 @@ loop-less : tie.Need-loop-less Inv-loop μ-loop
 loop-less c = search needs
 
 loop-again : tie.Need-loop-again Inv-loop μ-loop
-loop-again c = (
-  rows-more _ _ _ _ (c .before .before .before .before .before .before .loop .inv .0)
-      (c .before .before .before .before .before .loop-test .taken) (c .before .before .before .before .judge-block .ensures)
-      (c .before .before .before .listed-flag .ensures) (c .before .before .invalid-flag .ensures) (c .before .size-of .ensures),
-  search needs,
-)
+loop-again c =
+    let flags = c .before .before in
+    let block = flags .before .before .before in (
+      rows-more _ _ _ _ _ (block .before .before .loop .inv .0) (block .before .loop-test .taken) (block .judge-block .ensures)
+          (flags .before .before .listed-flag .ensures) (flags .before .invalid-flag .ensures)
+          (flags .fixed-flag .ensures) (c .before .size-of .ensures),
+      search needs,
+    )
 
 returns : tie.Need-returns Inv-loop μ-loop
 returns c =
-    rows-done _ _ _ _ (c .before .loop .inv .0) (c .before .before .before .before .before .args .blocks .now) refl
-    (c .before .before .before .before .before .pre .1) (c .loop-test .left)
+    let entry = c .before .before .before .before .before .before in
+    rows-done _ _ _ _ _ (c .before .loop .inv .0) (entry .args .blocks .now) refl (entry .pre .1) (c .loop-test .left)
 
 pub rows-of-spec : {M : Type 1} → statement M
 rows-of-spec =
@@ -87,6 +104,7 @@ rows-of-spec =
     μ-loop
     no-flags-requires
     no-flags-requires-2
+    no-flags-requires-3
     loop-holds
     judge-block-requires
     cast-i
@@ -94,6 +112,8 @@ rows-of-spec =
     array-write-listed
     invalid-flag-requires
     array-write-active-invalid
+    fixed-flag-requires
+    array-write-fixed
     size-of-requires
     sub-rest
     part-rest-start

@@ -84,7 +84,7 @@ returns-3 : tie.Need-returns-3
 unfolding phy
 returns-3 c =
     phy-listed _ _ (c .before .before .before .before .before .before .count-at .ensures .0)
-    (c .before .before .before .before .before .count-at2 .ensures .0) _ _ ∙
+    (c .before .before .before .before .before .count-at2 .ensures .0) _ _ (c .before .before .before .word-at .ensures) ∙
     fine _ _
     (counts-right _ _ (c .before .before .before .before .before .before .count-at .ensures .0)
     (c .before .before .before .before .before .count-at2 .ensures .0) _

@@ -16,8 +16,8 @@ returns : tie.Need-returns
 unfolding port badPlainCode
 returns c = bad-code _ _ refl (rw (← (c .before .byte-at .ensures)) (or-left _ (or-left _ (le-leb _ _ (c .if1 .taken)))))
 
-cast-media-code : tie.Need-cast-media-code
-cast-media-code c = search needs
+cast-is-in : tie.Need-cast-is-in
+cast-is-in c = search needs
 
 slice-aggregate-is-in : tie.Need-slice-aggregate-is-in
 slice-aggregate-is-in c = search needs
@@ -51,6 +51,9 @@ returns-3 c =
 has-bit-requires : tie.Need-has-bit-requires
 has-bit-requires c κs = search needs
 
+cast-counts-as-default : tie.Need-cast-counts-as-default
+cast-counts-as-default c = search needs
+
 counts-as-default-requires : tie.Need-counts-as-default-requires
 counts-as-default-requires c κs = search needs
 
@@ -76,7 +79,7 @@ judge-port-spec =
     (tie.spec
     byte-at-requires
     returns
-    cast-media-code
+    cast-is-in
     slice-aggregate-is-in
     is-in-requires
     returns-2
@@ -84,5 +87,6 @@ judge-port-spec =
     word-at-requires
     returns-3
     has-bit-requires
+    cast-counts-as-default
     counts-as-default-requires
     returns-4)

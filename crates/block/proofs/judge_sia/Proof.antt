@@ -35,9 +35,10 @@ returns-2 c =
 returns-3 : tie.Need-returns-3
 unfolding sia badSiaCode siaCodes
 returns-3 c =
-    fine _ _ refl
+    rw (c .before .before .before .before .byte-at .ensures)
+    (fine _ _ refl
     (rw (← (c .before .before .before .before .byte-at .ensures))
-    (or-none (lt-leb _ _ (c .before .before .before .if1 .left)) (ap not (sym (c .before .is-in .ensures)) ∙ c .if2 .left))) refl
+    (or-none (lt-leb _ _ (c .before .before .before .if1 .left)) (ap not (sym (c .before .is-in .ensures)) ∙ c .if2 .left))) refl)
 
 pub judge-sia-spec : {M : Type 1} → statement M
 judge-sia-spec =

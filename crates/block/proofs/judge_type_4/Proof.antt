@@ -23,8 +23,8 @@ returns-2 c =
     bad-code _ _ (is-right 4 _ (c .before .before .before .before .pre .0) (c .before .before .if1 .left))
     (rw (← (c .before .byte-at .ensures)) (or-left _ (le-leb _ _ (c .if2 .taken))))
 
-cast-media-code : tie.Need-cast-media-code
-cast-media-code c = search needs
+cast-is-in : tie.Need-cast-is-in
+cast-is-in c = search needs
 
 slice-aggregate-is-in : tie.Need-slice-aggregate-is-in
 slice-aggregate-is-in c = search needs
@@ -46,6 +46,9 @@ word-at-requires c κs = search needs
 
 has-bit-requires : tie.Need-has-bit-requires
 has-bit-requires c κs = search needs
+
+cast-counts-as-default : tie.Need-cast-counts-as-default
+cast-counts-as-default c = search needs
 
 counts-as-default-requires : tie.Need-counts-as-default-requires
 counts-as-default-requires c κs = search needs
@@ -76,12 +79,13 @@ judge-type-4-spec =
     returns
     byte-at-requires
     returns-2
-    cast-media-code
+    cast-is-in
     slice-aggregate-is-in
     is-in-requires
     returns-3
     word-at-requires
     has-bit-requires
+    cast-counts-as-default
     counts-as-default-requires
     add-t15
     returns-4)

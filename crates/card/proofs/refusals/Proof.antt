@@ -8,10 +8,13 @@ abbrev Inv-loop : tie.InvT-loop
 Inv-loop number₀ number = Unit
 
 abbrev μ-loop : tie.MeasureT-loop
-μ-loop number₀ number = 32 - number
+μ-loop number₀ number = 33 - number
 
 loop-holds : tie.Need-loop-holds Inv-loop μ-loop
 loop-holds c = search needs
+
+is-answered-requires : tie.Need-is-answered-requires Inv-loop μ-loop
+is-answered-requires c κs = search needs
 
 show-number-requires : tie.Need-show-number-requires Inv-loop μ-loop
 show-number-requires c κs = search needs
@@ -35,6 +38,7 @@ refusals-spec =
     Inv-loop
     μ-loop
     loop-holds
+    is-answered-requires
     show-number-requires
     add-number
     loop-less

@@ -43,7 +43,7 @@ fn main() -> io::Result<()> {
 }
 
 /// Case k of document 01, lists on the cases before it and on the longest leaf, each field damaged,
-/// cards with power blocks, and valid cards at all levels, most of which looks serve.
+/// cards with power blocks, and valid cards at all levels, autosensed and fixed ones.
 fn records() -> Vec<Record> {
     let mut random = Random::new(1);
     let mut records = case_k();
@@ -63,7 +63,7 @@ fn records() -> Vec<Record> {
     }
     for _ in 0..POWERED_COUNT {
         let mut sample = Sample::powered(&mut random);
-        calls::serve(&mut random, &mut sample.card);
+        calls::autosense(&mut random, &mut sample.card);
         samples.push(sample);
     }
     while records.len() + samples.len() < RECORD_COUNT {
@@ -155,7 +155,8 @@ impl Record {
 #[cfg(test)]
 mod tests {
     use super::*;
-    use second::reader::read_all;
+    use second::reader::{CHIPS, read_all};
+    use second::walk::Way;
 
     /// "none, block 2, block 0, 2 switches; under 0x8800: none, 2, 2, 1 switch", and so under 0xFFFF,
     /// in the form of lines.
@@ -203,9 +204,9 @@ mod tests {
             let start = format!("{number} ");
             lines.lines().any(|line| line.starts_with(&start))
         };
-        let numbers = (0..=31).filter(|&number| met(number));
-        let expected = (0..=22).filter(|number| ![1, 12].contains(number));
-        assert!(numbers.eq(expected.chain(29..=31)));
+        let numbers = (0..=32).filter(|&number| met(number));
+        let expected = (0..=21).filter(|number| ![1, 12].contains(number));
+        assert!(numbers.eq(expected.chain(29..=32)));
         for layout in LAYOUTS {
             let of_layout = records
                 .iter()
@@ -217,6 +218,31 @@ mod tests {
         }
         let many = lines.lines().filter(|line| line.starts_with("0 settled"));
         assert!(many.count() > 300);
+    }
+
+    /// "A look under a fixed type selects the first listed block for it" or gets 32: records of
+    /// each chip under a fixed type, whose walk settles, and in which looks are refused with it.
+    #[test]
+    fn fixed_types() {
+        let records = records();
+        let fixed: Vec<_> = records
+            .iter()
+            .filter(|record| {
+                let (answer, _) = read_all(&record.image, record.arguments);
+                answer.number == 0 && Way::of(answer.connection) == Way::Fixed
+            })
+            .collect();
+        for chip in CHIPS {
+            let often = |begin: &str| {
+                let has_line = |record: &&&Record| {
+                    let lines = record.lines();
+                    record.arguments.chip == chip && lines.lines().any(|it| it.starts_with(begin))
+                };
+                fixed.iter().filter(has_line).count()
+            };
+            let often = [often("0 settled"), often("32 ")];
+            assert!(often.iter().all(|&often| often > 1), "{chip}: {often:?}");
+        }
     }
 
     /// "They are counted as power ..., not listed": some of the records that a walk settles on have

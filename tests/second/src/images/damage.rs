@@ -276,7 +276,7 @@ pub(crate) fn kind(block: &[u8], chip: u16) -> u16 {
 }
 
 /// Where a medium's code byte stands, the codes of its kind and the reserved bits.
-fn code_byte(kind: u16) -> Option<(usize, &'static [u8], &'static [u8])> {
+pub(crate) fn code_byte(kind: u16) -> Option<(usize, &'static [u8], &'static [u8])> {
     match kind {
         MEDIA_21041 => Some((0, &[0, 1, 2, 4], &[0x80])),
         COMPACT => Some((0, &[0, 1, 3, 4, 5, 6, 7, 8], &[0x40])),

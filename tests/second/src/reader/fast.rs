@@ -1,8 +1,8 @@
 //! The same reading with the CRCs by table, in one pass over the leaf and without allocation.
 
 use super::{
-    Answer, Arguments, Block, MOST_BLOCKS, NO_DEFAULT, POWER, RESET, Refusal, block, first_block,
-    header, is_version, refuse_if, word,
+    Answer, Arguments, Block, Header, MOST_BLOCKS, NO_DEFAULT, POWER, RESET, Refusal, block,
+    first_block, header, is_version, refuse_if, word,
 };
 use crate::crc::{ID_CRC_OFFSET, IMAGE_LENGTH, fast};
 use crate::layout::Layout;
@@ -48,7 +48,7 @@ fn leaf(
     listed: &mut Listed,
 ) -> Result<Answer, Refusal> {
     let mut entries = 0;
-    each_block(image, arguments, shorter, |_, block| {
+    each_block(image, arguments, shorter, |_, _, block| {
         if let Some(kind) = block.kind.filter(|_| block.is_listed()) {
             listed[entries] = (kind, block.start as u16);
             entries += 1;
@@ -56,13 +56,13 @@ fn leaf(
     })
 }
 
-/// Hands each accepted block on with its number, the first block first, also where a later cause
-/// refuses the leaf.
+/// Hands each accepted block on with the leaf's header and its number, the first block first, also
+/// where a later cause refuses the leaf.
 pub(crate) fn each_block(
     image: &[u8],
     arguments: Arguments,
     shorter: usize,
-    take: impl FnMut(u8, &Block),
+    take: impl FnMut(&Header, u8, &Block),
 ) -> Result<Answer, Refusal> {
     frame(image, arguments.layout)?;
     each_block_unframed(image, arguments, shorter, take)
@@ -73,7 +73,7 @@ pub(crate) fn each_block_unframed(
     image: &[u8],
     arguments: Arguments,
     shorter: usize,
-    mut take: impl FnMut(u8, &Block),
+    mut take: impl FnMut(&Header, u8, &Block),
 ) -> Result<Answer, Refusal> {
     let header = header(image, arguments)?;
     refuse_if(shorter < usize::from(header.count), Refusal::ShortArray)?;
@@ -107,7 +107,7 @@ pub(crate) fn each_block_unframed(
         resets_phy |= block.resets_phy;
         repeated |= modes & block.mode;
         modes |= block.mode;
-        take(number, &block);
+        take(&header, number, &block);
         start += block.size;
     }
     refuse_if(

@@ -1142,7 +1142,17 @@ fn worked_blocks() {
         let found = match block(&image, start, arguments) {
             Ok(it) if it.is_listed() => {
                 let (size, invalid, default) = (it.size, it.is_active_invalid, it.is_default);
-                format!("mediumBlock {size} {invalid} {default} {}", it.resets_phy)
+                let (capabilities, resets) = (it.capabilities, it.resets_phy);
+                match it.code {
+                    Some(code) => {
+                        assert_eq!((capabilities, resets), (0, false), "{words:?}");
+                        format!("mediumBlock {size} {code} {invalid} {default}")
+                    }
+                    None => {
+                        assert_eq!((invalid, default), (false, false), "{words:?}");
+                        format!("phyBlock {size} 0x{capabilities:04X} {resets}")
+                    }
+                }
             }
             Ok(it) if it.kind == Some(POWER) => format!("powerBlock {}", it.size),
             other => {

@@ -57,7 +57,7 @@ fn try_write(sheet: &[u8], layout: Layout, output: &[u8]) -> Result<Image, Refus
         magic::judge(&image, magic_crc(&image))?;
     }
     let newest = Arguments::newest(chip).laid_out(layout);
-    each_block_unframed(&image, newest, usize::MAX, |_, _| {})?;
+    each_block_unframed(&image, newest, usize::MAX, |_, _, _| {})?;
     Ok(image)
 }
 
@@ -120,7 +120,7 @@ fn try_make(image: &[u8], chip: u16, layout: Layout, buffer: &mut [u8]) -> Resul
     let (first, limit) = (TIDY_LEAF + header_size(chip), layout.leaf_limit());
     let (mut end, mut total) = (first, 0);
     let newest = Arguments::newest(chip).laid_out(layout);
-    let answer = each_block(image, newest, usize::MAX, |_, block| {
+    let answer = each_block(image, newest, usize::MAX, |_, _, block| {
         end = block.start + block.size;
         let is_extended = chip != 21041 && image[block.start] & EXTENDED != 0;
         total += block.size - if is_extended { 2 } else { 0 };

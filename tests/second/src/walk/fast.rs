@@ -1,6 +1,6 @@
 //! The same walk on its rows, handed from call to call by value, without allocation.
 
-use super::{NONE, Walk, Walked, Way};
+use super::{NONE, Walk, Walked, Way, has_fixed_medium};
 use crate::reader::{Arguments, Refusal, fast, refuse_if};
 
 pub fn fresh() -> Walk {
@@ -36,10 +36,11 @@ fn handed_back(before: Walk, result: Result<Walk, Refusal>) -> Walked {
 fn try_load(walk: Walk, image: &[u8], arguments: Arguments) -> Result<Walk, Refusal> {
     refuse_if(walk.loaded, Refusal::LoadedWalk)?;
     let mut loaded = Walk::FRESH;
-    let answer = fast::each_block(image, arguments, usize::MAX, |number, block| {
+    let answer = fast::each_block(image, arguments, usize::MAX, |header, number, block| {
         let number = usize::from(number);
         loaded.rows.listed[number] = block.is_listed().into();
         loaded.rows.active_invalid[number] = block.is_active_invalid.into();
+        loaded.rows.fixed[number] = has_fixed_medium(block, header.connection).into();
     })?;
     loaded.loaded = true;
     loaded.connection = answer.connection;
@@ -50,14 +51,16 @@ fn try_load(walk: Walk, image: &[u8], arguments: Arguments) -> Result<Walk, Refu
 
 fn try_look(mut walk: Walk, report: &[u8]) -> Result<Walk, Refusal> {
     refuse_if(!walk.loaded, Refusal::FreshWalk)?;
-    let is_fixed = Way::of(walk.connection) == Way::Fixed;
-    refuse_if(is_fixed, Refusal::FixedConnection)?;
+    let fixed = match Way::of(walk.connection) {
+        Way::Fixed => Some(walk.fixed_choice().ok_or(Refusal::NoFixedMedium)?),
+        Way::EveryLook | Way::Once => None,
+    };
     refuse_if(walk.looks == u16::MAX, Refusal::LooksSpent)?;
     let report = report.get(..walk.blocks.into()).ok_or(Refusal::Report)?;
     refuse_if(report.iter().any(|&byte| byte > 1), Refusal::Report)?;
     let before = walk.selected;
-    if !stays(&walk, report) {
-        match candidate(&walk, report) {
+    if fixed.is_some() || !stays(&walk, report) {
+        match fixed.or_else(|| candidate(&walk, report)) {
             Some(block) => {
                 walk.selected = block as u8;
                 walk.settled = true;

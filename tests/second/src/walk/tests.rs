@@ -1,11 +1,12 @@
 use super::*;
 use crate::calls::{self, Call, Habits};
 use crate::cases::{CASES_K, REPORTS_K, card_b, cases};
-use crate::images::{Card, DAMAGES, Image, Sample, block};
+use crate::images::block::{self, Phy};
+use crate::images::{Card, DAMAGES, Image, Sample};
 use crate::layout::Layout;
 use crate::random::Random;
-use crate::reader::{CHIPS, NEWEST_LEVEL, connections, read_all};
-use crate::specification::{self, arguments, number};
+use crate::reader::{CHIPS, NEWEST_LEVEL, connections, first_block, read_all};
+use crate::specification::{self, arguments, number, opened};
 
 fn image(chip: u16, connection: u16, blocks: Vec<Vec<u8>>) -> Image {
     Card::tidy(chip, connection, blocks).image()
@@ -58,6 +59,13 @@ fn case_k() {
     }
 }
 
+/// A row that begins with these flags.
+fn row(flags: &[u8]) -> [u8; ROW_LENGTH] {
+    let mut row = [0; ROW_LENGTH];
+    row[..flags.len()].copy_from_slice(flags);
+    row
+}
+
 /// "State when loaded: settled (no), selected (none), looks (0), switches (0)", and a flag for each
 /// property of each block.
 #[test]
@@ -70,12 +78,7 @@ fn loaded_rows() {
         block::sia(0, None, 0x8000, 0x8000),
         block::symbol(5, 0, 0, 0xC000),
     ];
-    let image = image(21143, 0x0800, blocks);
-    let row = |flags: &[u8]| {
-        let mut row = [0; ROW_LENGTH];
-        row[..flags.len()].copy_from_slice(flags);
-        row
-    };
+    let image = |connection| image(21143, connection, blocks.clone());
     let expected = Walk {
         loaded: true,
         connection: 0x0800,
@@ -83,6 +86,7 @@ fn loaded_rows() {
         rows: Rows {
             listed: row(&[1, 0, 1, 0, 1, 1]),
             active_invalid: row(&[1, 0, 0, 0, 0, 1]),
+            fixed: row(&[]),
         },
         default_number: 2,
         settled: false,
@@ -90,20 +94,33 @@ fn loaded_rows() {
         looks: 0,
         switches: 0,
     };
-    assert_eq!(loaded(&image, Arguments::newest(21143)).walk(), expected);
-    // A reader that does not know type 4 sees neither property, nor the default.
-    let expected = Walk {
+    let walk = |connection, level| {
+        let arguments = Arguments::at_level(21143, level);
+        loaded(&image(connection), arguments).walk()
+    };
+    assert_eq!(walk(0x0800, NEWEST_LEVEL), expected);
+    // Of the listed blocks the first has the medium of 0x0003.
+    let fixed = Walk {
+        connection: 0x0003,
         rows: Rows {
-            listed: row(&[0, 0, 0, 0, 1]),
-            active_invalid: row(&[]),
+            fixed: row(&[1]),
+            ..expected.rows
         },
-        default_number: NONE,
         ..expected
     };
-    assert_eq!(
-        loaded(&image, Arguments::at_level(21143, 4)).walk(),
-        expected
-    );
+    assert_eq!(walk(0x0003, NEWEST_LEVEL), fixed);
+    // A reader that does not know type 4 sees none of these properties, nor the default.
+    for before in [expected, fixed] {
+        let older = Walk {
+            rows: Rows {
+                listed: row(&[0, 0, 0, 0, 1]),
+                ..Rows::EMPTY
+            },
+            default_number: NONE,
+            ..before
+        };
+        assert_eq!(walk(before.connection, 4), older);
+    }
 }
 
 /// "Clearing makes it fresh and always succeeds."
@@ -165,31 +182,271 @@ fn both_layouts() {
     }
 }
 
-/// "From the state, before any from the input ... Look: 20 fresh; 22 fixed type"; "Looks serve
-/// 0x0800, 0x8800 and 0x0900; every other type counts as fixed", but for 0xFFFF: "Refusal 22 no
-/// longer meets it".
-#[test]
-fn served_types() {
-    assert_eq!(Autosense::default().look(&[]), 20);
+/// "by the low byte's media code below 9, else a PHY block with the capability bit of the MII name
+/// (0x0009 bit 11, 0x020A bit 12, 0x000D bit 13, 0x020E bit 14, 0x000F bit 15)"; "0x0010 and 0x0211
+/// always get" 32.
+const FIXED: [(u16, Option<Medium>); 18] = [
+    (0x0000, Some(Medium::Code(0))),
+    (0x0100, Some(Medium::Code(0))),
+    (0x0400, Some(Medium::Code(0))),
+    (0x0001, Some(Medium::Code(1))),
+    (0x0002, Some(Medium::Code(2))),
+    (0x0003, Some(Medium::Code(3))),
+    (0x0204, Some(Medium::Code(4))),
+    (0x0205, Some(Medium::Code(5))),
+    (0x0006, Some(Medium::Code(6))),
+    (0x0007, Some(Medium::Code(7))),
+    (0x0208, Some(Medium::Code(8))),
+    (0x0009, Some(Medium::Capability(11))),
+    (0x020A, Some(Medium::Capability(12))),
+    (0x000D, Some(Medium::Capability(13))),
+    (0x020E, Some(Medium::Capability(14))),
+    (0x000F, Some(Medium::Capability(15))),
+    (0x0010, None),
+    (0x0211, None),
+];
+
+/// Every fixed connection type of every chip, with its medium.
+fn fixed_types() -> Vec<(u16, u16, Option<Medium>)> {
+    let is_sensed = |connection| [0x0800, 0x8800, 0x0900, 0xFFFF].contains(&connection);
+    let medium = |connection| FIXED.iter().find(|(fixed, _)| *fixed == connection);
+    let mut types = Vec::new();
     for chip in CHIPS {
-        for connection in connections(chip) {
-            let is_served = [0x0800, 0x8800, 0x0900, 0xFFFF].contains(&connection);
-            for report in [&[][..], &[2], &[0], &[1]] {
-                let blocks = vec![block::extended(9, &[])];
-                let blocks = if chip == 21041 { vec![vec![0]] } else { blocks };
-                let mut walk = loaded(&image(chip, connection, blocks), Arguments::newest(chip));
-                let before = walk.clone();
-                let is_report = report == [0] || report == [1];
-                let expected = match (is_served, is_report) {
-                    (false, _) => 22,
-                    (true, false) => 19,
-                    (true, true) => 0,
-                };
-                assert_eq!(walk.look(report), expected, "{connection:#06x} {report:?}");
-                assert_eq!(walk == before, expected != 0);
+        for connection in connections(chip).filter(|&it| !is_sensed(it)) {
+            let (_, medium) = medium(connection).expect("a fixed type");
+            types.push((chip, connection, *medium));
+        }
+    }
+    types
+}
+
+/// A block of each form that the chip has for a media code, with all bits set in its words, as if
+/// they were capabilities.
+fn with_code(chip: u16, code: u8) -> Vec<Vec<u8>> {
+    let registers = Some([0xFF; 6]);
+    match (chip, code) {
+        (21041, 0 | 1 | 2 | 4) => vec![block::media(code, None), block::media(code, registers)],
+        (21140, 0 | 1 | 3..=8) => vec![
+            block::compact(code, 0xFF, 0xC0FF),
+            block::non_mii(code, 0xFF, 0xC0FF),
+        ],
+        (21142 | 21143 | 21145, 0 | 1 | 2 | 4) => vec![
+            block::sia(code, None, 0xFFFF, 0xFFFF),
+            block::sia(code, registers, 0xFFFF, 0xFFFF),
+        ],
+        (21143 | 21145, 3 | 5..=8) => vec![block::symbol(code, 0xFFFF, 0xFFFF, 0xFFFF)],
+        _ => vec![],
+    }
+}
+
+/// The chip's PHY block with these capabilities, whose other fields all are or count this byte; the
+/// 21041 has none.
+fn phy(chip: u16, capabilities: u16, byte: u8) -> Option<Vec<u8>> {
+    let kind = match chip {
+        21041 => return None,
+        21140 => 1,
+        _ => 3,
+    };
+    let sequence = vec![byte; block::phy_unit(kind) * usize::from(byte)];
+    let word = u16::from_le_bytes([byte; 2]);
+    let fields = Phy {
+        number: byte,
+        select: sequence.clone(),
+        reset: sequence,
+        capabilities,
+        advertisement: word,
+        full_duplex: word,
+        threshold: word,
+        removal: byte,
+    };
+    Some(block::phy(kind as u8, &fields))
+}
+
+/// The chip's blocks that have a medium, and those that do not. Of these the PHY block has either
+/// the media code all over, or all capabilities but the one.
+fn having_and_lacking(chip: u16, medium: Option<Medium>) -> [Vec<Vec<u8>>; 2] {
+    let has_code = |code: &u8| medium == Some(Medium::Code(*code));
+    let (codes, other_codes): (Vec<_>, Vec<_>) = (0..9).partition(has_code);
+    let blocks = |codes: Vec<u8>| codes.into_iter().flat_map(|code| with_code(chip, code));
+    let (mut having, mut lacking): (Vec<_>, Vec<_>) =
+        (blocks(codes).collect(), blocks(other_codes).collect());
+    match medium {
+        Some(Medium::Code(code)) => lacking.extend(phy(chip, 0xFFFF, code)),
+        Some(Medium::Capability(bit)) => {
+            having.extend(phy(chip, 1 << bit, 0));
+            lacking.extend(phy(chip, !(1 << bit), 0));
+        }
+        None => lacking.extend(phy(chip, 0xFFFF, 0)),
+    }
+    [having, lacking]
+}
+
+/// "A look under a fixed type selects the first listed block for it", whatever stands behind and
+/// before it in the table: on the 21140 also a compact block and type 0 for one medium. "32 no
+/// listed block has the fixed medium": with every block that the chip has for another, a PHY block
+/// with the media code's number in its bytes among them, and with none.
+#[test]
+fn fixed_types_select() {
+    let mut met = 0;
+    for (chip, connection, medium) in fixed_types() {
+        let look = |blocks: &[&Vec<u8>]| {
+            let blocks: Vec<_> = blocks.iter().map(|&it| it.clone()).collect();
+            let report = vec![0; blocks.len()];
+            let mut walk = loaded(&image(chip, connection, blocks), Arguments::newest(chip));
+            let number = walk.look(&report);
+            (number, state(&walk))
+        };
+        let selected = |block| (0, (true, block, 1, 1));
+        let refused = (32, (false, NONE, 0, 0));
+        let [having, lacking] = having_and_lacking(chip, medium);
+        assert_eq!(look(&[]), refused, "{chip} {connection:#06x}");
+        for other in &lacking {
+            assert_eq!(look(&[other]), refused, "{chip} {connection:#06x}");
+            for first in &having {
+                assert_eq!(look(&[first, other]), selected(0));
+                for second in &having {
+                    assert_eq!(look(&[first, second, other]), selected(1));
+                    assert_eq!(look(&[other, first, second]), selected(2));
+                    met += 1;
+                }
             }
         }
     }
+    assert!(met > 500, "only {met}");
+}
+
+/// "From the state, before any from the input ... Look: 20 fresh; 22 fixed type; 23 looks at
+/// 65,535", where "32 no listed block has the fixed medium" stands "in 22's place", and "Link bytes
+/// are still judged by 19": the first cause of this order that is met, under each connection type.
+#[test]
+fn refused_looks() {
+    assert_eq!(Autosense::default().look(&[]), 20);
+    let mut met = [0; 33];
+    for chip in CHIPS {
+        for connection in connections(chip) {
+            let fixed = FIXED.iter().find(|(fixed, _)| *fixed == connection);
+            for code in 0..9 {
+                let Some(block) = with_code(chip, code).pop() else {
+                    continue;
+                };
+                let is_missing =
+                    fixed.is_some_and(|(_, medium)| *medium != Some(Medium::Code(code)));
+                let image = image(chip, connection, vec![block]);
+                for looks in [0, u16::MAX - 1, u16::MAX] {
+                    for report in [&[][..], &[2], &[0], &[1], &[0, 2]] {
+                        let mut walk = with_looks(looks, &loaded(&image, Arguments::newest(chip)));
+                        let before = walk.clone();
+                        let is_report = !report.is_empty() && report[0] < 2;
+                        let expected = match (is_missing, looks, is_report) {
+                            (true, ..) => 32,
+                            (false, u16::MAX, _) => 23,
+                            (false, _, false) => 19,
+                            (false, _, true) => 0,
+                        };
+                        let place = format!("{connection:#06x} {code} {looks} {report:?}");
+                        assert_eq!(walk.look(report), expected, "{place}");
+                        assert_eq!(walk == before, expected != 0, "{place}");
+                        met[usize::from(expected)] += 1;
+                    }
+                }
+            }
+        }
+    }
+    assert!([0, 19, 23, 32].iter().all(|&it| met[it] > 200), "{met:?}");
+}
+
+/// The same walk after so many looks.
+fn with_looks(looks: u16, walk: &Autosense) -> Autosense {
+    let mut walk = walk.clone();
+    if let Autosense::Loaded(loaded) = &mut walk {
+        loaded.looks = looks;
+    }
+    walk
+}
+
+/// "Settled becomes yes, and step 3 counts as ever. Link bytes ... don't matter": nor do
+/// Active_Invalid, a default and where the walk stands.
+#[test]
+fn fixed_whatever_else() {
+    for (first, choice) in [(0, 0), (0, 0x8000), (0x8000, 0), (0x8000, 0x8000)] {
+        let blocks = [(0, first), (0, choice), (1, 0x4000)];
+        let blocks = blocks.map(|(code, command)| block::compact(code, 0, command));
+        let image = image(21140, 0x0000, blocks.to_vec());
+        let start = loaded(&image, Arguments::newest(21140));
+        assert_eq!(start.walk().default_number, 2);
+        for selected in [None, Some(0), Some(1), Some(2)] {
+            for settled in [false, true] {
+                for links in 0..1 << 3 {
+                    let mut walk = standing(settled, selected, &start);
+                    let report = [0, 1, 2].map(|block| links >> block & 1);
+                    let by_rows = fast::look(walk.walk(), &report);
+                    assert_eq!((walk.look(&report), by_rows.number), (0, 0));
+                    let switches = u16::from(selected != Some(1));
+                    assert_eq!(state(&walk), (true, 1, 1, switches), "{report:?}");
+                    assert_eq!(by_rows.walk, walk.walk());
+                }
+            }
+        }
+    }
+}
+
+/// The same walk, settled or not, with a block selected.
+fn standing(settled: bool, selected: Option<usize>, walk: &Autosense) -> Autosense {
+    let mut walk = walk.clone();
+    if let Autosense::Loaded(loaded) = &mut walk {
+        (loaded.settled, loaded.selected) = (settled, selected);
+    }
+    walk
+}
+
+/// "Clearing makes it fresh", and a load after it goes by its own image: a medium that is there,
+/// one that is not, and a type that is autosensed.
+#[test]
+fn fixed_and_loaded_again() {
+    let blocks = [0, 3].map(|code| block::compact(code, 0, 0)).to_vec();
+    let mut walk = Autosense::default();
+    for (connection, number, selected) in [
+        (0x0000, 0, 0),
+        (0x0007, 32, NONE),
+        (0x0003, 0, 1),
+        (0x0800, 0, NONE),
+        (0x0100, 0, 0),
+    ] {
+        let image = image(21140, connection, blocks.clone());
+        assert_eq!(walk.load(&image, Arguments::newest(21140)), 0);
+        assert_eq!(walk.look(&[0, 0]), number, "{connection:#06x}");
+        assert_eq!(walk.walk().selected, selected, "{connection:#06x}");
+        assert_eq!(walk.clear(), 0);
+        assert_eq!(walk.look(&[0, 0]), 20);
+    }
+}
+
+/// "A look under a fixed type selects the first listed block for it": whatever the reports, every
+/// accepted look of a walk selects one block, and the first alone is a switch; or all are refused
+/// with 32.
+#[test]
+fn fixed_looks() {
+    let mut random = Random::new(6);
+    let mut met = [0; 33];
+    for _ in 0..5_000 {
+        let sample = calls::fixed(&mut random);
+        let mut walk = loaded(&sample.card.image(), sample.arguments);
+        let choice = walk.walk().fixed_choice();
+        let habits = Habits::new(&mut random, walk.walk().blocks.into());
+        let mut looks = 0;
+        for report in habits.reports(&mut random, 12) {
+            let number = walk.look(&report);
+            met[usize::from(number)] += 1;
+            looks += u16::from(number == 0);
+            let expected = match choice {
+                Some(block) if looks > 0 => (true, block as u8, looks, 1),
+                _ => (false, NONE, 0, 0),
+            };
+            assert_eq!(state(&walk), expected, "{sample:02x?}");
+            assert_eq!(number == 32, choice.is_none(), "{sample:02x?}");
+        }
+    }
+    assert!([0, 19, 32].iter().all(|&it| met[it] > 2_000), "{met:?}");
 }
 
 /// "19 report shorter than the block count, or one of those bytes above 1"; "later bytes are
@@ -374,6 +631,8 @@ fn table_order() {
 
 /// "the default medium must be none of the removed entries, and no accepted look may have a removed
 /// entry up": an image and a report for each, with the other met, where newest and older part.
+/// Under a fixed type, "the newest choice is an entry that it lists": images with another choice,
+/// where the older walk selects another block or is refused with 32.
 #[test]
 fn conditions_are_needed() {
     let sia = block::sia(0, None, 0, 0);
@@ -388,6 +647,15 @@ fn conditions_are_needed() {
     let [mut newest, mut older] = pair(0x0000);
     assert_eq!(selections(&mut newest, &[&[1, 1]]), [1]);
     assert_eq!(selections(&mut older, &[&[1, 1]]), [0]);
+    for (code, number, selected) in [(0, 0, 0), (3, 32, NONE)] {
+        let blocks = vec![block::compact(0, 0, 0), block::non_mii(code, 0, 0)];
+        let image = image(21140, code.into(), blocks);
+        let [mut newest, mut older] =
+            [NEWEST_LEVEL, 0].map(|level| loaded(&image, Arguments::at_level(21140, level)));
+        assert_eq!(selections(&mut newest, &[&[0, 0]]), [1]);
+        assert_eq!(older.look(&[0, 0]), number);
+        assert_eq!(older.walk().selected, selected);
+    }
 }
 
 /// "23 looks at 65,535", after as many looks, each of them a switch; it comes before 19, and
@@ -444,7 +712,7 @@ fn settling() {
     let mut met = 0;
     for _ in 0..20_000 {
         let mut sample = Sample::valid(&mut random);
-        calls::serve(&mut random, &mut sample.card);
+        calls::autosense(&mut random, &mut sample.card);
         calls::mark(&mut random, &mut sample.card);
         let image = sample.card.image();
         let mut walk = loaded(&image, sample.arguments);
@@ -463,23 +731,31 @@ fn settling() {
     assert!(met > 5_000, "only {met} walks settled");
 }
 
-/// The looks that crates/walk computes with, at a walk of five blocks: block 1 is not listed, and block 3 has
-/// Active_Invalid.
+/// The looks that crates/walk computes with, at a walk of five blocks: block 1 is not listed, block
+/// 3 has Active_Invalid, and those have the fixed medium that the maker of the case names: blocks 0
+/// and 2, none, or 2 and 3.
 #[test]
 fn worked_looks() {
     let text = specification::text("walk/specs/Cases.antt");
     let cases = specification::cases(&text, "lookCases");
-    assert!(cases.len() >= 20, "only {} looks", cases.len());
-    for connection in ["0x0800", "0x0900", "0x8800", "0xFFFF"] {
+    assert!(cases.len() >= 30, "only {} looks", cases.len());
+    for connection in ["0x0800", "0x0900", "0x8800", "0xFFFF", "0x0003"] {
         let mut types = cases.iter().map(|(_, words)| words[0]);
         assert!(types.any(|it| it == connection), "none under {connection}");
     }
-    let table = [4, 3, 2, 0].map(|block| Entry {
-        block,
-        is_active_invalid: block == 3,
-    });
+    for maker in ["look", "lookWithout", "lookInvalid"] {
+        let mut makers = cases.iter().map(|(made_by, _)| *made_by);
+        assert!(makers.any(|it| it == maker), "none made by {maker}");
+    }
     for (made_by, words) in cases {
-        assert_eq!(made_by, "look");
+        let begin = format!("{made_by} = lookOf ");
+        let mut fixed = text.lines().filter_map(|line| line.strip_prefix(&begin));
+        let fixed = specification::bytes(fixed.next().expect("the case has a maker"));
+        let table = [4, 3, 2, 0].map(|block| Entry {
+            block,
+            is_active_invalid: block == 3,
+            has_fixed_medium: fixed[block] == 1,
+        });
         let some = |word: &str| Some(number(word)).filter(|&block| block != usize::from(NONE));
         let walk = |state: &str| {
             let state = arguments(state);
@@ -500,4 +776,123 @@ fn worked_looks() {
         assert_eq!(answer.to_string(), words[4], "{words:?}");
         assert_eq!(after, walk(words[5]), "{words:?}");
     }
+}
+
+/// The names of FixedCases.antt that it defines in one line, each before those that it is made of.
+const FIXED_MAKERS: [&str; 11] = [
+    "on21041",
+    "onPort",
+    "onSia",
+    "onSymbol",
+    "block21041",
+    "compactBlock",
+    "type0",
+    "type1",
+    "type2",
+    "type3",
+    "type4",
+];
+
+/// The text of FixedCases.antt without parentheses.
+fn fixed_text() -> String {
+    specification::text("walk/specs/FixedCases.antt").replace(['(', ')'], "")
+}
+
+/// The list that the text defines under a name, with one sign between elements and without its end.
+fn defined(text: &str, name: &str) -> String {
+    let (_, behind) = text.split_once(&format!("\n{name} =")).unwrap();
+    let list = behind.split("\n\n").next().unwrap();
+    list.replace("++", "∷").replace("[]", "")
+}
+
+/// The elements of a table of fixed types and of the lists in it, with their blocks as bytes.
+fn fixed_table(text: &str, name: &str) -> Vec<String> {
+    let mut list = defined(text, name);
+    if let Some((_, symbols)) = list.split_once("fixedWith") {
+        list = defined(text, "fixedWith symbols").replace("symbols", symbols);
+    }
+    for phy in ["type1", "type3"] {
+        let phys = defined(text, "onPhy phy").replace("phy", phy);
+        list = list.replace(&format!("onPhy {phy}"), &phys);
+    }
+    let elements = list.split('∷').map(|it| opened(it, text, &FIXED_MAKERS));
+    elements.filter(|it| !it.is_empty()).collect()
+}
+
+/// The blocks that stand one behind the other in a list of bytes.
+fn blocks_of(list: &str, chip: u16) -> Vec<Vec<u8>> {
+    let bytes = specification::bytes(list);
+    let mut rest = &bytes[..];
+    let mut blocks = Vec::new();
+    while let Some(block) = first_block(rest, chip) {
+        blocks.push(block.to_vec());
+        rest = &rest[block.len()..];
+    }
+    assert!(rest.is_empty(), "{list}");
+    blocks
+}
+
+/// The number that a first look answers, and the block that is then selected, with all links down
+/// and with all up.
+fn first_looks(chip: u16, connection: u16, blocks: &[Vec<u8>]) -> [(u8, u8); 2] {
+    let image = image(chip, connection, blocks.to_vec());
+    [0, 1].map(|link| {
+        let mut walk = loaded(&image, Arguments::newest(chip));
+        let number = walk.look(&vec![link; blocks.len()]);
+        (number, walk.walk().selected)
+    })
+}
+
+/// "A look under a fixed type selects the first listed block for it", and "32 no listed block has
+/// the fixed medium": crates/walk computes with two blocks that have the medium and one that has
+/// another, or, where the chip can hold none, with the last alone, for each fixed type of each chip.
+#[test]
+fn worked_fixed_types() {
+    let text = fixed_text();
+    let mut types = Vec::new();
+    let tables = defined(&text, "fixedTables");
+    for (chip, table) in CHIPS.into_iter().zip(tables.split('∷')) {
+        for element in fixed_table(&text, table.trim()) {
+            let words: Vec<_> = element.splitn(3, ' ').collect();
+            let connection = number(words[1]) as u16;
+            let blocks = blocks_of(words[2], chip);
+            let looks = |blocks: &[Vec<u8>]| first_looks(chip, connection, blocks);
+            let other = match (words[0], blocks.len()) {
+                ("held", 3) => {
+                    assert_eq!(looks(&blocks[..1]), [(0, 0); 2], "{element}");
+                    assert_eq!(looks(&blocks), [(0, 1); 2], "{element}");
+                    &blocks[2..]
+                }
+                ("notHeld", 1) => &blocks,
+                _ => panic!("{element}"),
+            };
+            assert_eq!(looks(other), [(32, NONE); 2], "{element}");
+            types.push((chip, connection));
+        }
+    }
+    let every_type = fixed_types().into_iter();
+    assert!(every_type.map(|(chip, it, _)| (chip, it)).eq(types));
+}
+
+/// The same of the leaves that it writes out.
+#[test]
+fn worked_fixed_leaves() {
+    let text = fixed_text();
+    let mut met = 0;
+    for line in defined(&text, "fixedCases").lines() {
+        let Some((_, case)) = line.split_once("caseOf ") else {
+            continue;
+        };
+        let case = opened(case, &text, &FIXED_MAKERS);
+        let words: Vec<_> = case.split(' ').collect();
+        let [chip, connection, list @ .., answer, selected] = &words[..] else {
+            panic!("{case}");
+        };
+        let [chip, connection] = [chip, connection].map(|it| number(it) as u16);
+        let expected = (number(answer) as u8, number(selected) as u8);
+        let looks = first_looks(chip, connection, &blocks_of(&list.join(" "), chip));
+        assert_eq!(looks, [expected; 2], "{case}");
+        met += 1;
+    }
+    assert!(met >= 6, "only {met} leaves");
 }

@@ -1,0 +1,57 @@
+-- The case of the block says its flag. Assumes nothing.
+use borrow.Author.Needs.{needs}
+use Rattle.autosense.proofs.fixed_flag.Statement.{statement}
+use Rattle.autosense.proofs.fixed_flag.Tie as tie
+
+enum-known-b : tie.Need-enum-known-b
+enum-known-b c = search needs
+
+has-fixed-medium-requires : tie.Need-has-fixed-medium-requires
+has-fixed-medium-requires c κs = search needs
+
+flag-of-requires : tie.Need-flag-of-requires
+flag-of-requires c κs = search needs
+
+enum-told : tie.Need-enum-told
+enum-told c = search needs
+
+enum-told-2 : tie.Need-enum-told-2
+enum-told-2 c = search needs
+
+enum-told-3 : tie.Need-enum-told-3
+enum-told-3 c = search needs
+
+enum-told-4 : tie.Need-enum-told-4
+enum-told-4 c = search needs
+
+returns : tie.Need-returns
+returns c = rw (c .before .before .before .b .given .1, c .flag-of .ensures, c .before .has-fixed-medium .ensures)
+
+returns-2 : tie.Need-returns-2
+returns-2 c = search needs
+
+returns-3 : tie.Need-returns-3
+returns-3 c = search needs
+
+returns-4 : tie.Need-returns-4
+returns-4 c = search needs
+
+returns-5 : tie.Need-returns-5
+returns-5 c = search needs
+
+pub fixed-flag-spec : {M : Type 1} → statement M
+fixed-flag-spec =
+    tie.close
+    (tie.spec
+    enum-known-b
+    has-fixed-medium-requires
+    flag-of-requires
+    enum-told
+    enum-told-2
+    enum-told-3
+    enum-told-4
+    returns
+    returns-2
+    returns-3
+    returns-4
+    returns-5)
