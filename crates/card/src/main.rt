@@ -36,6 +36,7 @@ fn usage() -> u8 {
                                       the image with a new Magic Packet block
   map FILE CHIP OUT.svg [OPTIONS] [--force]
                                       a picture of the ROM
+  dump [--pci ADDRESS] OUT [--force]  the ROM of a card in a slot, for root
   refusals                            the refusal numbers in words
   help                                this text
 
@@ -52,8 +53,11 @@ Magic Packet block. Options stand anywhere behind the command.
 write --magic keeps the block of the image FROM. P and A are six bytes as
 xx:xx:xx:xx:xx:xx and C is a word of up to four digits, all in hexadecimal.
 
-The exit status is 0 for accepted, 1 for refused, 2 for bad usage or a file
-that cannot be read or written.
+dump reads the card through its chip, while no driver has it. --pci says which
+card is meant where there are several, by its address, as 0000:00:04.0.
+
+The exit status is 0 for accepted, 1 for refused, 2 for bad usage, a card that
+cannot be read, or a file that cannot be read or written.
 ",
     );
     status::ACCEPTED

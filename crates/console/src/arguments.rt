@@ -433,7 +433,7 @@ pub fn read() -> Words {
         return Words::of(command).wrong(
             b"no such command",
             1,
-            b"there are read, older, walk, sheet, write, magic, map, refusals and help",
+            b"try read, older, walk, sheet, write, magic, map, dump, refusals or help",
         );
     }
     read_behind(command, end).counted().with_chip().complete()

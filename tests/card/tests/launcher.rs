@@ -245,6 +245,53 @@ fn no_toolchain() {
     });
 }
 
+/// Says its words, and ends with their count.
+const DUMP: &str = r#"#include <stdio.h>
+int main(int argc, char **argv)
+{
+    for (int i = 1; i < argc; i++)
+        puts(argv[i]);
+    return argc - 1;
+}
+"#;
+
+/// `dump` is compiled and run, with its words and its status, where there is no `rt`; it leaves nothing behind.
+#[test]
+fn dump_is_compiled() {
+    each_shell(|shell| {
+        let bench = Bench::new("dump", shell);
+        fs::remove_file(bench.folder.join("bin/rt")).unwrap();
+        for name in ["bench", "temporary"] {
+            fs::create_dir(bench.folder.join(name)).unwrap();
+        }
+        let run = |source| {
+            bench.write("bench/dump.c", source);
+            let mut launcher = bench.command(shell);
+            launcher.arg(bench.folder.join("card"));
+            launcher.args(["dump", "--pci", "a b", "out"]);
+            launcher.env("TMPDIR", bench.folder.join("temporary"));
+            let output = launcher.output().unwrap();
+            let left = fs::read_dir(bench.folder.join("temporary")).unwrap();
+            assert_eq!(left.count(), 0, "{shell}");
+            assert!(!bench.folder.join("target").exists(), "{shell}");
+            output
+        };
+        let output = run(DUMP);
+        assert_eq!(text(&output.stdout), "--pci\na b\nout\n", "{shell}");
+        assert_eq!(
+            (text(&output.stderr), output.status.code()),
+            (String::new(), Some(3))
+        );
+        let output = run("none");
+        let said = text(&output.stderr);
+        assert!(
+            said.ends_with("card: bench/dump.c could not be compiled\n"),
+            "{said}"
+        );
+        assert_eq!(output.status.code(), Some(2), "{shell}");
+    });
+}
+
 /// Waits for something that must come about within seconds.
 fn within_seconds(what: &str, mut is_so: impl FnMut() -> bool) {
     let began = Instant::now();

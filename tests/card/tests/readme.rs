@@ -1,5 +1,5 @@
-//! The bench tool's commands of README.md, run as they stand there. Those for C and Rust are run in
-//! tests/library; `.ci/run` is what runs this.
+//! The bench tool's commands of README.md and docs/REPLACEMENT-CARD.md, run as they stand there. Those for C and
+//! Rust are run in tests/library; `.ci/run` is what runs this, and `dump` wants a card.
 
 use card::{root, shell};
 use std::path::Path;
@@ -23,11 +23,10 @@ fn commands(readme: &str) -> Vec<(String, String)> {
     commands
 }
 
-#[test]
-fn commands_run_as_shown() {
-    let readme = std::fs::read_to_string(root().join("README.md")).unwrap();
-    let commands = commands(&readme);
-    assert!(commands.len() >= 8, "{commands:?}");
+fn run_as_shown(page: &str, fewest: usize) {
+    let page = std::fs::read_to_string(root().join(page)).unwrap();
+    let commands = commands(&page);
+    assert!(commands.len() >= fewest, "{commands:?}");
     assert!(commands[0].1.contains("STEPPED OVER"), "{commands:?}");
     for (command, shown) in commands {
         let run = shell(&command, Path::new("/nowhere"));
@@ -36,4 +35,14 @@ fn commands_run_as_shown() {
             assert_eq!(run.written.trim_end(), shown.trim_end(), "{command}");
         }
     }
+}
+
+#[test]
+fn readme() {
+    run_as_shown("README.md", 8);
+}
+
+#[test]
+fn replacement_card() {
+    run_as_shown("docs/REPLACEMENT-CARD.md", 2);
 }

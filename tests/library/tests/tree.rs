@@ -33,7 +33,7 @@ fn files(folder: &Path, endings: &[&str]) -> Vec<PathBuf> {
 #[test]
 fn no_line_is_over_140_columns() {
     let mut seen = 0;
-    for folder in ["crates", "tests", "include", "examples", "fuzz"] {
+    for folder in ["crates", "tests", "include", "examples", "bench", "fuzz"] {
         for path in files(
             &root().join(folder),
             &["rt", "antt", "edit", "rs", "c", "h"],
