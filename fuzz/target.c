@@ -1,8 +1,8 @@
 /*
  * A fuzz target over every exported call. The first bytes choose the arguments, the rest is an image, a report and a sheet.
- * One flag mends the CRCs, so that the search gets behind them, and one says that there is a Magic Packet block. Every lent
- * buffer stands between guard bytes. The archive is compiled without instrumentation, so what the calls answer guides the
- * search: each refusal number and each count.
+ * One flag mends the CRCs, so that the search gets behind them, one says that there is a Magic Packet block and one that the ROM
+ * has the larger size; the image's length and its stated size may be others. Every lent buffer stands between guard bytes. The
+ * archive is compiled without instrumentation, so what the calls answer guides the search: each refusal number and each count.
  */
 #include <srom.h>
 
@@ -11,11 +11,14 @@
 
 enum { GUARD = 32, GUARD_BYTE = 0xA5, MOST_ELEMENTS = 512, CALLS = 8 };
 
-/* Where the Magic Packet block stands, and the SROM CRC without it and with it. */
-enum { BLOCK = 96, BLOCK_LENGTH = 32, BLOCK_CRC = 126, CRC = 126, CRC_BEFORE_BLOCK = 94 };
+/* How far before an image's end its Magic Packet block starts, that block's CRC stands, and the SROM CRC without it. */
+enum { BLOCK_LENGTH = 32, BLOCK_CRC = 2, CRC = 2 };
 
 /* The flags. */
-enum { MENDS = 1, OTHER_LENGTH = 2, MAGIC = 4 };
+enum { MENDS = 1, OTHER_LENGTH = 2, MAGIC = 4, LARGE = 8, OTHER_SIZE = 16 };
+
+/* The bytes before the image: flags, chip, controller, level, elements of the arrays, another length or size (word). */
+enum { HEAD = 7 };
 
 /* A lent buffer of `length` bytes between guards. */
 typedef struct lent {
@@ -60,17 +63,39 @@ static void reach(int kind, size_t number)
     counters[kind][number < 256 ? number : 255] = 1;
 }
 
+/* Whether an image has the stated size, which is a ROM's. */
+static bool is_of_size(size_t length, uint16_t size)
+{
+    return length == size && (size == SROM_SMALL_SIZE || size == SROM_LARGE_SIZE);
+}
+
 static void mend(uint8_t *image, size_t length, srom_layout layout)
 {
-    if (length != SROM_IMAGE_LENGTH)
+    if (!is_of_size(length, layout.size))
         return;
-    image[16] = (uint8_t)srom_id_crc(image, length).value;
+    image[16] = (uint8_t)srom_id_crc(image, length, layout.size).value;
     uint16_t crc = srom_crc(image, length, layout).value;
-    size_t at = layout.magic ? CRC_BEFORE_BLOCK : CRC;
+    size_t at = length - CRC - (layout.magic ? BLOCK_LENGTH : 0);
     image[at] = (uint8_t)crc;
     image[at + 1] = (uint8_t)(crc >> 8);
     if (layout.magic)
-        image[BLOCK_CRC] = (uint8_t)srom_magic_crc(image, length).value;
+        image[length - BLOCK_CRC] = (uint8_t)srom_magic_crc(image, length, layout.size).value;
+}
+
+/* Refusal 1, which comes before all others, exactly where the image has not the stated size, or that is no ROM's. */
+static void check_size(uint8_t number, size_t length, uint16_t size)
+{
+    check((number == SROM_BAD_IMAGE_LENGTH) == !is_of_size(length, size));
+}
+
+static void check_crcs(const uint8_t *image, size_t length, srom_layout layout)
+{
+    srom_checksum crcs[] = {srom_crc(image, length, layout), srom_id_crc(image, length, layout.size),
+                            srom_magic_crc(image, length, layout.size)};
+    for (size_t k = 0; k < sizeof crcs / sizeof *crcs; k++) {
+        check_size(crcs[k].number, length, layout.size);
+        check(crcs[k].number == SROM_ACCEPTED || (crcs[k].number == SROM_BAD_IMAGE_LENGTH && crcs[k].value == 0));
+    }
 }
 
 static void read_and_view(const uint8_t *image, size_t length, srom_arguments arguments, size_t room)
@@ -83,6 +108,7 @@ static void read_and_view(const uint8_t *image, size_t length, srom_arguments ar
     reach(SKIPPED, answer.skipped);
     reach(RESETS, answer.resets);
     reach(POWER, answer.power);
+    check_size(answer.number, length, arguments.layout.size);
     if (answer.number != SROM_ACCEPTED) {
         check(memcmp(kinds.bytes, before.bytes, room * 2) == 0 && memcmp(offsets.bytes, before.bytes, room * 2) == 0);
         check(answer.blocks == 0 && answer.listed == 0 && answer.address == 0 && answer.default_number == 0);
@@ -112,24 +138,26 @@ static bool say_the_same(const srom_magic *magic, const srom_magic *other)
 }
 
 /* What is read of the block is written again over any block, and what is written is read. */
-static void return_block(const uint8_t *image, size_t length)
+static void return_block(const uint8_t *image, size_t length, uint16_t size)
 {
     static const srom_magic nothing;
-    srom_magic_answer answer = srom_read_magic(image, length);
+    srom_magic_answer answer = srom_read_magic(image, length, size);
     reach(READ_MAGIC, answer.number);
+    check_size(answer.number, length, size);
     if (answer.number != SROM_ACCEPTED)
         check(say_the_same(&answer.magic, &nothing));
     lent written = lend(image, length);
-    if (length == SROM_IMAGE_LENGTH)
-        memset(written.bytes + BLOCK, GUARD_BYTE, BLOCK_LENGTH);
+    size_t board = length < BLOCK_LENGTH ? 0 : length - BLOCK_LENGTH;
+    memset(written.bytes + board, GUARD_BYTE, length - board);
     lent before = lend(written.bytes, length);
-    uint8_t number = srom_write_magic(answer.magic, written.bytes, length);
+    uint8_t number = srom_write_magic(answer.magic, written.bytes, length, size);
+    check_size(number, length, size);
     if (number != SROM_ACCEPTED)
-        check(length != SROM_IMAGE_LENGTH && memcmp(written.bytes, before.bytes, length) == 0);
+        check(number == SROM_BAD_IMAGE_LENGTH && memcmp(written.bytes, before.bytes, length) == 0);
     else {
-        srom_magic_answer again = srom_read_magic(written.bytes, length);
+        srom_magic_answer again = srom_read_magic(written.bytes, length, size);
         check(again.number == SROM_ACCEPTED && say_the_same(&again.magic, &answer.magic));
-        check(memcmp(written.bytes, image, answer.number == SROM_ACCEPTED ? length : BLOCK) == 0);
+        check(memcmp(written.bytes, image, answer.number == SROM_ACCEPTED ? length : board) == 0);
     }
     take_back(written);
     take_back(before);
@@ -166,10 +194,10 @@ static bool is_fixed(uint16_t connection)
 static uint8_t fixed_choice(const srom_walk *walk)
 {
     uint8_t choice = SROM_NONE;
-    for (uint8_t k = 0; k < sizeof walk->rows.fixed; k++)
+    for (size_t k = 0; k < sizeof walk->rows.fixed; k++)
         if (walk->rows.fixed[k] != 0) {
             check(walk->rows.fixed[k] == 1 && walk->rows.listed[k] == 1 && k < walk->blocks);
-            choice = k;
+            choice = (uint8_t)k;
         }
     return choice;
 }
@@ -208,6 +236,8 @@ static void walk_over(const uint8_t *image, size_t length, srom_arguments argume
         } else if (call % 8 == 1 || i == 0) {
             walked = srom_load(walk, image, length, arguments);
             reach(LOAD, walked.number);
+            if (walked.number != SROM_WALK_LOADED)
+                check_size(walked.number, length, arguments.layout.size);
         } else {
             size_t count = call < left ? call : left;
             lent report = lend(calls, count);
@@ -226,26 +256,29 @@ static void walk_over(const uint8_t *image, size_t length, srom_arguments argume
     }
 }
 
-/* A sheet, written to an image with a block that is right or not. */
-static void return_sheet(const uint8_t *sheet, size_t length, srom_layout layout, bool has_block)
+/* A sheet, written to an image with a block that is right or not. Only the smaller size is written to. */
+static void return_sheet(const uint8_t *sheet, size_t length, srom_layout layout, bool is_large, bool has_block)
 {
     static const srom_magic nothing;
-    lent image = lend(NULL, SROM_IMAGE_LENGTH), lent_sheet = lend(sheet, length);
+    uint16_t size = is_large ? SROM_LARGE_SIZE : SROM_SMALL_SIZE;
+    lent image = lend(NULL, size), lent_sheet = lend(sheet, length);
     if (has_block)
-        check(srom_write_magic(nothing, image.bytes, SROM_IMAGE_LENGTH) == SROM_ACCEPTED);
-    lent before = lend(image.bytes, SROM_IMAGE_LENGTH);
-    uint8_t number = srom_write(lent_sheet.bytes, length, layout, image.bytes, SROM_IMAGE_LENGTH);
+        check(srom_write_magic(nothing, image.bytes, size, size) == SROM_ACCEPTED);
+    lent before = lend(image.bytes, size);
+    uint8_t number = srom_write(lent_sheet.bytes, length, layout, image.bytes, size);
     reach(WRITE, number);
+    if (is_large || layout.size != SROM_SMALL_SIZE)
+        check(number == SROM_BAD_SHEET || number == SROM_BAD_IMAGE_LENGTH);
     if (number != SROM_ACCEPTED)
-        check(memcmp(image.bytes, before.bytes, SROM_IMAGE_LENGTH) == 0);
+        check(memcmp(image.bytes, before.bytes, size) == 0);
     else {
         lent again = lend(NULL, MOST_ELEMENTS);
         uint16_t chip = (uint16_t)(lent_sheet.bytes[27] | lent_sheet.bytes[28] << 8);
-        srom_made made = srom_make_sheet(image.bytes, SROM_IMAGE_LENGTH, chip, layout, again.bytes, MOST_ELEMENTS);
+        srom_made made = srom_make_sheet(image.bytes, size, chip, layout, again.bytes, MOST_ELEMENTS);
         check(made.number == SROM_ACCEPTED && made.length == length);
         check(memcmp(again.bytes, lent_sheet.bytes, length) == 0);
         if (layout.magic)
-            check(memcmp(image.bytes + BLOCK, before.bytes + BLOCK, BLOCK_LENGTH) == 0);
+            check(memcmp(image.bytes + size - BLOCK_LENGTH, before.bytes + size - BLOCK_LENGTH, BLOCK_LENGTH) == 0);
         take_back(again);
     }
     take_back(image);
@@ -258,10 +291,12 @@ static void return_image(const uint8_t *image, size_t length, uint16_t chip, sro
     lent buffer = lend(NULL, room);
     srom_made made = srom_make_sheet(image, length, chip, layout, buffer.bytes, room);
     reach(MAKE, made.number);
+    check((made.number == SROM_BAD_IMAGE_LENGTH) == !(length == SROM_SMALL_SIZE && layout.size == SROM_SMALL_SIZE));
     if (made.number == SROM_ACCEPTED) {
-        uint8_t back[SROM_IMAGE_LENGTH] = {0};
+        uint8_t back[SROM_SMALL_SIZE] = {0};
+        size_t board = sizeof back - BLOCK_LENGTH;
         if (layout.magic)
-            memcpy(back + BLOCK, image + BLOCK, BLOCK_LENGTH);
+            memcpy(back + board, image + board, BLOCK_LENGTH);
         check(srom_write(buffer.bytes, made.length, layout, back, sizeof back) == SROM_ACCEPTED);
         check(memcmp(back, image, sizeof back) == 0);
     } else
@@ -272,25 +307,28 @@ static void return_image(const uint8_t *image, size_t length, uint16_t chip, sro
 int LLVMFuzzerTestOneInput(const uint8_t *data, size_t size)
 {
     static const uint16_t chips[8] = {21041, 21140, 21142, 21143, 21145, 21143, 21140, 0};
-    if (size < 6)
+    if (size < HEAD)
         return 0;
     uint8_t flags = data[0];
-    srom_layout layout = {(flags & MAGIC) != 0};
+    bool is_large = (flags & LARGE) != 0;
+    uint16_t right = is_large ? SROM_LARGE_SIZE : SROM_SMALL_SIZE, other = (uint16_t)(data[5] | data[6] << 8);
+    srom_layout layout = {flags & OTHER_SIZE ? other : right, (flags & MAGIC) != 0};
     srom_arguments arguments = {chips[data[1] % 8], data[2] % 40, data[3] % 10, layout};
-    size_t room = data[4], length = flags & OTHER_LENGTH ? data[5] : SROM_IMAGE_LENGTH;
-    data += 6;
-    size -= 6;
+    size_t room = data[4], length = flags & OTHER_LENGTH ? other % 1024u : right;
+    data += HEAD;
+    size -= HEAD;
     if (size < length)
         return 0;
     lent image = lend(data, length);
     if (flags & MENDS)
         mend(image.bytes, length, layout);
     lent as_lent = lend(image.bytes, length);
+    check_crcs(image.bytes, length, layout);
     read_and_view(image.bytes, length, arguments, room);
-    return_block(image.bytes, length);
+    return_block(image.bytes, length, layout.size);
     walk_over(image.bytes, length, arguments, data + length, size - length);
     return_image(image.bytes, length, arguments.chip, layout, room * 2);
-    return_sheet(data, size, layout, flags & MENDS);
+    return_sheet(data, size, layout, is_large, flags & MENDS);
     check(memcmp(image.bytes, as_lent.bytes, length) == 0);
     take_back(image);
     take_back(as_lent);

@@ -25,7 +25,8 @@ extern "C" {
 /* ---- Numbers ---- */
 
 enum {
-    SROM_IMAGE_LENGTH = 128,  /* bytes of an image */
+    SROM_SMALL_SIZE = 128,    /* bytes of an image: of a ROM of 1K bits, or */
+    SROM_LARGE_SIZE = 512,    /* of one of 4K bits */
     SROM_LONGEST_SHEET = 398, /* bytes of the longest sheet of an accepted image */
     SROM_NEWEST_LEVEL = 7,    /* a reader of level n knows the extended types below n */
     SROM_NONE = 255           /* no default block, no selected block */
@@ -34,12 +35,13 @@ enum {
 /* Why a call is refused. */
 enum {
     SROM_ACCEPTED = 0,
-    SROM_BAD_IMAGE_LENGTH = 1,     /* image not 128 bytes */
+    SROM_BAD_IMAGE_LENGTH = 1,     /* image not of the stated size, or a stated size neither 128 nor 512, or not 128 with a
+                                      sheet */
     SROM_BAD_VERSION = 2,          /* version neither 3 nor 4 */
     SROM_BAD_SROM_CRC = 3,         /* SROM CRC differs */
     SROM_BAD_ID_CRC = 4,           /* ID CRC differs */
-    SROM_BAD_COUNT = 5,            /* controller count not 1 to 32 (20 with a Magic Packet block), or the reserved byte behind
-                                      the controllers not 0 */
+    SROM_BAD_COUNT = 5,            /* controller count not 1 to 32 (20 in 128 bytes with a Magic Packet block), or the reserved
+                                      byte behind the controllers not 0 */
     SROM_NO_CONTROLLER = 6,        /* controller not below the count */
     SROM_NO_CHIP = 7,              /* none of the chips below */
     SROM_BAD_LEVEL = 8,            /* level over SROM_NEWEST_LEVEL */
@@ -47,7 +49,7 @@ enum {
     SROM_LEAF_OUTSIDE = 10,        /* leaf header not between the controllers and the maker's bytes */
     SROM_BAD_CONNECTION = 11,      /* connection type that the chip does not take */
     SROM_ARRAY_TOO_SHORT = 12,     /* lent array shorter than the block count, or sheet buffer too short */
-    SROM_BLOCK_OUTSIDE = 13,       /* block past byte 123 (91 with a Magic Packet block) */
+    SROM_BLOCK_OUTSIDE = 13,       /* block that does not end before the maker's bytes */
     SROM_BAD_BLOCK_TYPE = 14,      /* extended length 0, or a compact block or known type that the chip does not permit */
     SROM_BAD_BLOCK_LENGTH = 15,    /* length wrong for the type, or a sequence's count (g or r) past the block's end */
     SROM_BAD_BLOCK_CODE = 16,      /* media code or reserved bits */
@@ -59,7 +61,7 @@ enum {
     SROM_TOO_MANY_LOOKS = 23,      /* 65,535 looks */
     SROM_BAD_SHEET = 24,           /* sheet length or sum of sizes */
     SROM_BAD_SHEET_ENTRY = 25,     /* kind, body or control byte that no image of the chip can hold */
-    SROM_LEAF_TOO_LONG = 26,       /* leaf past byte 123 (91 with a Magic Packet block) */
+    SROM_LEAF_TOO_LONG = 26,       /* leaf of a sheet past byte 123 (91 with a Magic Packet block) */
     SROM_NOT_TIDY = 27,            /* more than one controller, leaf not at 30, or bytes behind the leaf not 0 */
     SROM_BAD_MAGIC_CRC = 29,       /* CRC of the Magic Packet block differs */
     SROM_BAD_MAGIC_RESERVED = 30,  /* reserved byte of the Magic Packet block not 0 */
@@ -84,19 +86,21 @@ enum {
 /* ---- Layout ---- */
 
 /*
- * Whether a Magic Packet block, by which a card wakes its station, stands at the end of an image. Nothing in the image says
- * so: the caller does, and only then is the block judged. It moves what stands before it:
+ * How many bytes an image should have, and whether a Magic Packet block, by which a card wakes its station, stands at its end.
+ * Nothing in the image says either: the caller does. An image of another length is refused, and so is any other size than 128
+ * and 512; the block is judged only where it is said to be there. Both move what stands at the end of the board's part:
  *
- *                          without it    with it
- *     leaves end before    124           92
- *     the maker's bytes    124, 125      92, 93
- *     SROM CRC             126, 127      94, 95
- *     which covers         0 to 125      0 to 93
- *     controllers          1 to 32       1 to 20
- *     the block            none          96 to 127
+ *                          128 bytes    and the block    512 bytes    and the block
+ *     leaves end before    124          92               508          476
+ *     the maker's bytes    124, 125     92, 93           508, 509     476, 477
+ *     SROM CRC             126, 127     94, 95           510, 511     478, 479
+ *     which covers         0 to 125     0 to 93          0 to 509     0 to 477
+ *     controllers          1 to 32      1 to 20          1 to 32      1 to 32
+ *     the block            none         96 to 127        none         480 to 511
  */
 typedef struct srom_layout {
-    bool magic; /* the block is there */
+    uint16_t size; /* bytes of the image: SROM_SMALL_SIZE or SROM_LARGE_SIZE */
+    bool magic;    /* the block is there */
 } srom_layout;
 
 /* ---- Checksums ---- */
@@ -106,14 +110,14 @@ typedef struct srom_checksum {
     uint16_t value;
 } srom_checksum;
 
-/* The CRC that bytes 126 and 127, or with a Magic Packet block 94 and 95, should hold, low byte first. Refusal: 1. */
+/* The CRC that the board's last two bytes, which the table above has, should hold, low byte first. Refusal: 1. */
 srom_checksum srom_crc(const uint8_t *image, size_t image_length, srom_layout layout);
 
-/* The CRC that byte 16 should hold. Refusal: 1. */
-srom_checksum srom_id_crc(const uint8_t *image, size_t image_length);
+/* The CRC that byte 16 of an image of this size should hold. Refusal: 1. */
+srom_checksum srom_id_crc(const uint8_t *image, size_t image_length, uint16_t size);
 
-/* The CRC that byte 126 of a Magic Packet block should hold. Refusal: 1. */
-srom_checksum srom_magic_crc(const uint8_t *image, size_t image_length);
+/* The CRC that the Magic Packet block of an image of this size should hold, in byte 126 or 510. Refusal: 1. */
+srom_checksum srom_magic_crc(const uint8_t *image, size_t image_length, uint16_t size);
 
 /* ---- Reading ---- */
 
@@ -140,8 +144,8 @@ typedef struct srom_answer {
 
 /*
  * The media table of a controller's leaf, in autosense order: kinds and byte offsets of the listed blocks, from the last block
- * to the first. Elements behind the listed ones are unchanged; on a refusal both arrays are. Arrays of 91 elements are long
- * enough for every image that is accepted.
+ * to the first. Elements behind the listed ones are unchanged; on a refusal both arrays are. Arrays of 255 elements are long
+ * enough for every image that is accepted, and of 91 for one of 128 bytes.
  * Refusals: 1 to 4, 29 and 30 where the layout has the Magic Packet block, 5 to 18, 31, in this order, the blocks judged one
  * after another (13 to 17 each), then 18 and 31 over all that the reader knows.
  */
@@ -163,15 +167,15 @@ srom_part srom_view(const uint8_t *image, size_t image_length, srom_arguments ar
 /* ---- The Magic Packet block ---- */
 
 /*
- * The 21143 from revision 2.0 on and the 21145 have it. Words stand low byte first:
+ * The 21143 from revision 2.0 on and the 21145 have it, in the last 32 bytes of an image. Words stand low byte first:
  *
- *     byte        holds
- *     96 to 101   SecureON password, its first byte first; the 21145 takes none, and has zeros here
- *     102 to 107  IEEE address that packets must have to wake the station, its first byte first
- *     108, 109    command (word)
- *     110 to 125  reserved, 0
- *     126         the CRC of words 48 to 62 and then byte 127, by the rule of the ID CRC
- *     127         reserved, 0
+ *     of 128      of 512      holds
+ *     96 to 101   480 to 485  SecureON password, its first byte first; the 21145 takes none, and has zeros here
+ *     102 to 107  486 to 491  IEEE address that packets must have to wake the station, its first byte first
+ *     108, 109    492, 493    command (word)
+ *     110 to 125  494 to 509  reserved, 0
+ *     126         510         the CRC of the block's words but the last, and then its last byte, by the rule of the ID CRC
+ *     127         511         reserved, 0
  *
  * The command's bits: 0 MAGIC_DIS, do not wake; 1 Sec_ON_En, the packet must have the password; the media that are sensed
  * meanwhile, 3 BNC, 4 AUI or, on the 21145, HomeRun, 5 TP10, 6 MII, 7 SYM; 8 LOCK, the command register cannot be read or
@@ -188,22 +192,22 @@ typedef struct srom_magic_answer {
     srom_magic magic;
 } srom_magic_answer;
 
-/* What the block says, whatever stands before it. Refusals: 1, 29, 30. */
-srom_magic_answer srom_read_magic(const uint8_t *image, size_t image_length);
+/* What the block of an image of this size says, whatever stands before it. Refusals: 1, 29, 30. */
+srom_magic_answer srom_read_magic(const uint8_t *image, size_t image_length, uint16_t size);
 
 /*
- * Writes the block, its reserved bytes and its CRC included, to bytes 96 to 127 of an image, and changes no other byte. What
- * was written is read back. Refusal: 1.
+ * Writes the block, its reserved bytes and its CRC included, to the last 32 bytes of an image of this size, and changes no
+ * other byte. What was written is read back. Refusal: 1.
  */
-uint8_t srom_write_magic(srom_magic magic, uint8_t *image, size_t image_length);
+uint8_t srom_write_magic(srom_magic magic, uint8_t *image, size_t image_length, uint16_t size);
 
 /* ---- The autosense walk ---- */
 
-/* A row of flags for each property, by block number. */
+/* A row of flags for each property, by block number, of which the highest is 254. */
 typedef struct srom_rows {
-    uint8_t listed[128];         /* 1 for an entry of the media table */
-    uint8_t active_invalid[128]; /* 1 for an entry with Active_Invalid */
-    uint8_t fixed[128];          /* 1 for an entry with the medium of a fixed connection type; all 0 under other types */
+    uint8_t listed[256];         /* 1 for an entry of the media table */
+    uint8_t active_invalid[256]; /* 1 for an entry with Active_Invalid */
+    uint8_t fixed[256];          /* 1 for an entry with the medium of a fixed connection type; all 0 under other types */
 } srom_rows;
 
 /* A walk's state, passed and returned by value. A load sets the first five fields, and a look changes the last four. */
@@ -256,8 +260,9 @@ srom_walked srom_clear(srom_walk walk);
 /* ---- Sheets ---- */
 
 /*
- * A sheet says what an image of one controller holds, without what can be worked out: CRCs, offsets, lengths of blocks. Words
- * stand low byte first. N is the number of blocks, T the sum of the body sizes, and a sheet has exactly 34 + 3 * N + T bytes:
+ * A sheet says what an image of one controller holds, without what can be worked out: CRCs, offsets, lengths of blocks. Sheets
+ * are of images of 128 bytes: with any other stated size they are neither written nor made. Words stand low byte first. N is
+ * the number of blocks, T the sum of the body sizes, and a sheet has exactly 34 + 3 * N + T bytes:
  *
  *     byte        holds
  *     0           N
@@ -284,7 +289,8 @@ srom_walked srom_clear(srom_walk walk);
  * Writes the image of a sheet: one controller, its leaf at byte 30, both CRCs, zeros elsewhere. With a Magic Packet block that
  * is bytes 0 to 95; bytes 96 to 127 are kept as the image has them, and judged with the rest, so the block must stand there
  * before the call (srom_write_magic). The image is unchanged on a refusal.
- * Refusals: 24, 1, 7, 25, 26, then those of srom_read without 12 for controller 0 at the newest level in the layout.
+ * Refusals: 24, 1, for any size but 128 too, 7, 25, 26, then those of srom_read without 12 for controller 0 at the newest level
+ * in the layout.
  */
 uint8_t srom_write(const uint8_t *sheet, size_t sheet_length, srom_layout layout, uint8_t *image, size_t image_length);
 
@@ -298,7 +304,8 @@ typedef struct srom_made {
  * buffer behind the sheet are unchanged; on a refusal all of them are. Writing the sheet gives the image back, with a Magic
  * Packet block where the same block stands there already, and a sheet that was written comes back byte for byte. A buffer of
  * SROM_LONGEST_SHEET bytes is long enough for every image.
- * Refusals: those of srom_read without 12, for controller 0 at the newest level in the layout, then 27, then 12.
+ * Refusals: those of srom_read without 12, for controller 0 at the newest level in the layout, with 1 for any size but 128 too,
+ * then 27, then 12.
  */
 srom_made srom_make_sheet(const uint8_t *image, size_t image_length, uint16_t chip, srom_layout layout,
                           uint8_t *buffer, size_t buffer_length);

@@ -3,10 +3,10 @@
  *
  *     probe IMAGE CHIP CONTROLLER [magic] LINKS..
  *
- * IMAGE is a file of 128 bytes, in place of the words that a driver clocks out of CSR9; the word `magic` says that it has a
- * Magic Packet block. Each LINKS is a row of 0 and 1, one digit a block in the order in which the blocks stand, as the link
- * tests of the media would report. Exit status: 0 a medium is selected, 1 the image or a look is refused or nothing is
- * selected, 2 bad usage or an unreadable file.
+ * IMAGE is a file of 128 or 512 bytes, in place of the words that a driver clocks out of CSR9. Its length is the ROM's size, and
+ * the word `magic` says that it has a Magic Packet block. Each LINKS is a row of 0 and 1, one digit a block in the order in
+ * which the blocks stand, as the link tests of the media would report. Exit status: 0 a medium is selected, 1 the image or a
+ * look is refused or nothing is selected, 2 bad usage or an unreadable file.
  */
 #include <srom.h>
 
@@ -15,11 +15,11 @@
 #include <stdlib.h>
 #include <string.h>
 
-enum { MOST_BLOCKS = 91, MOST_LINKS = 255 };
+enum { MOST_BLOCKS = 255 };
 
 static void print_block(const uint8_t *image, srom_arguments arguments, uint16_t kind, uint16_t offset, size_t entry)
 {
-    srom_part block = srom_view(image, SROM_IMAGE_LENGTH, arguments, entry);
+    srom_part block = srom_view(image, arguments.layout.size, arguments, entry);
     printf("  entry %zu: ", entry);
     if (kind == SROM_KIND_COMPACT)
         printf("compact");
@@ -37,7 +37,7 @@ static void print_block(const uint8_t *image, srom_arguments arguments, uint16_t
 static uint8_t list_media(const uint8_t *image, srom_arguments arguments)
 {
     uint16_t kinds[MOST_BLOCKS], offsets[MOST_BLOCKS];
-    srom_answer answer = srom_read(image, SROM_IMAGE_LENGTH, arguments, kinds, MOST_BLOCKS, offsets, MOST_BLOCKS);
+    srom_answer answer = srom_read(image, arguments.layout.size, arguments, kinds, MOST_BLOCKS, offsets, MOST_BLOCKS);
     if (answer.number != SROM_ACCEPTED) {
         printf("refused %u\n", (unsigned)answer.number);
         return answer.number;
@@ -51,9 +51,9 @@ static uint8_t list_media(const uint8_t *image, srom_arguments arguments)
 }
 
 /* Prints the Magic Packet block of an accepted image, which a driver gives the chip before the station sleeps. */
-static void print_magic(const uint8_t *image)
+static void print_magic(const uint8_t *image, uint16_t size)
 {
-    srom_magic magic = srom_read_magic(image, SROM_IMAGE_LENGTH).magic;
+    srom_magic magic = srom_read_magic(image, size, size).magic;
     printf("wakes by address ");
     for (size_t i = 0; i < sizeof magic.address; i++)
         printf("%02x", magic.address[i]);
@@ -64,10 +64,10 @@ static void print_magic(const uint8_t *image)
 }
 
 /* A row of 0 and 1 as a report; how many bytes it has. */
-static size_t report_of(const char *links, uint8_t report[MOST_LINKS])
+static size_t report_of(const char *links, uint8_t report[MOST_BLOCKS])
 {
     size_t count = 0;
-    for (; links[count] != '\0' && count < MOST_LINKS; count++)
+    for (; links[count] != '\0' && count < MOST_BLOCKS; count++)
         report[count] = (uint8_t)(links[count] - '0');
     return count;
 }
@@ -116,7 +116,7 @@ static void print_step(srom_walk before, srom_walk after, const uint8_t *report)
 /* One look with a row of 0 and 1. */
 static srom_walked look(srom_walk walk, const char *links)
 {
-    uint8_t report[MOST_LINKS];
+    uint8_t report[MOST_BLOCKS];
     size_t count = report_of(links, report);
     srom_walked seen = srom_look(walk, report, count);
     printf("links %s: ", links);
@@ -127,35 +127,37 @@ static srom_walked look(srom_walk walk, const char *links)
     return seen;
 }
 
-static bool read_image(const char *name, uint8_t image[SROM_IMAGE_LENGTH])
+/* The file's length, which is the ROM's size; 0 where no ROM has that. */
+static uint16_t read_image(const char *name, uint8_t image[SROM_LARGE_SIZE])
 {
     FILE *file = fopen(name, "rb");
     if (file == NULL)
-        return false;
-    size_t got = fread(image, 1, SROM_IMAGE_LENGTH, file);
-    bool whole = got == SROM_IMAGE_LENGTH && fgetc(file) == EOF;
+        return 0;
+    size_t got = fread(image, 1, SROM_LARGE_SIZE, file);
+    bool whole = (got == SROM_SMALL_SIZE || got == SROM_LARGE_SIZE) && fgetc(file) == EOF;
     fclose(file);
-    return whole;
+    return whole ? (uint16_t)got : 0;
 }
 
 int main(int argc, char **argv)
 {
-    uint8_t image[SROM_IMAGE_LENGTH];
+    uint8_t image[SROM_LARGE_SIZE];
     if (argc < 4) {
         fprintf(stderr, "usage: %s IMAGE CHIP CONTROLLER [magic] LINKS..\n", argv[0]);
         return 2;
     }
-    if (!read_image(argv[1], image)) {
-        fprintf(stderr, "%s: not a file of %d bytes\n", argv[1], SROM_IMAGE_LENGTH);
+    uint16_t size = read_image(argv[1], image);
+    if (size == 0) {
+        fprintf(stderr, "%s: not a file of %d or %d bytes\n", argv[1], SROM_SMALL_SIZE, SROM_LARGE_SIZE);
         return 2;
     }
-    srom_layout layout = {argc > 4 && strcmp(argv[4], "magic") == 0};
+    srom_layout layout = {size, argc > 4 && strcmp(argv[4], "magic") == 0};
     srom_arguments arguments = {(uint16_t)atoi(argv[2]), (uint8_t)atoi(argv[3]), SROM_NEWEST_LEVEL, layout};
     if (list_media(image, arguments) != SROM_ACCEPTED)
         return 1;
     if (layout.magic)
-        print_magic(image);
-    srom_walked walked = srom_load(srom_fresh(), image, SROM_IMAGE_LENGTH, arguments);
+        print_magic(image, size);
+    srom_walked walked = srom_load(srom_fresh(), image, size, arguments);
     for (int i = layout.magic ? 5 : 4; i < argc && walked.number == SROM_ACCEPTED; i++)
         walked = look(walked.walk, argv[i]);
     return walked.number == SROM_ACCEPTED && walked.walk.selected != SROM_NONE ? 0 : 1;

@@ -38,9 +38,9 @@ row-flags p xs (s ∷ bs) (suc n) h =
     ∙ append-assoc xs (v ∷ []) _
     ∙ ap (λ (k : ℕ). xs ++ (v ∷ (map (λ s. one (p s)) bs ++ replicate k 0))) f
 
-all-flags : (p : List ℕ → Bool) (bs : List (List ℕ)) → length bs ≤ 128 → rowFrom p 0 bs noFlags ≡ flags p bs
+all-flags : (p : List ℕ → Bool) (bs : List (List ℕ)) → length bs ≤ 256 → rowFrom p 0 bs noFlags ≡ flags p bs
 unfolding noFlags flags
-all-flags p bs h = row-flags p [] bs 128 h
+all-flags p bs h = row-flags p [] bs 256 h
 
 -- what a block is found to be has its flags of Active_Invalid and of the fixed medium
 one-and : (x y : Bool) → one (x && y) ≡ pick x (one y) 0
@@ -99,14 +99,14 @@ module _ (connection row level count : ℕ) (rest : List ℕ) {whole : List (Lis
       )
       (record { accepted = next-left row level count rest (inv .accepted) m eb; is-listed = l; is-invalid = i; is-fixed = x })
 
-  pub rows-done : (blocks : List ℕ) → whole ≡ cut row count blocks → count ≤ 91 → count ≤ k
+  pub rows-done : (blocks : List ℕ) → whole ≡ cut row count blocks → count < 256 → count ≤ k
       → record { listed = listed; «active_invalid» = invalid; fixed = fixed } ≡ rowsOf connection row level whole
   unfolding rowFrom rowsOf
   rows-done blocks e few h =
       let l = rw cut-none at (inv .is-listed) in
       let i = rw cut-none at (inv .is-invalid) in
       let x = rw cut-none at (inv .is-fixed) in
-      let short : length whole ≤ 128 = rw e (omega (arith, cut-length row count blocks)) in
+      let short : length whole ≤ 256 = rw e (omega (arith, cut-length row count blocks)) in
       rw (
         l ∙ all-flags (isListed row level) whole short,
         i ∙ all-flags (isInvalid row level) whole short,

@@ -13,7 +13,6 @@ pub use walk::Way;
 ghost use mathlib.Core.Path.{_≡_};
 ghost use mathlib.Core.Bool.{_||_, _&&_};
 ghost use lib.Dec.{eqb};
-ghost use Prim.Native.Nat.{_≤_};
 ghost use Rattle.rom.specs.Geometry.{none};
 ghost use Rattle.rom.specs.Refusal.{firstMet};
 ghost use Rattle.block.specs.Answer.{listedIn};
@@ -57,10 +56,10 @@ const MOST_LOOKS: u16 = 65535;
 // ## Fresh and cleared
 
 // A row without a flag.
-fn no_flags() -> [u8; 128]
+fn no_flags() -> [u8; 256]
     ensures { λ r. ⌜ r ≡ noFlags ⌝ }
 {
-    [0u8; 128]
+    [0u8; 256]
 }
 
 // Rows of no block.
@@ -189,7 +188,6 @@ fn fixed_flag(b: Block, connection: u16) -> u8
 // The rows of a leaf's accepted blocks, under its connection type.
 fn rows_of(blocks: &[u8], count: u8, row: usize, level: u8, connection: u16) -> Rows
     requires { ⌜ firstMet (blockCauses row level (cut row count (now blocks))) ≡ 0 ⌝ }
-    requires { ⌜ count ≤ 91 ⌝ }
     ensures { λ r. ⌜ r ≡ rowsOf connection row level (cut row count (now (blocks .entry))) ⌝ }
 {
     let mut listed = no_flags();

@@ -8,12 +8,15 @@ use console::arguments;
 use console::arguments::Words;
 use console::command;
 use console::input;
+use console::input::Input;
 use console::status;
 use drivers::looks;
 use drivers::older;
 use libc::STDOUT_FILENO;
 use reader::Arguments;
+use report::size;
 use report::words;
+use rom::Layout;
 use rom::refusal;
 use text::line::Line;
 use text::line::say;
@@ -28,11 +31,11 @@ fn usage() -> u8 {
   older FILE CHIP [OPTIONS]           what readers of each level see of it
   walk FILE CHIP REPORT.. [OPTIONS]   a look with each REPORT, a row of 0 and 1
                                       with a 1 for each block whose link is up
-  sheet FILE CHIP OUT [--magic] [--force]
+  sheet FILE CHIP OUT [--size N] [--magic] [--force]
                                       the image as a sheet
   write SHEET OUT [--magic FROM] [--force]
                                       the sheet as an image
-  magic FILE OUT --password P --address A --command C [--force]
+  magic FILE OUT --password P --address A --command C [--size N] [--force]
                                       the image with a new Magic Packet block
   map FILE CHIP OUT.svg [OPTIONS] [--force]
                                       a picture of the ROM
@@ -47,7 +50,8 @@ print words (0x08:  2034 0104); - is standard input. CHIP is 21041, 21140,
 
 OPTIONS are --controller N, which counts from 0 and is 0 where it is not given,
 --level N, 0 to 7, how many extended types the reader knows, which is the
-newest where it is not given, and --magic, for a card that is laid out with a
+newest where it is not given, --size N, how many bytes the ROM has, where its
+file's length is not to tell, and --magic, for a card that is laid out with a
 Magic Packet block. Options stand anywhere behind the command.
 
 write --magic keeps the block of the image FROM. P and A are six bytes as
@@ -92,26 +96,52 @@ fn refusals() -> u8 {
     status::ACCEPTED
 }
 
-// A command on the bytes of a file.
-fn run_on(bytes: &[u8], words: Words) -> u8 {
-    let layout = words.layout;
-    let arguments = Arguments {
+// The size of the ROM whose file has so many bytes.
+fn size_of(words: Words, length: usize) -> u16 {
+    size::size_for(words.sized, words.layout.size, length)
+}
+
+fn arguments_of(words: Words, length: usize) -> Arguments {
+    Arguments {
         chip: words.chip,
         controller: words.controller,
         level: words.level,
-        layout,
-    };
+        layout: Layout {
+            size: size_of(words, length),
+            magic: words.layout.magic,
+        },
+    }
+}
+
+// A command on the bytes of a file.
+fn run_on(bytes: &[u8], words: Words) -> u8 {
+    let arguments = arguments_of(words, bytes.len());
+    let given = words.sized;
     let force = words.force;
     let places = words.places;
     let command = words.command;
     match command {
-        command::READ => status::of(listing::show(bytes, arguments)),
-        command::OLDER => status::of(older::show(bytes, arguments)),
-        command::WALK => looks::show(bytes, arguments, places[2]),
-        command::SHEET => sheets::make(bytes, arguments, places[2], force),
-        command::MAP => picture::show(bytes, arguments, places[2], force),
-        _ => sheets::write(bytes, layout, words.from, places[1], force),
+        command::READ => status::of(listing::show(bytes, arguments, given)),
+        command::OLDER => status::of(older::show(bytes, arguments, given)),
+        command::WALK => looks::show(bytes, arguments, given, places[2]),
+        command::SHEET => sheets::make(bytes, arguments, given, places[2], force),
+        command::MAP => picture::show(bytes, arguments, given, places[2], force),
+        _ => sheets::write(bytes, words.layout, words.from, places[1], force),
     }
+}
+
+// `magic`, on what is in a file.
+fn write_magic(input: Input, words: Words) -> u8 {
+    let size = size_of(words, input.length);
+    let places = words.places;
+    packet::write(
+        input,
+        size,
+        words.sized,
+        words.magic,
+        places[1],
+        words.force,
+    )
 }
 
 // A command that takes a file.
@@ -122,7 +152,7 @@ fn run_with_file(words: Words) -> u8 {
         return status::USAGE;
     }
     if words.command == command::MAGIC {
-        return packet::write(input, words.magic, places[1], words.force);
+        return write_magic(input, words);
     }
     let bytes = input.bytes;
     run_on(part(&bytes, 0, input.length), words)

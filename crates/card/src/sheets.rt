@@ -37,8 +37,16 @@ fn show_untidy(image: &[u8], layout: Layout) {
     }
 }
 
-// Makes the sheet of an image, as the newest reader reads it for controller 0.
-pub fn make(image: &[u8], arguments: Arguments, place: usize, force: bool) -> u8 {
+// Sheets keep to the smaller size.
+fn show_length(image: &[u8]) {
+    line::of(
+        b"  the image has # bytes; sheets keep to size #",
+        [image.len() as u64, rom::SMALL_SIZE as u64, 0, 0],
+    ).print();
+}
+
+// Makes the sheet of an image, as the newest reader reads it for controller 0. The image's size may have been given.
+pub fn make(image: &[u8], arguments: Arguments, given: bool, place: usize, force: bool) -> u8 {
     let mut room = [0u8; ROOM];
     let made = maker::make(image, arguments.chip, arguments.layout, &mut room);
     let number = made.number;
@@ -50,7 +58,12 @@ pub fn make(image: &[u8], arguments: Arguments, place: usize, force: bool) -> u8
         show_untidy(image, arguments.layout);
         return status::REFUSED;
     }
-    report::show_refused(image, arguments, number);
+    if number == refusal::IMAGE_LENGTH {
+        report::show_refused_reading(arguments, given, number);
+        show_length(image);
+        return status::REFUSED;
+    }
+    report::show_refused(image, arguments, given, number);
     status::REFUSED
 }
 
@@ -68,10 +81,14 @@ fn show_lengths(bytes: &[u8]) {
 fn show_reason(sheet: &[u8], layout: Layout, image: &[u8], number: u8) {
     match number {
         refusal::SHEET => show_lengths(sheet),
-        refusal::IMAGE_LENGTH => report::show_length(image),
+        refusal::IMAGE_LENGTH => show_length(image),
         refusal::SHEET_ENTRY => {}
         refusal::LEAF_END => report::show_leaves_end(layout),
-        refusal::MAGIC_CRC | refusal::MAGIC_RESERVED => report::show_magic_field(image, number),
+        refusal::MAGIC_CRC | refusal::MAGIC_RESERVED => report::show_magic_field(
+            image,
+            layout.size,
+            number,
+        ),
         _ => say(b"  in the image that the sheet asks for"),
     }
 }
@@ -84,7 +101,7 @@ fn output_of(layout: Layout, from: usize) -> Input {
     Input {
         found: true,
         bytes: [0; held::ROOM],
-        length: rom::IMAGE_LENGTH,
+        length: rom::SMALL_LENGTH,
     }
 }
 

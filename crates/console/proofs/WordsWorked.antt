@@ -14,6 +14,8 @@ use Rattle.console.specs.Commands.{
   mostOf,
   takesArguments,
   takesForce,
+  takesChip,
+  takesSize,
   takesOption,
 }
 use Rattle.console.specs.Roles.{takesValue, roleOf}
@@ -31,6 +33,7 @@ use Rattle.console.specs.Claims.{WordsWorked}
 
 pub words-worked : WordsWorked
 unfolding pick sameBytes linesOf digitOf readOn decimalNumber hasKey wordsIn isOf runOf isMarked behindMark valueFrom optionTable optionOf
-    commandTable commandOf fewestOf mostOf takesArguments takesForce takesOption takesValue roleOf isInPlace areInPlace isSixBytes byteNamed
-    sixBytes spellsWord commandWord takenOf commandAgain commandCases roleAgain roleCases valueAgain valueCases
+    commandTable commandOf fewestOf mostOf takesArguments takesForce takesChip takesSize takesOption takesValue roleOf isInPlace
+    areInPlace isSixBytes byteNamed sixBytes spellsWord commandWord takenOf commandAgain commandCases roleAgain roleCases valueAgain
+    valueCases
 words-worked = (refl, refl, refl)

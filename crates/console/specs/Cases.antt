@@ -8,6 +8,7 @@ use Rattle.console.specs.Options.{
   plainWord,
   controllerOption,
   levelOption,
+  sizeOption,
   passwordOption,
   addressOption,
   commandOption,
@@ -45,7 +46,7 @@ takenOf command (o ∷ os) = pick (takesOption command o) (o ∷ takenOf command
 
 abbrev allOptions : List ℕ
 allOptions =
-    controllerOption ∷ levelOption ∷ passwordOption ∷ addressOption ∷ commandOption ∷ magicOption ∷ forceOption ∷ []
+    controllerOption ∷ levelOption ∷ sizeOption ∷ passwordOption ∷ addressOption ∷ commandOption ∷ magicOption ∷ forceOption ∷ []
 
 abbrev withCommand : String → ℕ → CommandCase
 withCommand name command = record {
@@ -64,13 +65,13 @@ taking name fewest most options = record { name = name; fewest = fewest; most = 
 -- 4 is no bound
 unfoldable pub commandCases : List CommandCase
 commandCases =
-    taking "read" 2 2 (controllerOption ∷ levelOption ∷ magicOption ∷ [])
-    ∷ taking "older" 2 2 (controllerOption ∷ levelOption ∷ magicOption ∷ [])
-    ∷ taking "walk" 3 4 (controllerOption ∷ levelOption ∷ magicOption ∷ [])
-    ∷ taking "sheet" 3 3 (magicOption ∷ forceOption ∷ [])
-    ∷ taking "map" 3 3 (controllerOption ∷ levelOption ∷ magicOption ∷ forceOption ∷ [])
+    taking "read" 2 2 (controllerOption ∷ levelOption ∷ sizeOption ∷ magicOption ∷ [])
+    ∷ taking "older" 2 2 (controllerOption ∷ levelOption ∷ sizeOption ∷ magicOption ∷ [])
+    ∷ taking "walk" 3 4 (controllerOption ∷ levelOption ∷ sizeOption ∷ magicOption ∷ [])
+    ∷ taking "sheet" 3 3 (sizeOption ∷ magicOption ∷ forceOption ∷ [])
+    ∷ taking "map" 3 3 (controllerOption ∷ levelOption ∷ sizeOption ∷ magicOption ∷ forceOption ∷ [])
     ∷ taking "write" 2 2 (magicOption ∷ forceOption ∷ [])
-    ∷ taking "magic" 2 2 (passwordOption ∷ addressOption ∷ commandOption ∷ forceOption ∷ [])
+    ∷ taking "magic" 2 2 (sizeOption ∷ passwordOption ∷ addressOption ∷ commandOption ∷ forceOption ∷ [])
     ∷ taking "refusals" 0 0 []
     ∷ taking "help" 0 0 []
     ∷ []
@@ -106,6 +107,8 @@ roleCases =
     ∷ behind magicCommand passwordOption "--address" optionValue
     ∷ behind magicCommand forceOption "--command" commandOption
     ∷ behind magicCommand optionValue "--password" passwordOption
+    ∷ behind readCommand plainWord "--size" sizeOption
+    ∷ behind readCommand sizeOption "256" optionValue
     ∷ behind readCommand plainWord "--controllers" noOption
     ∷ behind readCommand plainWord "-" plainWord
     ∷ []

@@ -7,7 +7,7 @@ use Rattle.rom.specs.Bytes.{pick}
 use Rattle.text.specs.Quoted.{quoted}
 use Rattle.text.specs.Numbers.{isAmong, decimalNumber}
 use Rattle.text.specs.Tables.{wordsFor}
-use Rattle.console.specs.Options.{levelOption, magicOption, forceOption}
+use Rattle.console.specs.Options.{sizeOption, magicOption, forceOption}
 
 abbrev pub readCommand : ℕ
 readCommand = 1
@@ -78,8 +78,13 @@ takesLayout command = leb command writeCommand
 abbrev pub takesFields : ℕ → Bool
 takesFields command = eqb command magicCommand
 
+-- those that read a card, and `magic`, take the size of its ROM
+unfoldable pub takesSize : ℕ → Bool
+takesSize command = takesFields command || takesChip command
+
 unfoldable pub takesOption : ℕ → ℕ → Bool
 takesOption command option =
     pick (eqb option forceOption) (takesForce command)
     (pick (eqb option magicOption) (takesLayout command)
-    (pick (ltb levelOption option) (takesFields command) (takesArguments command)))
+    (pick (eqb option sizeOption) (takesSize command)
+    (pick (ltb sizeOption option) (takesFields command) (takesArguments command))))

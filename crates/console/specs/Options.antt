@@ -20,31 +20,34 @@ controllerOption = 1
 abbrev pub levelOption : ℕ
 levelOption = 2
 
+abbrev pub sizeOption : ℕ
+sizeOption = 3
+
 abbrev pub passwordOption : ℕ
-passwordOption = 3
+passwordOption = 4
 
 abbrev pub addressOption : ℕ
-addressOption = 4
+addressOption = 5
 
 abbrev pub commandOption : ℕ
-commandOption = 5
+commandOption = 6
 
 abbrev pub magicOption : ℕ
-magicOption = 6
+magicOption = 7
 
 abbrev pub forceOption : ℕ
-forceOption = 7
+forceOption = 8
 
 abbrev pub noOption : ℕ
-noOption = 8
+noOption = 9
 
 abbrev pub optionValue : ℕ
-optionValue = 9
+optionValue = 10
 
 -- ## The option that a word is
 
 unfoldable pub optionTable : List ℕ
-optionTable = quoted "--controller 1\n--level 2\n--password 3\n--address 4\n--command 5\n--magic 6\n--force 7\n"
+optionTable = quoted "--controller 1\n--level 2\n--size 3\n--password 4\n--address 5\n--command 6\n--magic 7\n--force 8\n"
 
 -- a number of the table's, or past the last
 abbrev pub optionNumber : List ℕ → ℕ

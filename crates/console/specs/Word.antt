@@ -14,10 +14,6 @@ use Rattle.format.specs.Chips.{rowOf}
 abbrev pub isWord : String → List ℕ → Bool
 isWord s word = sameBytes word (quoted s)
 
--- the number that it is, or 256 where it is none below that
-unfoldable pub smallNumber : List ℕ → ℕ
-smallNumber word = pick (ltb 255 (decimalNumber word)) 256 (decimalNumber word)
-
 -- the chip that it names, or 0; the 21140A counts as 21140, and a number that is no chip's has row 5
 unfoldable pub chipNamed : List ℕ → ℕ
 chipNamed word =

@@ -16,11 +16,12 @@ const LONGEST: usize = 255;
 pub const KEPT: usize = 4;
 
 // The options by their numbers, of which 0 is none's.
-const OPTIONS: usize = 8;
+const OPTIONS: usize = 9;
 
 // What the words ask for. Not fine is what has been complained of. The plain words are those behind the command that are no
-// options and no values of options; the count of them goes no further than the places that are kept. `from` is the place of
-// the value of --magic in `write`, and `magic` what the options of `magic` say.
+// options and no values of options; the count of them goes no further than the places that are kept. The layout is as the
+// options say it, of the smaller size where --size is not given, and `sized` where it is. `from` is the place of the value
+// of --magic in `write`, and `magic` what the options of `magic` say.
 pub struct Words {
     pub fine: bool,
     pub command: u8,
@@ -30,6 +31,7 @@ pub struct Words {
     pub controller: u8,
     pub level: u8,
     pub layout: Layout,
+    pub sized: bool,
     pub from: usize,
     pub magic: Magic,
     pub force: bool,
@@ -74,10 +76,10 @@ fn role_at(place: usize, before: u8, command: u8) -> u8 {
     option::role_of(&room[..length], before, command)
 }
 
-fn small_at(place: usize) -> u16 {
+fn number_at(place: usize) -> u32 {
     let mut room = [0u8; LONGEST];
     let length = os::arg(place, &mut room);
-    option::small(&room[..length])
+    text::number(&room[..length])
 }
 
 fn chip_at(place: usize) -> u16 {
@@ -117,7 +119,11 @@ impl Words {
             chip: 0,
             controller: 0,
             level: NEWEST_LEVEL,
-            layout: rom::WITHOUT_MAGIC,
+            layout: Layout {
+                size: rom::SMALL_SIZE,
+                magic: false,
+            },
+            sized: false,
             from: 0,
             magic: Magic {
                 password: [0; value::BYTES],
@@ -143,6 +149,14 @@ impl Words {
             what,
             place,
             b"--controller N counts from 0, and --level N is 0 to 7",
+        )
+    }
+
+    fn wrong_size(self, what: &[u8], place: usize) -> Words {
+        self.wrong(
+            what,
+            place,
+            b"--size N is how many bytes the card's ROM has",
         )
     }
 
@@ -187,7 +201,7 @@ impl Words {
         let mut next = self;
         next.given[(option as usize) % OPTIONS] = true;
         if option == option::MAGIC {
-            next.layout = rom::WITH_MAGIC;
+            next.layout.magic = true;
         }
         if option == option::FORCE {
             next.force = true;
@@ -221,19 +235,19 @@ impl Words {
             return self.wrong(
                 b"no such option",
                 place,
-                b"the options are --password P, --address A, --command C and --force",
+                b"the options are --password P, --address A, --command C, --size N and --force",
             );
         }
         self.wrong(
             b"no such option",
             place,
-            b"the options are --controller N, --level N, --magic and --force",
+            b"the options are --controller N, --level N, --size N, --magic and --force",
         )
     }
 
     // The value of --controller or --level.
     fn with_number(self, option: u8, place: usize) -> Words {
-        let number = small_at(place);
+        let number = number_at(place);
         if 255 < number {
             return self.wrong_number(b"no number from 0 to 255", place);
         }
@@ -243,6 +257,19 @@ impl Words {
         } else {
             next.level = number as u8;
         }
+        next
+    }
+
+    // The value of --size.
+    fn with_size(self, place: usize) -> Words {
+        let number = number_at(place);
+        if 65_535 < number {
+            return self.wrong_size(b"no number from 0 to 65535", place);
+        }
+        let size = number as u16;
+        let mut next = self;
+        next.layout.size = size;
+        next.sized = true;
         next
     }
 
@@ -287,6 +314,7 @@ impl Words {
         match option {
             option::PASSWORD | option::ADDRESS => self.with_bytes(option, place),
             option::COMMAND => self.with_command(place),
+            option::SIZE => self.with_size(place),
             option::MAGIC => self.with_from(place),
             _ => self.with_number(option, place),
         }
@@ -299,6 +327,7 @@ impl Words {
                 self.wrong_bytes(b"no bytes behind the option", place)
             }
             option::COMMAND => self.wrong_command(b"no word behind the option", place),
+            option::SIZE => self.wrong_size(b"no number behind the option", place),
             option::MAGIC => self.wrong(
                 b"no file behind the option",
                 place,

@@ -2,7 +2,7 @@
 use crate::arguments::KEPT;
 use crate::option;
 ghost use mathlib.Core.Path.{_≡_};
-ghost use Rattle.console.specs.Commands.{commandOf, takesChip, fewestOf, mostOf, takesArguments, takesForce, takesOption};
+ghost use Rattle.console.specs.Commands.{commandOf, takesChip, fewestOf, mostOf, takesArguments, takesForce, takesSize, takesOption};
 
 pub const NONE: u8 = 0;
 
@@ -104,6 +104,16 @@ fn takes_force(command: u8) -> bool
     command <= MAGIC
 }
 
+// Whether a command takes the size of a card's ROM.
+fn takes_size(command: u8) -> bool
+    ensures { λ r. ⌜ r ≡ takesSize command ⌝ }
+{
+    if command == MAGIC {
+        return true;
+    }
+    takes_chip(command)
+}
+
 // Whether a command takes an option.
 pub(crate) fn takes(command: u8, option: u8) -> bool
     ensures { λ r. ⌜ r ≡ takesOption command option ⌝ }
@@ -114,7 +124,10 @@ pub(crate) fn takes(command: u8, option: u8) -> bool
     if option == option::MAGIC {
         return command <= WRITE;
     }
-    if option::LEVEL < option {
+    if option == option::SIZE {
+        return takes_size(command);
+    }
+    if option::SIZE < option {
         return command == MAGIC;
     }
     takes_arguments(command)

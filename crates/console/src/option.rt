@@ -4,7 +4,7 @@ use block::chip;
 use text::slice::part;
 use text::slice::same;
 ghost use mathlib.Core.Path.{_≡_};
-ghost use Rattle.console.specs.Word.{smallNumber, chipNamed};
+ghost use Rattle.console.specs.Word.{chipNamed};
 ghost use Rattle.console.specs.Options.{optionOf};
 ghost use Rattle.console.specs.Roles.{takesValue, roleOf};
 
@@ -16,21 +16,23 @@ pub const CONTROLLER: u8 = 1;
 
 pub const LEVEL: u8 = 2;
 
-pub const PASSWORD: u8 = 3;
+pub const SIZE: u8 = 3;
 
-pub const ADDRESS: u8 = 4;
+pub const PASSWORD: u8 = 4;
 
-pub const COMMAND: u8 = 5;
+pub const ADDRESS: u8 = 5;
 
-pub const MAGIC: u8 = 6;
+pub const COMMAND: u8 = 6;
 
-pub const FORCE: u8 = 7;
+pub const MAGIC: u8 = 7;
+
+pub const FORCE: u8 = 8;
 
 // It begins as an option does, and is none.
-pub const UNKNOWN: u8 = 8;
+pub const UNKNOWN: u8 = 9;
 
 // The value of the option before it.
-pub const VALUE: u8 = 9;
+pub const VALUE: u8 = 10;
 
 // Whether an option of a command takes a value: all but --force and --magic do, and in `write` --magic does.
 pub(crate) fn takes_value(command: u8, option: u8) -> bool
@@ -55,11 +57,12 @@ fn option_of(word: &[u8]) -> u8
     let number = text::number(text::words(
         b"--controller 1
 --level 2
---password 3
---address 4
---command 5
---magic 6
---force 7
+--size 3
+--password 4
+--address 5
+--command 6
+--magic 7
+--force 8
 ",
         word,
     ));
@@ -85,17 +88,6 @@ pub fn role_of(word: &[u8], before: u8, command: u8) -> u8
 }
 
 // ## What the words mean
-
-// A number below 256, or 256.
-pub(crate) fn small(word: &[u8]) -> u16
-    ensures { λ r. ⌜ r ≡ smallNumber (now (word .entry)) ⌝ }
-{
-    let number = text::number(word);
-    if 255 < number {
-        return 256;
-    }
-    number as u16
-}
 
 // The chip that a word names, or 0. The 21140A counts as 21140.
 pub(crate) fn chip_of(word: &[u8]) -> u16

@@ -10,9 +10,9 @@ use native.Mathlib.Omega.{arith}
 use lib.Dec.{T, eqb, eqb→eq, lit<}
 use lib.Bits.{bitXor, xor-lt, xor-self, xor-zero-r, xor-comm, xor-shr, xor-mod, xor-block}
 use lib.Pow.{shr-shr, field, mod-mod-pow}
-use Rattle.rom.specs.Geometry.{withMagic, magicAt, magicWord}
+use Rattle.rom.specs.Geometry.{magicAt, magicWord}
 use Rattle.rom.specs.Bytes.{byteAt, wordAt}
-use Rattle.rom.proofs.Layouts.{geometry}
+use Rattle.rom.proofs.Layouts.{sized}
 use Rattle.crc.specs.Crc.{xorIf, step, crc8Polynomial, crc8Bits, word, crc8Words, crc8, idCrc, magicCrc, ones}
 use Rattle.crc.specs.Claims.{RegisterIsZero, WordsLeaveZero, IdLeavesZero, MagicLeavesZero}
 use Rattle.rom.proofs.Below.{allBelow, below}
@@ -148,14 +148,27 @@ pub words-next : (s : List ℕ) (end w r x whole : ℕ) → w < end → x ≡ cr
 words-next s end w r x whole h e all =
     ap (λ (n : ℕ). crc8Words (end - (w + 1)) (w + 1) n s) e ∙ sym (words-more end w r s h) ∙ all
 
+-- and with the two from w on fed, what is left is the words behind them
+pub pair-next : (s : List ℕ) (end w r x y whole : ℕ) → w + 1 < end → x ≡ crc8Bits 16 r (word s w) → y ≡ crc8Bits 16 x (word s (w + 1))
+    → crc8Words (end - w) w r s ≡ whole → crc8Words (end - (w + 2)) (w + 2) y s ≡ whole
+pair-next s end w r x y whole h e f all =
+    let two : (w + 1) + 1 ≡ w + 2 = omega arith in
+    rw two at (words-next s end (w + 1) x y whole h f (words-next s end w r x whole (omega arith) e all))
+
+-- where none is left, or one
+pub none-left : (s : List ℕ) (end w r : ℕ) → w ≡ end → r ≡ crc8Words (end - w) w r s
+unfolding crc8Words
+none-left s end w r e = let z : end - w ≡ 0 = omega arith in rw z
+
+pub one-left : (s : List ℕ) (end w r x : ℕ) → w + 1 ≡ end → x ≡ crc8Bits 16 r (word s w) → x ≡ crc8Words (end - w) w r s
+unfolding crc8Words
+one-left s end w r x e f = let z : end - w ≡ suc zero = omega arith in rw z f
+
 -- after the last word, the high byte of the next
-pub words-done : (s : List ℕ) (n first end w r at b x : ℕ) → end ≡ first + n → end ≤ w
-    → crc8Words (end - w) w r s ≡ crc8Words n first (ones 8) s
+pub words-done : (s : List ℕ) (n first end r at b x : ℕ) → end ≡ first + n → r ≡ crc8Words n first (ones 8) s
     → at ≡ 2 * end + 1 → b ≡ byteAt s at → x ≡ crc8Bits 8 r b → x ≡ crc8 n first s
-unfolding crc8 crc8Words
-words-done s n first end w r at b x z h e p q g =
-    let none : end - w ≡ 0 = omega arith in
-    let all : r ≡ crc8Words n first (ones 8) s = rw none at e in
+unfolding crc8
+words-done s n first end r at b x z all p q g =
     let place : at ≡ 2 * (first + n) + 1 = omega arith in
     g ∙ ap₂ (crc8Bits 8) all (q ∙ ap (byteAt s) place)
 
@@ -202,7 +215,7 @@ id-leaves-zero s e = words-leave-zero 8 0 s e
 
 pub magic-leaves-zero : MagicLeavesZero
 unfolding magicCrc
-magic-leaves-zero s e =
-    let g = geometry withMagic in
-    let place : 2 * (magicWord withMagic + 15) ≡ magicAt withMagic + 30 = omega arith in
-    words-leave-zero 15 (magicWord withMagic) s (ap (byteAt s) place ∙ e)
+magic-leaves-zero size s e =
+    let g = sized size in
+    let place : 2 * (magicWord size + 15) ≡ magicAt size + 30 = omega arith in
+    words-leave-zero 15 (magicWord size) s (ap (byteAt s) place ∙ e)

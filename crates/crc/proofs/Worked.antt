@@ -7,4 +7,4 @@ use Rattle.crc.specs.Claims.{CrcsWorked}
 
 pub worked : CrcsWorked
 unfolding sromCrc idCrc magicCrc checkedLength boardLength pick imageLength magicAt magicWord
-worked = (refl, refl, refl, refl)
+worked = (refl, refl, refl, refl, refl, refl, refl)

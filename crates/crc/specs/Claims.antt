@@ -1,9 +1,9 @@
 -- What is claimed of the CRCs, for every image.
-use Prim.Native.Nat.{ℕ, suc, _+_, _*_}
+use Prim.Native.Nat.{ℕ, suc, _+_, _*_, _%_}
 use mathlib.Core.Path.{_≡_}
 use mathlib.Core.List.{List}
 use Rattle.rom.specs.declared.Layout.{Layout}
-use Rattle.rom.specs.Geometry.{withoutMagic, withMagic, idCrcAt, magicAt, magicWord}
+use Rattle.rom.specs.Geometry.{smallSize, largeSize, withoutMagic, withMagic, large, idCrcAt, magicAt, magicWord}
 use Rattle.rom.specs.Bytes.{byteAt, valuesFrom}
 use Rattle.rom.specs.Refusal.{Exact}
 use Rattle.crc.specs.Crc.{ones, sromCrc, crc8Bits, crc8Words, crc8, idCrc, magicCrc}
@@ -12,10 +12,10 @@ use Rattle.crc.specs.Answer.{crcCauses, sromAnswer, idAnswer, magicAnswe
 -- a number other than 0 means that its cause is met and none before it; 0 that none is met
 abbrev pub ExactCrcs : Type 0
 ExactCrcs =
-    (image : List ℕ)
-    → ((l : Layout) → Exact (crcCauses l image) (sromAnswer l image .number))
-    × Exact (crcCauses withoutMagic image) (idAnswer image .number)
-    × Exact (crcCauses withMagic image) (magicAnswer image .number)
+    (size : ℕ) (image : List ℕ)
+    → ((l : Layout) → Exact (crcCauses (l .size) image) (sromAnswer l image .number))
+    × Exact (crcCauses size image) (idAnswer size image .number)
+    × Exact (crcCauses size image) (magicAnswer size image .number)
 
 -- where the low byte behind n words from word w on is their CRC8, feeding it in leaves the register 0
 abbrev pub RegisterIsZero : Type 0
@@ -32,16 +32,19 @@ WordsLeaveZero =
 abbrev pub IdLeavesZero : Type 0
 IdLeavesZero = (image : List ℕ) → byteAt image idCrcAt ≡ idCrc image → crc8Words 9 0 (ones 8) image ≡ 0
 
--- the Magic Packet block: where byte 126 is its CRC, words 48 to 63 leave 0
+-- the Magic Packet block: where its byte 30 is its CRC, its 16 words leave 0
 abbrev pub MagicLeavesZero : Type 0
 MagicLeavesZero =
-    (image : List ℕ) → byteAt image (magicAt withMagic + 30) ≡ magicCrc image → crc8Words 16 (magicWord withMagic) (ones 8) image ≡ 0
+    (size : ℕ) (image : List ℕ) → byteAt image (magicAt size + 30) ≡ magicCrc size image → crc8Words 16 (magicWord size) (ones 8) image ≡ 0
 
--- the image whose bytes are 0, 1, 2 and so on to 127
-abbrev pub counting : List ℕ
-counting = valuesFrom (λ i. i) 0 128
+-- the image of a size whose bytes are 0, 1, 2 and so on, beginning again behind 255
+abbrev pub counting : ℕ → List ℕ
+counting size = valuesFrom (λ i. i % 256) 0 size
 
--- its CRCs, as the second implementation (tests/second) has them
+-- their CRCs, as the second implementation (tests/second) has them
 abbrev pub CrcsWorked : Type 0
 CrcsWorked =
-    (sromCrc withoutMagic counting ≡ 0x1FB5) × (idCrc counting ≡ 0x22) × (sromCrc withMagic counting ≡ 0x49EE) × (magicCrc counting ≡ 0x53)
+    (sromCrc withoutMagic (counting smallSize) ≡ 0x1FB5) × (idCrc (counting smallSize) ≡ 0x22)
+    × (sromCrc withMagic (counting smallSize) ≡ 0x49EE) × (magicCrc smallSize (counting smallSize) ≡ 0x53)
+    × (sromCrc (large withoutMagic) (counting largeSize) ≡ 0xF21B) × (sromCrc (large withMagic) (counting largeSize) ≡ 0x4631)
+    × (magicCrc largeSize (counting largeSize) ≡ 0x13)

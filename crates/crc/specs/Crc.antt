@@ -6,7 +6,7 @@ use Prim.Native.Nat.{ℕ, zero, suc, _+_, _-_, _*_, _/_, _%_, _^_}
 use lib.Bits.{bitXor}
 use lib.ListN.{take}
 use Rattle.rom.specs.declared.Layout.{Layout}
-use Rattle.rom.specs.Geometry.{withMagic, magicWord, checkedLength}
+use Rattle.rom.specs.Geometry.{magicWord, checkedLength}
 use Rattle.rom.specs.Bytes.{byteAt, wordAt}
 
 -- ## One bit, for a register of any width
@@ -88,7 +88,7 @@ unfoldable pub idCrc : List ℕ → ℕ
 unfolding crc8
 idCrc image = crc8 8 0 image
 
--- words 48 to 62 and then byte 127, the high byte of word 63
-unfoldable pub magicCrc : List ℕ → ℕ
+-- its first 15 words, 48 to 62 in an image of 128 bytes, and then its last byte, the high byte of the next word
+unfoldable pub magicCrc : ℕ → List ℕ → ℕ
 unfolding crc8
-magicCrc image = crc8 15 (magicWord withMagic) image
+magicCrc size image = crc8 15 (magicWord size) image

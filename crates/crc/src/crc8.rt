@@ -2,9 +2,9 @@
 // high byte comes first.
 use rom::WordNumber;
 ghost use mathlib.Core.Path.{_≡_};
-ghost use Prim.Native.Nat.{_+_, _*_, _<_};
+ghost use Prim.Native.Nat.{_+_, _-_, _*_, _<_, _≤_};
 ghost use lib.ListN.{length};
-ghost use Rattle.crc.specs.Crc.{crc8Bits, word, crc8};
+ghost use Rattle.crc.specs.Crc.{crc8Bits, word, crc8Words, crc8};
 ghost use Rattle.crc.specs.Inside.{crc8Table};
 
 // What eight steps make of each register.
@@ -292,7 +292,18 @@ fn feed_word(table: &[u8; 256], register: u8, image: &[u8], w: WordNumber) -> u8
     feed(table, feed(table, register, image[high]), image[low])
 }
 
-// The CRC8 of so many words from a word on, and then of the high byte of the next.
+// The register after the words that are left, one at most.
+fn feed_rest(table: &[u8; 256], register: u8, image: &[u8], w: WordNumber, end: u16) -> u8
+    requires { ⌜ (now table ≡ crc8Table) × (w .0 ≤ end) × (end ≤ w .0 + 1) × (2 * end + 1 < length (now image)) ⌝ }
+    ensures { λ r. ⌜ r ≡ crc8Words (end - w .0) (w .0) register (now (image .entry)) ⌝ }
+{
+    if w.0 == end {
+        return register;
+    }
+    feed_word(table, register, image, w)
+}
+
+// The CRC8 of so many words from a word on, fed two at a time, and then of the high byte of the next.
 pub(crate) fn of(image: &[u8], first: WordNumber, count: u16) -> u8
     requires { ⌜ (first .0 + count < 65536) × (2 * (first .0 + count) + 1 < length (now image)) ⌝ }
     ensures { λ r. ⌜ r ≡ crc8 count (first .0) (now (image .entry)) ⌝ }
@@ -300,11 +311,14 @@ pub(crate) fn of(image: &[u8], first: WordNumber, count: u16) -> u8
     let table = table();
     let end = first.0 + count;
     let mut register: u8 = 0xFF;
+    let even = first.0 + count / 2 * 2;
     let mut w = first.0;
-    while w < end {
+    while w < even {
         register = feed_word(&table, register, image, WordNumber(w));
-        w += 1;
+        register = feed_word(&table, register, image, WordNumber(w + 1));
+        w += 2;
     }
+    let fed = feed_rest(&table, register, image, WordNumber(even), end);
     let last = WordNumber(end).high_byte().0;
-    feed(&table, register, image[last])
+    feed(&table, fed, image[last])
 }

@@ -18,7 +18,7 @@ pub struct Checksum {
 pub fn srom_crc(image: &[u8], layout: Layout) -> Checksum
     ensures { λ r. ⌜ r ≡ sromAnswer layout (now (image .entry)) ⌝ }
 {
-    if image.len() != layout.image_length() {
+    if rom::is_wrong_length(layout.size, image.len()) {
         return Checksum {
             number: rom::refusal::IMAGE_LENGTH,
             value: 0,
@@ -31,10 +31,10 @@ pub fn srom_crc(image: &[u8], layout: Layout) -> Checksum
 }
 
 // The CRC that byte 16 of an image should hold.
-pub fn id_crc(image: &[u8]) -> Checksum
-    ensures { λ r. ⌜ r ≡ idAnswer (now (image .entry)) ⌝ }
+pub fn id_crc(image: &[u8], size: u16) -> Checksum
+    ensures { λ r. ⌜ r ≡ idAnswer size (now (image .entry)) ⌝ }
 {
-    if image.len() != rom::WITHOUT_MAGIC.image_length() {
+    if rom::is_wrong_length(size, image.len()) {
         return Checksum {
             number: rom::refusal::IMAGE_LENGTH,
             value: 0,
@@ -46,11 +46,11 @@ pub fn id_crc(image: &[u8]) -> Checksum
     }
 }
 
-// The CRC that byte 126 of an image with a Magic Packet block should hold.
-pub fn magic_crc(image: &[u8]) -> Checksum
-    ensures { λ r. ⌜ r ≡ magicAnswer (now (image .entry)) ⌝ }
+// The CRC that the last byte but one of an image with a Magic Packet block should hold.
+pub fn magic_crc(image: &[u8], size: u16) -> Checksum
+    ensures { λ r. ⌜ r ≡ magicAnswer size (now (image .entry)) ⌝ }
 {
-    if image.len() != rom::WITH_MAGIC.image_length() {
+    if rom::is_wrong_length(size, image.len()) {
         return Checksum {
             number: rom::refusal::IMAGE_LENGTH,
             value: 0,
@@ -58,6 +58,6 @@ pub fn magic_crc(image: &[u8]) -> Checksum
     }
     Checksum {
         number: rom::refusal::ACCEPTED,
-        value: crc8::of(image, rom::WITH_MAGIC.magic_word(), 15) as u16,
+        value: crc8::of(image, rom::magic_word(size), 15) as u16,
     }
 }

@@ -14,10 +14,13 @@ use text::line;
 use text::line::Line;
 use text::slice::part;
 
-// The longest report that is looked at, and how much of it is shown again.
-const LONGEST: usize = 255;
+// The longest report that is looked at: more than the digits of 255 blocks, since later ones are ignored.
+const LONGEST: usize = 1000;
 
+// The longest that is shown again, and how many links of a longer one are named.
 const SHOWN: usize = 16;
+
+const NAMED: u8 = 6;
 
 // A report's links, one a digit; found is false where the word is none.
 struct Report {
@@ -95,15 +98,37 @@ fn look(walk: Walk, place: usize) -> Walked {
     autosense::look(walk, part(&links, 0, report.length))
 }
 
-// The start of a look's line: its report.
+// The numbers of the links that are up, as many as are named.
+fn up_words(line: Line, digits: &[u8]) -> Line {
+    let mut line = line;
+    let mut named = 0u8;
+    let mut i = 0;
+    while i < digits.len() {
+        if digits[i] == b'1' {
+            if NAMED <= named {
+                return line.text(b" ..");
+            }
+            line = line.with(b" #", [i as u64, 0, 0, 0]);
+            named += 1;
+        }
+        i += 1;
+    }
+    if named == 0 {
+        return line.text(b" none");
+    }
+    line
+}
+
+// The start of a look's line: its report. Of a long one the links that are up have a line before it.
 fn report_words(place: usize) -> Line {
     let mut room = [0u8; LONGEST];
     let length = os::arg(place, &mut room);
-    let line = Line::new().to(2).text(part(&room[..length], 0, SHOWN));
+    let line = Line::new().to(2);
     if SHOWN < length {
-        return line.text(b"..  ");
+        up_words(line.text(b"links up:"), &room[..length]).print();
+        return Line::new().to(4);
     }
-    line.text(b"  ")
+    line.text(&room[..length]).text(b"  ")
 }
 
 fn selected_words(line: Line, image: &[u8], arguments: Arguments, selected: u8) -> Line {
@@ -174,16 +199,16 @@ fn show_way(line: Line, connection: u16) {
     }
 }
 
-fn show_loaded(arguments: Arguments, walk: Walk) {
-    report::arguments_words(Line::new().text(b"LOADED  "), arguments)
+fn show_loaded(arguments: Arguments, given: bool, walk: Walk) {
+    report::arguments_words(Line::new().text(b"LOADED  "), arguments, given)
         .with(b", # blocks", [walk.blocks as u64, 0, 0, 0])
         .print();
     let line = line::of(b"  connection type @, ", [walk.connection as u64, 0, 0, 0]);
     show_way(line, walk.connection);
 }
 
-// Loads the image and takes the looks, whose first report is a word; the status.
-pub fn show(image: &[u8], arguments: Arguments, first: usize) -> u8 {
+// Loads the image and takes the looks, whose first report is a word; the status. The image's size may have been given.
+pub fn show(image: &[u8], arguments: Arguments, given: bool, first: usize) -> u8 {
     let end = os::arg_count();
     let wrong = first_wrong(first, end);
     if wrong < end {
@@ -193,10 +218,10 @@ pub fn show(image: &[u8], arguments: Arguments, first: usize) -> u8 {
     }
     let loaded = autosense::load(autosense::fresh(), image, arguments);
     if loaded.number != refusal::ACCEPTED {
-        report::show_refused(image, arguments, loaded.number);
+        report::show_refused(image, arguments, given, loaded.number);
         return status::REFUSED;
     }
     let walk = loaded.walk;
-    show_loaded(arguments, walk);
+    show_loaded(arguments, given, walk);
     status::of(show_looks(image, arguments, walk, first, end))
 }

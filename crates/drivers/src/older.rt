@@ -393,14 +393,14 @@ fn show_no_promise(level: u8, number: u8) {
 }
 
 // Shows what each level up to the reader's sees; whether the reader accepts the image. A level that no reader has shows
-// nothing but that.
-pub fn show(image: &[u8], arguments: Arguments) -> bool {
+// nothing but that. The size may have been given.
+pub fn show(image: &[u8], arguments: Arguments, given: bool) -> bool {
     let answer = reader::judge(image, arguments);
     let accepted = answer.number == refusal::ACCEPTED;
     if accepted {
-        report::arguments_words(Line::new().text(b"ACCEPTED  "), arguments).print();
+        report::arguments_words(Line::new().text(b"ACCEPTED  "), arguments, given).print();
     } else {
-        report::show_refused(image, arguments, answer.number);
+        report::show_refused(image, arguments, given, answer.number);
     }
     if answer.number == refusal::LEVEL {
         return false;

@@ -7,14 +7,14 @@ use mathlib.Core.Bool.{Bool, true, false, _||_, not}
 use lib.Dec.{eqb, leb, ltb, lit<, eqb·suc-zero}
 use lib.ListN.{length, take, drop, length-drop, drop-of-length-le}
 use lib.Seq.{take-all, take-nil, drop-length}
-use borrow.Author.Tests.{eq-eqb, ne-eqb, le-leb, lt-leb, lt-ltb, le-ltb, ltb-false, eqb-true, eqb-false, not-false}
+use borrow.Author.Tests.{eq-eqb, ne-eqb, le-leb, lt-leb, lt-ltb, le-ltb, ltb-false, eqb-true, eqb-false}
 use Rattle.rom.specs.declared.Layout.{Layout}
-use Rattle.rom.specs.Geometry.{withMagic, imageLength, leavesEnd, mostControllers}
+use Rattle.rom.specs.Geometry.{wrongLength, imageLength, leavesEnd, mostControllers}
 use Rattle.rom.specs.Bytes.{pick, byteAt, wordAt, isIn}
 use Rattle.rom.specs.Refusal.{firstMet, Numbered}
 use Rattle.rom.proofs.First.{numbered-append, none-here, after-accepted, after-refused, both-accepted}
 use Rattle.rom.proofs.Truth.{or-false}
-use Rattle.rom.proofs.Layouts.{geometry, one-length}
+use Rattle.rom.proofs.Layouts.{geometry, right-length}
 use Rattle.magic.specs.Answer.{magicLengthCause, magicBlockCauses, magicReadCauses, magicReadNumber}
 use Rattle.format.specs.Chips.{chips, placeOf, rowOf}
 use Rattle.format.proofs.Lists.{in-place}
@@ -62,16 +62,10 @@ module _ (l : Layout) (image : List ℕ) where
   unfolding magicCauses firstMet pick
   no-magic e = rw e
 
-  pub magic-judged : length image ≡ imageLength l → l .magic ≡ true → magicReadNumber image ≡ firstMet (magicCauses l image)
+  pub magic-judged : wrongLength (l .size) (length image) ≡ false → l .magic ≡ true
+      → magicReadNumber (l .size) image ≡ firstMet (magicCauses l image)
   unfolding magicCauses firstMet pick magicReadNumber magicReadCauses magicBlockCauses magicLengthCause
-  magic-judged h e = rw e (simp (eq-eqb (length image) (imageLength withMagic) (h ∙ one-length l withMagic)))
-
-module _ (image : List ℕ) (n : ℕ) {m : ℕ} (e : m ≡ n) where
-  pub measured : length image ≡ m → not (eqb (length image) n) ≡ false
-  measured h = simp (eq-eqb (length image) n (h ∙ e))
-
-  pub not-measured : (length image ≡ m → ⊥) → not (eqb (length image) n) ≡ true
-  not-measured h = simp (ne-eqb (length image) n (λ z. h (z ∙ sym e)))
+  magic-judged h e = rw (e, h)
 
 -- ## The arguments
 
@@ -196,11 +190,14 @@ module _ (image : List ℕ) (a : Arguments) where
   unfolding headerFor pick
   header-accepted e = rw e
 
-  pub whole-image : firstMet (headerCauses image a) ≡ 0 → length image ≡ imageLength (a .layout)
+  pub right-image : firstMet (headerCauses image a) ≡ 0 → wrongLength (a .layout .size) (length image) ≡ false
   unfolding headerCauses imageCauses
-  whole-image e =
+  right-image e =
       let i = both-accepted (imageCauses (a .layout) image) _ (image-numbered (a .layout) image) e .0 in
-      eqb-true (length image) (imageLength (a .layout)) (not-false _ (none-here _ _ (lit< tt) i .0))
+      none-here _ _ (lit< tt) i .0
+
+  pub whole-image : firstMet (headerCauses image a) ≡ 0 → length image ≡ imageLength (a .layout .size)
+  whole-image e = right-length (a .layout .size) (length image) (right-image e)
 
   pub start-fits : firstMet (headerCauses image a) ≡ 0 → startFor image a ≤ leavesEnd (a .layout)
   unfolding headerCauses leafHeaderCauses

@@ -5,7 +5,7 @@ use mathlib.Core.Bool.{Bool, _&&_, _||_, not}
 use lib.Dec.{eqb, leb, ltb}
 use lib.ListN.{length, take, drop}
 use Rattle.rom.specs.declared.Layout.{Layout}
-use Rattle.rom.specs.Geometry.{imageLength, checkedLength, leavesEnd, mostControllers, idCrcAt, versionAt, controllerCountAt, addressAt}
+use Rattle.rom.specs.Geometry.{wrongLength, checkedLength, leavesEnd, mostControllers, idCrcAt, versionAt, controllerCountAt, addressAt}
 use Rattle.rom.specs.Geometry.{controllersAt}
 use Rattle.rom.specs.Bytes.{pick, byteAt, wordAt, isIn}
 use Rattle.rom.specs.Refusal.{Cause, _⇒_}
@@ -69,11 +69,11 @@ badCount l image =
 
 -- of a Magic Packet block, where the caller says that it is there
 unfoldable pub magicCauses : Layout → List ℕ → List Cause
-magicCauses l image = (29 ⇒ l .magic && badCrc image) ∷ (30 ⇒ l .magic && badReserved image) ∷ []
+magicCauses l image = (29 ⇒ l .magic && badCrc (l .size) image) ∷ (30 ⇒ l .magic && badReserved (l .size) image) ∷ []
 
 unfoldable pub imageCauses : Layout → List ℕ → List Cause
 imageCauses l image =
-    (1 ⇒ not (eqb (length image) (imageLength l)))
+    (1 ⇒ wrongLength (l .size) (length image))
     ∷ (2 ⇒ not (isIn (byteAt image versionAt) versions))
     ∷ (3 ⇒ not (eqb (wordAt image (checkedLength l)) (sromCrc l image)))
     ∷ (4 ⇒ not (eqb (byteAt image idCrcAt) (idCrc image)))

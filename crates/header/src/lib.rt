@@ -4,11 +4,11 @@ use rom::ByteOffset;
 use rom::Layout;
 use rom::refusal;
 ghost use mathlib.Core.Path.{_≡_};
-ghost use mathlib.Core.Bool.{not};
+ghost use mathlib.Core.Bool.{not, false};
 ghost use Prim.Native.Nat.{_+_, _*_, _^_, _<_, _≤_};
 ghost use lib.Dec.{eqb};
 ghost use lib.ListN.{length};
-ghost use Rattle.rom.specs.Geometry.{withoutMagic, imageLength, checkedLength, idCrcAt, versionAt};
+ghost use Rattle.rom.specs.Geometry.{wrongLength, checkedLength, idCrcAt, versionAt};
 ghost use Rattle.rom.specs.Bytes.{byteAt, wordAt, isIn};
 ghost use Rattle.rom.specs.Refusal.{firstMet};
 ghost use Rattle.crc.specs.Crc.{sromCrc, idCrc};
@@ -69,7 +69,7 @@ fn bad_version(image: &[u8]) -> bool
 
 // Whether the SROM CRC is not the stored one.
 fn bad_srom_crc(image: &[u8], layout: Layout) -> bool
-    requires { ⌜ length (now image) ≡ imageLength layout ⌝ }
+    requires { ⌜ wrongLength (layout .size) (length (now image)) ≡ false ⌝ }
     ensures { λ r. ⌜ r ≡ not (eqb (wordAt (now (image .entry)) (checkedLength layout)) (sromCrc layout (now (image .entry)))) ⌝ }
 {
     let stored = rom::word_at(image, ByteOffset(layout.checked_length()));
@@ -77,12 +77,12 @@ fn bad_srom_crc(image: &[u8], layout: Layout) -> bool
 }
 
 // Whether the ID CRC is not the stored one.
-fn bad_id_crc(image: &[u8]) -> bool
-    requires { ⌜ length (now image) ≡ imageLength withoutMagic ⌝ }
+fn bad_id_crc(image: &[u8], size: u16) -> bool
+    requires { ⌜ wrongLength size (length (now image)) ≡ false ⌝ }
     ensures { λ r. ⌜ r ≡ not (eqb (byteAt (now (image .entry)) idCrcAt) (idCrc (now (image .entry)))) ⌝ }
 {
     let stored = rom::byte_at(image, ByteOffset(rom::ID_CRC_AT));
-    (stored as u16) != crc::id_crc(image).value
+    (stored as u16) != crc::id_crc(image, size).value
 }
 
 fn controller_count(image: &[u8]) -> u8
@@ -115,11 +115,11 @@ fn bad_count(image: &[u8], layout: Layout) -> bool
 
 // Refusals 29 and 30, of a Magic Packet block where the caller says that it is there.
 fn magic_refusal(image: &[u8], layout: Layout) -> u8
-    requires { ⌜ length (now image) ≡ imageLength layout ⌝ }
+    requires { ⌜ wrongLength (layout .size) (length (now image)) ≡ false ⌝ }
     ensures { λ r. ⌜ r ≡ firstMet (magicCauses layout (now (image .entry))) ⌝ }
 {
     if layout.magic {
-        return magic::judge(image);
+        return magic::judge(image, layout.size);
     }
     refusal::ACCEPTED
 }
@@ -128,7 +128,7 @@ fn magic_refusal(image: &[u8], layout: Layout) -> u8
 fn image_refusal(image: &[u8], layout: Layout) -> u8
     ensures { λ r. ⌜ r ≡ firstMet (imageCauses layout (now (image .entry))) ⌝ }
 {
-    if image.len() != layout.image_length() {
+    if rom::is_wrong_length(layout.size, image.len()) {
         return refusal::IMAGE_LENGTH;
     }
     let version = bad_version(image);
@@ -139,7 +139,7 @@ fn image_refusal(image: &[u8], layout: Layout) -> u8
     if srom_crc {
         return refusal::SROM_CRC;
     }
-    let id_crc = bad_id_crc(image);
+    let id_crc = bad_id_crc(image, layout.size);
     if id_crc {
         return refusal::ID_CRC;
     }

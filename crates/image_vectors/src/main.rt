@@ -1,11 +1,16 @@
-// The reading of each record on standard input, one line a record: chip (word), controller, level, layout (1 with a Magic Packet
-// block, 0 without), image. Each entry of the table is printed as kind@offset:block.
+// The reading of each record on standard input, one line a record: the image's length (word), chip (word), controller, level,
+// stated size (word), layout (1 with a Magic Packet block, 0 without), image. Each entry of the table is printed as
+// kind@offset:block.
 use libc::STDIN_FILENO;
 use libc::STDOUT_FILENO;
 use reader::Answer;
 use reader::Arguments;
 use rom::ByteOffset;
 use rom::Layout;
+use text::slice::part;
+
+// The bytes of a record before the image's.
+const HEAD: usize = 9;
 
 fn print_space() {
     io::write_all(STDOUT_FILENO, b" ");
@@ -76,28 +81,32 @@ fn print_reading(image: &[u8], arguments: Arguments) {
 }
 
 // One record to one line; false at the end of the input.
-fn next_line() -> bool {
-    let mut record = [0u8; 133];
-    let got = io::read_full(STDIN_FILENO, &mut record);
-    if got < 5 {
+fn next_record() -> bool {
+    let mut head = [0u8; HEAD];
+    let got = io::read_full(STDIN_FILENO, &mut head);
+    if got < HEAD {
         return false;
     }
+    let length = rom::word_at(&head, ByteOffset(0)) as usize;
     let arguments = Arguments {
-        chip: rom::word_at(&record, ByteOffset(0)),
-        controller: record[2],
-        level: record[3],
+        chip: rom::word_at(&head, ByteOffset(2)),
+        controller: head[4],
+        level: head[5],
         layout: Layout {
-            magic: record[4] == 1,
+            size: rom::word_at(&head, ByteOffset(6)),
+            magic: head[8] == 1,
         },
     };
-    print_reading(&record[5..got], arguments);
+    let mut room = io::buffer();
+    vectors::read_front(&mut room, length);
+    print_reading(part(&room, 0, length), arguments);
     true
 }
 
 fn main() {
     let mut left: u32 = 1_000_000;
     while 0 < left {
-        let more = next_line();
+        let more = next_record();
         if !more {
             return;
         }

@@ -4,7 +4,7 @@ use Prim.Native.Nat.{ℕ, suc, _-_}
 use mathlib.Core.List.{List, [], _∷_, _++_, map}
 use lib.Dec.{eqb}
 use lib.ListN.{take, drop, replicate}
-use Rattle.rom.specs.Geometry.{withoutMagic, leavesEnd}
+use Rattle.rom.specs.Geometry.{smallSize, withoutMagic, leavesEnd}
 use Rattle.rom.specs.Bytes.{pick, byteAt}
 use Rattle.format.specs.Chips.{rowOf, row21140}
 use Rattle.leaf.specs.Leaf.{cut, startByStepping, runningStart, tableOf, kindAt, startAt}
@@ -28,7 +28,7 @@ pub record LeafCase : Type 0 where
 
 -- an image with the leaf at 30, and zeros elsewhere
 unfoldable pub imageAround : List ℕ → List ℕ
-imageAround leaf = take 128 (replicate 30 0 ++ leaf ++ replicate 98 0)
+imageAround leaf = take smallSize (replicate 30 0 ++ leaf ++ replicate smallSize 0)
 
 -- the first block stands behind the connection type, for the 21140 the control byte, and the block count
 unfoldable pub firstBlockAt : ℕ → ℕ

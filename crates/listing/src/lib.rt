@@ -60,7 +60,7 @@ fn show_counts(arguments: Arguments, answer: Answer) {
 fn show_magic(image: &[u8], layout: Layout) {
     if layout.magic {
         say(b"");
-        report::show_magic(magic::read(image).magic);
+        report::show_magic(magic::read(image, layout.size).magic);
     }
 }
 
@@ -144,7 +144,7 @@ fn show_phy_words(bytes: &[u8]) {
 
 // The bytes of a sequence of so many bytes, or words where the unit is 2.
 fn sequence_length(count: u8, unit: usize) -> usize
-    ensures { λ r. ⌜ r < 512 ⌝ }
+    ensures { λ r. ⌜ r < 1000 ⌝ }
 {
     if unit == 1 {
         return count as usize;
@@ -215,14 +215,14 @@ fn marks(line: Line, b: Block) -> Line {
     }
 }
 
-// The number of the block at a byte.
-fn number_at(image: &[u8], arguments: Arguments, blocks: u8, start: u16) -> u8 {
-    let mut k = 0u8;
-    while k < blocks {
+// The number of the block at a byte, the last such before one.
+fn number_before(image: &[u8], arguments: Arguments, number: u8, start: u16) -> u8 {
+    let mut k = number;
+    while 0 < k {
+        k -= 1;
         if survey::block_place(image, arguments, k).start == start {
             return k;
         }
-        k += 1;
     }
     rom::NONE
 }
@@ -239,11 +239,11 @@ fn show_entry(image: &[u8], arguments: Arguments, entry: usize, number: u8) {
 
 fn show_entries(image: &[u8], arguments: Arguments, answer: Answer, offsets: &[u16]) {
     let listed = answer.listed as usize;
-    let blocks = answer.blocks;
+    let mut number = answer.blocks;
     let mut e = 0;
     while e < listed {
         if e < offsets.len() {
-            let number = number_at(image, arguments, blocks, offsets[e]);
+            number = number_before(image, arguments, number, offsets[e]);
             show_entry(image, arguments, e, number);
         }
         e += 1;
@@ -342,16 +342,16 @@ fn show_unlisted(image: &[u8], arguments: Arguments, answer: Answer) {
     }
 }
 
-// Reads the image and shows what it says; whether it is accepted.
-pub fn show(image: &[u8], arguments: Arguments) -> bool {
+// Reads the image and shows what it says; whether it is accepted. Its size may have been given.
+pub fn show(image: &[u8], arguments: Arguments, given: bool) -> bool {
     let mut kinds = [0u16; 255];
     let mut offsets = [0u16; 255];
     let answer = reader::read(image, arguments, &mut kinds, &mut offsets);
     if answer.number != refusal::ACCEPTED {
-        report::show_refused(image, arguments, answer.number);
+        report::show_refused(image, arguments, given, answer.number);
         return false;
     }
-    report::arguments_words(Line::new().text(b"ACCEPTED  "), arguments).print();
+    report::arguments_words(Line::new().text(b"ACCEPTED  "), arguments, given).print();
     show_header(image, answer);
     show_counts(arguments, answer);
     show_magic(image, arguments.layout);

@@ -1,5 +1,6 @@
 -- The definitions of a Magic Packet block, opened together for what computes: `unfolding magic-computes`.
-use Rattle.rom.specs.Geometry.{imageLength, magicAt, magicWord, boardLength, checkedLength, leavesEnd, mostControllers}
+use Rattle.rom.specs.Geometry.{isSize, wrongLength, otherSize, imageLength, magicAt, magicWord, boardLength}
+use Rattle.rom.specs.Geometry.{checkedLength, leavesEnd, mostControllers}
 use Rattle.rom.specs.Bytes.{pick, wordAt, allZero}
 use Rattle.rom.specs.Store.{wordBytes}
 use Rattle.rom.specs.Refusal.{firstMet}
@@ -10,7 +11,7 @@ use Rattle.magic.specs.Answer.{magicWriteCauses, magicWriteNumber, magic
 
 -- the geometry of either layout
 unfoldable pub layout-computes : Unit {0}
-unfolding imageLength magicAt magicWord boardLength checkedLength leavesEnd mostControllers pick
+unfolding isSize wrongLength otherSize imageLength magicAt magicWord boardLength checkedLength leavesEnd mostControllers pick
 layout-computes = tt
 
 unfoldable pub magic-computes : Unit {0}

@@ -5,11 +5,11 @@ use mathlib.Core.Path.{_≡_, sym, ap, ap₂, _∙_}
 use mathlib.Core.Bool.{true, false}
 use mathlib.Core.List.{List, [], _∷_, _++_, map}
 use lib.ListN.{length, take, replicate, length-append, length-take, length-map}
-use Rattle.rom.specs.Geometry.{withMagic, imageLength, magicAt}
+use Rattle.rom.specs.Geometry.{wrongLength, imageLength, magicAt}
 use Rattle.rom.specs.Bytes.{pick}
 use Rattle.rom.specs.Refusal.{firstMet}
 use Rattle.rom.specs.Store.{wordBytes, put, laid}
-use Rattle.rom.proofs.Layouts.{geometry}
+use Rattle.rom.proofs.Layouts.{sized}
 use Rattle.rom.proofs.Lists.{spell, spelled-whole}
 use Rattle.rom.proofs.Put.{laid-end, laid-behind}
 use Rattle.crc.specs.Crc.{magicCrc}
@@ -63,51 +63,51 @@ module _ (m : Magic) (w : Whole m) where
       let e = spelled-out m w in
       ap (λ (x : Magic). put (blockWith 0 x) blockCrcAt (crc ∷ [])) e ∙ ap (blockWith crc) (sym e)
 
-module _ (m : Magic) (w : Whole m) (image : List ℕ) (long : length image ≡ imageLength withMagic) where
-  pub front-long : length (take (magicAt withMagic) image) ≡ magicAt withMagic
-  front-long = let g = geometry withMagic in simp length-take (omega arith)
+module _ (size : ℕ) (m : Magic) (w : Whole m) (image : List ℕ) (long : length image ≡ imageLength size) where
+  pub front-long : length (take (magicAt size) image) ≡ magicAt size
+  front-long = let g = sized size in simp length-take (omega arith)
 
-  pub laid-long : (crc : ℕ) → length (laidWith crc m image) ≡ imageLength withMagic
+  pub laid-long : (crc : ℕ) → length (laidWith size crc m image) ≡ imageLength size
   unfolding laidWith
   laid-long crc =
-      let g = geometry withMagic in
+      let g = sized size in
       let b = block-length crc m w in
-      length-append (take (magicAt withMagic) image) (blockWith crc m) ∙ omega (arith, front-long)
+      length-append (take (magicAt size) image) (blockWith crc m) ∙ omega (arith, front-long)
 
-  pub block-laid : (block : List ℕ) (at : ℕ) → block ≡ blockWith 0 m → at ≡ place 0 → laid image at block ≡ laidWith 0 m image
+  pub block-laid : (block : List ℕ) (at : ℕ) → block ≡ blockWith 0 m → at ≡ place size 0 → laid image at block ≡ laidWith size 0 m image
   unfolding laidWith
   block-laid block at e p =
-      let g = geometry withMagic in
+      let g = sized size in
       let b = block-length 0 m w in
-      let z : at ≡ magicAt withMagic = omega arith in
-      rw (e, z) (laid-end image (blockWith 0 m) (magicAt withMagic) (omega arith))
+      let z : at ≡ magicAt size = omega arith in
+      rw (e, z) (laid-end image (blockWith 0 m) (magicAt size) (omega arith))
 
   -- with the CRC of what is laid down so far
-  pub crc-laid : (crc at : ℕ) → crc ≡ magicCrc (laidWith 0 m image) → at ≡ place blockCrcAt
-      → laid (laidWith 0 m image) at (crc ∷ []) ≡ withBlock m image
+  pub crc-laid : (crc at : ℕ) → crc ≡ magicCrc size (laidWith size 0 m image) → at ≡ place size blockCrcAt
+      → laid (laidWith size 0 m image) at (crc ∷ []) ≡ withBlock size m image
   unfolding laidWith withBlock
   crc-laid crc at e p =
       let b = block-length 0 m w in
-      ap (λ (n : ℕ). laid (laidWith 0 m image) n (crc ∷ [])) p
-      ∙ laid-behind (take (magicAt withMagic) image) (blockWith 0 m) (crc ∷ []) (magicAt withMagic) blockCrcAt front-long (omega arith)
-      ∙ ap (λ (l : List ℕ). take (magicAt withMagic) image ++ l) (crc-put m w crc)
-      ∙ ap (λ (n : ℕ). laidWith n m image) e
+      ap (λ (n : ℕ). laid (laidWith size 0 m image) n (crc ∷ [])) p
+      ∙ laid-behind (take (magicAt size) image) (blockWith 0 m) (crc ∷ []) (magicAt size) blockCrcAt front-long (omega arith)
+      ∙ ap (λ (l : List ℕ). take (magicAt size) image ++ l) (crc-put m w crc)
+      ∙ ap (λ (n : ℕ). laidWith size n m image) e
 
 -- ## What is written
 
-module _ (m : Magic) (image : List ℕ) where
-  pub write-refused : magicLengthCause image .met ≡ true → 1 ≡ magicWriteNumber image
+module _ (size : ℕ) (m : Magic) (image : List ℕ) where
+  pub write-refused : wrongLength size (length image) ≡ true → 1 ≡ magicWriteNumber size image
   unfolding magicWriteNumber magicWriteCauses firstMet pick magicLengthCause
   write-refused e = rw e
 
-  pub write-accepted : magicLengthCause image .met ≡ false → 0 ≡ magicWriteNumber image
-  unfolding magicWriteNumber magicWriteCauses firstMet pick
+  pub write-accepted : wrongLength size (length image) ≡ false → 0 ≡ magicWriteNumber size image
+  unfolding magicWriteNumber magicWriteCauses firstMet pick magicLengthCause
   write-accepted e = rw e
 
-  pub kept : magicLengthCause image .met ≡ true → image ≡ magicWritten m image
+  pub kept : wrongLength size (length image) ≡ true → image ≡ magicWritten size m image
   unfolding magicWritten pick
   kept e = rw (← write-refused e)
 
-  pub changed : magicLengthCause image .met ≡ false → withBlock m image ≡ magicWritten m image
+  pub changed : wrongLength size (length image) ≡ false → withBlock size m image ≡ magicWritten size m image
   unfolding magicWritten pick
   changed e = rw (← write-accepted e)

@@ -5,7 +5,7 @@ use mathlib.Core.List.{List, [], _∷_, _++_}
 use mathlib.Core.Bool.{Bool, not}
 use lib.Dec.{eqb}
 use lib.ListN.{take, drop, replicate}
-use Rattle.rom.specs.Geometry.{withMagic, magicAt}
+use Rattle.rom.specs.Geometry.{magicAt}
 use Rattle.rom.specs.Bytes.{byteAt, wordAt, allZero}
 use Rattle.rom.specs.Store.{wordBytes}
 use Rattle.crc.specs.Crc.{magicCrc}
@@ -36,29 +36,29 @@ abbrev pub lastAt : ℕ
 lastAt = 31
 
 -- where a field stands in an image
-abbrev pub place : ℕ → ℕ
-place field = magicAt withMagic + field
+abbrev pub place : ℕ → ℕ → ℕ
+place size field = magicAt size + field
 
 -- ## What it says
 
-unfoldable pub magicIn : List ℕ → Magic
-magicIn image = record {
-  password = take 6 (drop (place passwordAt) image);
-  address = take 6 (drop (place wakeAddressAt) image);
-  command = wordAt image (place commandAt);
+unfoldable pub magicIn : ℕ → List ℕ → Magic
+magicIn size image = record {
+  password = take 6 (drop (place size passwordAt) image);
+  address = take 6 (drop (place size wakeAddressAt) image);
+  command = wordAt image (place size commandAt);
 }
 
--- byte 126 is not the block's CRC
-unfoldable pub badCrc : List ℕ → Bool
-badCrc image = not (eqb (byteAt image (place blockCrcAt)) (magicCrc image))
+-- its byte 30 is not the block's CRC
+unfoldable pub badCrc : ℕ → List ℕ → Bool
+badCrc size image = not (eqb (byteAt image (place size blockCrcAt)) (magicCrc size image))
 
--- bytes 110 to 125, and 127
-unfoldable pub reservedBytes : List ℕ → List ℕ
-reservedBytes image = take 16 (drop (place zerosAt) image) ++ byteAt image (place lastAt) ∷ []
+-- its bytes 14 to 29, and 31
+unfoldable pub reservedBytes : ℕ → List ℕ → List ℕ
+reservedBytes size image = take 16 (drop (place size zerosAt) image) ++ byteAt image (place size lastAt) ∷ []
 
 -- one of them is not 0
-unfoldable pub badReserved : List ℕ → Bool
-badReserved image = not (allZero (reservedBytes image))
+unfoldable pub badReserved : ℕ → List ℕ → Bool
+badReserved size image = not (allZero (reservedBytes size image))
 
 -- ## An image with another block
 
@@ -70,9 +70,9 @@ fieldsOf m = m .password ++ (m .address ++ (wordBytes (m .command) ++ replicate 
 unfoldable pub blockWith : ℕ → Magic → List ℕ
 blockWith crc m = fieldsOf m ++ crc ∷ 0 ∷ []
 
-unfoldable pub laidWith : ℕ → Magic → List ℕ → List ℕ
-laidWith crc m image = take (magicAt withMagic) image ++ blockWith crc m
+unfoldable pub laidWith : ℕ → ℕ → Magic → List ℕ → List ℕ
+laidWith size crc m image = take (magicAt size) image ++ blockWith crc m
 
 -- the CRC does not cover its own byte
-unfoldable pub withBlock : Magic → List ℕ → List ℕ
-withBlock m image = laidWith (magicCrc (laidWith 0 m image)) m image
+unfoldable pub withBlock : ℕ → Magic → List ℕ → List ℕ
+withBlock size m image = laidWith size (magicCrc size (laidWith size 0 m image)) m image

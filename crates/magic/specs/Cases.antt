@@ -2,8 +2,9 @@
 use Prim.Native.Nat.{ℕ}
 use mathlib.Core.List.{List, [], _∷_, _++_}
 use lib.ListN.{replicate}
-use Rattle.rom.specs.Geometry.{withMagic, magicAt}
-use Rattle.magic.specs.Answer.{magicReading}
+use Rattle.rom.specs.Geometry.{imageLength, magicAt}
+use Rattle.magic.specs.Block.{magicIn}
+use Rattle.magic.specs.Answer.{magicReading, magicWritten}
 
 -- a block's 32 bytes, and what is answered; zeros where it is refused
 pub record MagicCase : Type 0 where
@@ -13,10 +14,10 @@ pub record MagicCase : Type 0 where
   pub address : List ℕ
   pub command : ℕ
 
--- behind a board of zeros
-unfoldable pub runMagic : MagicCase → MagicCase
-runMagic c =
-    let answer = magicReading (replicate (magicAt withMagic) 0 ++ c .block) in
+-- behind a board of zeros, in an image of that size
+unfoldable pub runMagic : ℕ → MagicCase → MagicCase
+runMagic size c =
+    let answer = magicReading size (replicate (magicAt size) 0 ++ c .block) in
     let m = answer .magic in
     record { block = c .block; number = answer .number; password = m .password; address = m .address; command = m .command }
 
@@ -42,6 +43,10 @@ otherCrc = fields ++ (replicate 16 0 ++ 0xB8 ∷ 0 ∷ [])
 abbrev pub strayLast : List ℕ
 strayLast = fields ++ (replicate 16 0 ++ 0xBE ∷ 1 ∷ [])
 
+-- a whole block, read behind a board of zeros and written over ones, in an image of that size
+unfoldable pub overOnes : ℕ → List ℕ
+overOnes size = magicWritten size (magicIn size (replicate (magicAt size) 0 ++ wholeBlock)) (replicate (imageLength size) 1)
+
 unfoldable pub magicCases : List MagicCase
 magicCases =
     readAs wholeBlock (1 ∷ 2 ∷ 3 ∷ 4 ∷ 5 ∷ 6 ∷ []) (0x00 ∷ 0xA0 ∷ 0xC9 ∷ 0x11 ∷ 0x22 ∷ 0x33 ∷ []) 0x01E0
@@ -51,7 +56,7 @@ magicCases =
     -- another CRC, and a reserved byte that it does not fit
     ∷ refusedWith otherCrc 29
     ∷ refusedWith (fields ++ 1 ∷ replicate 15 0 ++ 0xB9 ∷ 0 ∷ []) 29
-    -- bytes 110, 125 and 127, with the CRC that covers them
+    -- the first reserved byte, the sixteenth and the last, with the CRC that covers them
     ∷ refusedWith (fields ++ 1 ∷ replicate 15 0 ++ 0xBB ∷ 0 ∷ []) 30
     ∷ refusedWith (fields ++ replicate 15 0 ++ 0x80 ∷ 0xB2 ∷ 0 ∷ []) 30
     ∷ refusedWith strayLast 30

@@ -5,9 +5,11 @@ use rom::store::put_byte;
 use rom::store::put_bytes;
 use rom::store::put_word;
 ghost use mathlib.Core.Path.{_≡_};
-ghost use Prim.Native.Nat.{_+_, _≤_};
+ghost use Prim.Native.Nat.{_+_, _-_, _≤_, _<_};
 ghost use lib.ListN.{length, take, drop, replicate};
-ghost use Rattle.rom.specs.Geometry.{withMagic, imageLength};
+ghost use Rattle.rom.specs.Geometry.{wrongLength};
+ghost use Rattle.rom.specs.Bytes.{byteAt, wordAt};
+ghost use mathlib.Core.Bool.{false};
 ghost use Rattle.magic.specs.Block.{place, badCrc, badReserved, blockWith};
 ghost use Rattle.magic.specs.Answer.{magicReadNumber, noMagic, magicReading, magicWriteNumber, magicWritten};
 
@@ -42,49 +44,74 @@ pub const CRC: u8 = 30;
 pub const LAST: u8 = 31;
 
 // Where a field stands in an image.
-pub fn place_of(field: u8) -> usize
-    ensures { λ r. ⌜ r ≡ place field ⌝ }
+pub fn place_of(size: u16, field: u8) -> usize
+    ensures { λ r. ⌜ r ≡ place size field ⌝ }
 {
-    rom::WITH_MAGIC.magic_at() + (field as usize)
+    rom::magic_at(size) + (field as usize)
+}
+
+// The same in an image of the right length, whose last bytes the block is.
+fn place_in(image: &[u8], field: u8) -> usize
+    requires { ⌜ 32 ≤ length (now image) ⌝ }
+    ensures { λ r. ⌜ r ≡ (length (now (image .entry)) - 32) + field ⌝ }
+{
+    image.len() - rom::MAGIC_LENGTH + (field as usize)
+}
+
+// A byte, and a word, that are known to be there.
+fn byte_in(image: &[u8], at: usize) -> u8
+    requires { ⌜ at < length (now image) ⌝ }
+    ensures { λ r. ⌜ r ≡ byteAt (now (image .entry)) at ⌝ }
+{
+    image[at]
+}
+
+fn word_in(image: &[u8], at: usize) -> u16
+    requires { ⌜ at + 1 < length (now image) ⌝ }
+    ensures { λ r. ⌜ r ≡ wordAt (now (image .entry)) at ⌝ }
+{
+    let low = byte_in(image, at);
+    let high = byte_in(image, at + 1);
+    (low as u16) + 256 * (high as u16)
 }
 
 // ## Reading
 
 // Whether the block's CRC is not the stored one.
-fn bad_crc(image: &[u8]) -> bool
-    requires { ⌜ length (now image) ≡ imageLength withMagic ⌝ }
-    ensures { λ r. ⌜ r ≡ badCrc (now (image .entry)) ⌝ }
+fn bad_crc(image: &[u8], size: u16) -> bool
+    requires { ⌜ wrongLength size (length (now image)) ≡ false ⌝ }
+    ensures { λ r. ⌜ r ≡ badCrc size (now (image .entry)) ⌝ }
 {
-    let stored = rom::byte_at(image, ByteOffset(place_of(CRC)));
-    (stored as u16) != crc::magic_crc(image).value
+    let stored = byte_in(image, place_in(image, CRC));
+    (stored as u16) != crc::magic_crc(image, size).value
 }
 
 // Whether a reserved byte is not 0.
-fn bad_reserved(image: &[u8]) -> bool
-    requires { ⌜ length (now image) ≡ imageLength withMagic ⌝ }
-    ensures { λ r. ⌜ r ≡ badReserved (now (image .entry)) ⌝ }
+fn bad_reserved(image: &[u8], size: u16) -> bool
+    requires { ⌜ wrongLength size (length (now image)) ≡ false ⌝ }
+    ensures { λ r. ⌜ r ≡ badReserved size (now (image .entry)) ⌝ }
 {
-    let start = place_of(ZEROS);
-    let end = place_of(CRC);
+    let start = place_in(image, ZEROS);
+    let end = place_in(image, CRC);
     let zeros = rom::all_zero(&image[start..end]);
     if !zeros {
         return true;
     }
-    rom::byte_at(image, ByteOffset(place_of(LAST))) != 0
+    byte_in(image, place_in(image, LAST)) != 0
 }
 
 // Why a block is refused: 1, 29 or 30.
-pub fn judge(image: &[u8]) -> u8
-    ensures { λ r. ⌜ r ≡ magicReadNumber (now (image .entry)) ⌝ }
+pub fn judge(image: &[u8], size: u16) -> u8
+    ensures { λ r. ⌜ r ≡ magicReadNumber size (now (image .entry)) ⌝ }
 {
-    if image.len() != rom::WITH_MAGIC.image_length() {
+    if rom::is_wrong_length(size, image.len()) {
         return refusal::IMAGE_LENGTH;
     }
-    let crc = bad_crc(image);
+    let crc = bad_crc(image, size);
     if crc {
         return refusal::MAGIC_CRC;
     }
-    let reserved = bad_reserved(image);
+    let reserved = bad_reserved(image, size);
     if reserved {
         return refusal::MAGIC_RESERVED;
     }
@@ -112,10 +139,10 @@ fn no_magic() -> Magic
 }
 
 // What the block says, or the first refusal.
-pub fn read(image: &[u8]) -> MagicAnswer
-    ensures { λ r. ⌜ r ≡ magicReading (now (image .entry)) ⌝ }
+pub fn read(image: &[u8], size: u16) -> MagicAnswer
+    ensures { λ r. ⌜ r ≡ magicReading size (now (image .entry)) ⌝ }
 {
-    let number = judge(image);
+    let number = judge(image, size);
     if number != refusal::ACCEPTED {
         return MagicAnswer {
             number,
@@ -125,9 +152,9 @@ pub fn read(image: &[u8]) -> MagicAnswer
     MagicAnswer {
         number,
         magic: Magic {
-            password: six_at(image, place_of(PASSWORD)),
-            address: six_at(image, place_of(ADDRESS)),
-            command: rom::word_at(image, ByteOffset(place_of(COMMAND))),
+            password: six_at(image, place_in(image, PASSWORD)),
+            address: six_at(image, place_in(image, ADDRESS)),
+            command: word_in(image, place_in(image, COMMAND)),
         },
     }
 }
@@ -154,16 +181,18 @@ fn block_of(magic: Magic) -> [u8; rom::MAGIC_LENGTH]
 }
 
 // Writes a block behind the board's bytes, which stay as they are.
-pub fn write(magic: Magic, image: &mut [u8]) -> u8
-    ensures { λ r. ⌜ r ≡ magicWriteNumber (now (image .entry)) ⌝ }
-    ensures { λ r. ⌜ now (image .exit) ≡ magicWritten magic (now (image .entry)) ⌝ }
+pub fn write(magic: Magic, image: &mut [u8], size: u16) -> u8
+    ensures { λ r. ⌜ r ≡ magicWriteNumber size (now (image .entry)) ⌝ }
+    ensures { λ r. ⌜ now (image .exit) ≡ magicWritten size magic (now (image .entry)) ⌝ }
 {
-    if image.len() != rom::WITH_MAGIC.image_length() {
+    if rom::is_wrong_length(size, image.len()) {
         return refusal::IMAGE_LENGTH;
     }
+    let start = place_in(image, PASSWORD);
+    let crc_at = place_in(image, CRC);
     let block = block_of(magic);
-    put_bytes(image, ByteOffset(place_of(PASSWORD)), &block);
-    let crc = crc::magic_crc(image).value;
-    put_byte(image, ByteOffset(place_of(CRC)), crc as u8);
+    put_bytes(image, ByteOffset(start), &block);
+    let crc = crc::magic_crc(image, size).value;
+    put_byte(image, ByteOffset(crc_at), crc as u8);
     refusal::ACCEPTED
 }

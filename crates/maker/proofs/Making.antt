@@ -9,13 +9,14 @@ use lib.ListN.{length, drop}
 use lib.Dec.{eqb, ltb}
 use borrow.Author.Tests.{eq-eqb, ne-eqb, lt-ltb, le-ltb}
 use Rattle.rom.specs.declared.Layout.{Layout}
-use Rattle.rom.specs.Geometry.{imageLength, controllerCountAt, controllersAt}
+use Rattle.rom.specs.Geometry.{smallSize, otherSize, imageLength, controllerCountAt, controllersAt}
 use Rattle.rom.specs.Bytes.{pick, byteAt, wordAt, allZero}
 use Rattle.rom.specs.Store.{put}
 use Rattle.rom.specs.Refusal.{_⇒_, firstMet}
-use Rattle.rom.proofs.Layouts.{geometry}
-use Rattle.rom.proofs.First.{after-accepted, after-refused}
-use Rattle.rom.proofs.Reached.{reached, end, stop, skip}
+use Rattle.rom.proofs.Layouts.{geometry, small-length, not-other}
+use Rattle.rom.proofs.First.{after-accepted}
+use Rattle.rom.proofs.Truth.{pick-false}
+use Rattle.rom.proofs.Reached.{reached, end, stop, skip, among}
 use Rattle.rom.proofs.Put.{put-length}
 use Rattle.header.specs.Image.{controllerCount, leafAt, restFrom}
 use Rattle.reader.specs.declared.Reading.{Reading}
@@ -77,7 +78,7 @@ module _ {l : Layout} {sheet image : List ℕ} {chip total : ℕ} {r : Reading} 
   field = field-long l image (read-whole l chip its-reading) chip (r .answer)
 
   module _ {one : List ℕ} (e₁ : one ≡ put sheet 0 (frontBytes (r .answer .blocks) total image)) where
-    pub fields-room : (length image ≡ imageLength l) × (headLength ≤ length one)
+    pub fields-room : (length image ≡ imageLength (l .size)) × (headLength ≤ length one)
     fields-room = (
       read-whole l chip its-reading,
       omega (
@@ -116,14 +117,19 @@ refused-done l image chip buffer {n} em z en =
     = ne-eqb (makeNumber l image chip (length buffer)) 0 (λ e. z (en ∙ e)) in
     (em ∙ rw (f, en), simp f)
 
-module _ (l : Layout) (image : List ℕ) (chip : ℕ) (r : Reading) (er : r ≡ judgedReading image (newest l chip)) where
+pub make-other : (l : Layout) (image : List ℕ) (chip room : ℕ) → (l .size ≡ smallSize → ⊥) → 1 ≡ makeNumber l image chip room
+unfolding makeNumber makeCauses otherSize
+make-other l image chip room h = reached (stop (ap not (ne-eqb (l .size) smallSize h)))
+
+module _ (l : Layout) (small : l .size ≡ smallSize) (image : List ℕ) (chip : ℕ)
+    (r : Reading) (er : r ≡ judgedReading image (newest l chip)) where
   number-read : r .answer .number ≡ firstMet (judgeCauses image (newest l chip))
   unfolding judgedReading
   number-read = reading-number (firstMet (judgeCauses image (newest l chip))) image (newest l chip) r er
 
   pub make-refused : (room : ℕ) → (r .answer .number ≡ 0 → ⊥) → r .answer .number ≡ makeNumber l image chip room
   unfolding makeNumber makeCauses
-  make-refused room z = sym (after-refused (judgeCauses image (newest l chip)) _ (r .answer .number) z (sym number-read))
+  make-refused room z = reached (skip (not-other (l .size) small) (among (judgeCauses image (newest l chip)) _ z (sym number-read)))
 
   module _ (z : r .answer .number ≡ 0) where
     pub is-read : Accepted image (newest l chip) r
@@ -131,16 +137,20 @@ module _ (l : Layout) (image : List ℕ) (chip : ℕ) (r : Reading) (er : r ≡ 
 
     past-reading : (room : ℕ) → makeNumber l image chip room
         ≡ firstMet ((27 ⇒ not (isTidy l chip image)) ∷ (12 ⇒ ltb room (length (sheetFor l image chip))) ∷ [])
-    unfolding makeNumber makeCauses
-    past-reading room = after-accepted (judgeCauses image (newest l chip)) _ (judge-numbered image (newest l chip)) (sym number-read ∙ z)
+    unfolding makeNumber makeCauses firstMet
+    past-reading room =
+        pick-false (otherSize (l .size)) _ _ (not-other (l .size) small)
+        ∙ after-accepted (judgeCauses image (newest l chip)) _ (judge-numbered image (newest l chip)) (sym number-read ∙ z)
 
     module _ (leaves : List ℕ) (q : leaves ≡ restFrom l image 0) (m : Measured)
         (em : m ≡ measuredOf (r .row) (r .start) (r .answer .blocks) (drop (r .start) leaves)) where
       measured : m ≡ measuredOf (r .row) (r .start) (r .answer .blocks) (restFrom l image (r .start))
       measured = rw (read-leaf l chip is-read leaves q) at em
 
-      pub end-fits : m .end ≤ length leaves → m .end ≤ 128
-      end-fits h = let g = geometry l in omega (arith, leaves-long l chip is-read leaves q)
+      pub end-fits : m .end ≤ length leaves → m .end ≤ smallSize
+      end-fits h =
+          let g = geometry l in
+          omega (arith, small-length (l .size) (not-other (l .size) small), leaves-long l chip is-read leaves q)
 
       bodies-are : m .bodies ≡ length (bodyBytes (imageFrom l chip image .entries))
       unfolding measuredOf

@@ -103,7 +103,7 @@ module _ (image : List ℕ) (enough : leafStart ≤ length image) where
       take-suc (drop addressAt image) 6 0 (omega (arith, length-drop addressAt image))
       ∙ ap (λ (x : ℕ). take 6 (drop addressAt image) ++ (x ∷ [])) (getD-drop addressAt image 6 0)
 
-module _ (l : Layout) (image : List ℕ) (whole : length image ≡ imageLength l) where
+module _ (l : Layout) (image : List ℕ) (whole : length image ≡ imageLength (l .size)) where
   maker-long : length (take 2 (drop (leavesEnd l) image)) ≡ 2
   maker-long =
       let g = geometry l in length-take-le 2 (drop (leavesEnd l) image) (omega (arith, length-drop (leavesEnd l) image))
@@ -170,7 +170,7 @@ parts-long es = simp length-append (omega (arith, kind-length es, size-length es
 -- ## The sheet of an image that is read
 
 module _ (l : Layout) (chip : ℕ) {image : List ℕ} {r : Reading} (c : Accepted image (newest l chip) r) where
-  pub read-whole : length image ≡ imageLength l
+  pub read-whole : length image ≡ imageLength (l .size)
   unfolding newest
   read-whole = whole-image image (newest l chip) (c .header)
 

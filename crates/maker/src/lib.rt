@@ -76,7 +76,7 @@ fn put_front(sheet: &mut [u8], image: &[u8], count: u8, total: u8)
 
 // Bytes 27 to 33: the chip, the connection type, the control byte and the maker's bytes.
 fn put_fields(sheet: &mut [u8], image: &[u8], chip: u16, layout: Layout, answer: Answer)
-    requires { ⌜ (length (now image) ≡ imageLength layout) × (headLength ≤ length (now sheet)) ⌝ }
+    requires { ⌜ (length (now image) ≡ imageLength (layout .size)) × (headLength ≤ length (now sheet)) ⌝ }
     ensures { λ _. ⌜ now (sheet .exit) ≡ put (now (sheet .entry)) chipAt (fieldBytes layout chip answer (now (image .entry))) ⌝ }
 {
     put_word(sheet, ByteOffset(sheet::CHIP_AT), chip);
@@ -105,6 +105,9 @@ pub fn make(image: &[u8], chip: u16, layout: Layout, buffer: &mut [u8]) -> Made
     ensures { λ r. ⌜ r ≡ madeFor layout (now (image .entry)) chip (length (now (buffer .entry))) ⌝ }
     ensures { λ r. ⌜ now (buffer .exit) ≡ made layout (now (image .entry)) chip (now (buffer .entry)) ⌝ }
 {
+    if layout.size != rom::SMALL_SIZE {
+        return refused(refusal::IMAGE_LENGTH);
+    }
     let reading = reader::assess(
         image,
         Arguments {

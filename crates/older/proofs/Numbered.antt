@@ -38,7 +38,7 @@ flag-in p (s ∷ bs) n (suc k) = flag-in p bs n k
 -- a row's flag at k is 1 exactly if block k is there and taken
 pub flag-block : (p : List ℕ → Bool) (bs : List (List ℕ)) (k : ℕ) → flagAt (flags p bs) k ≡ blockIs p bs k
 unfolding flags
-flag-block p bs k = flag-in p bs (128 - length bs) k
+flag-block p bs k = flag-in p bs (256 - length bs) k
 
 -- ## Blocks that are there
 

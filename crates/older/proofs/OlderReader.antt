@@ -7,7 +7,7 @@ use mathlib.Core.Bool.{Bool, true, false}
 use mathlib.Core.Logic.{inl, inr}
 use lib.ListN.{length}
 use Rattle.rom.specs.Geometry.{none}
-use Rattle.rom.specs.Bytes.{pick}
+use Rattle.rom.specs.Bytes.{pick, Bytes}
 use Rattle.rom.specs.Refusal.{firstMet}
 use Rattle.format.specs.Chips.{newestLevel}
 use Rattle.header.specs.declared.Arguments.{Arguments}
@@ -25,7 +25,7 @@ use Rattle.older.specs.Levels.{removedBlock}
 use Rattle.older.specs.Calls.{Call, call, run, Each, QuietAt, RefusedAt}
 use Rattle.older.specs.Claims.{newestChoice, ChoiceListed, Comparable, wayFor, WalksAgree, NoChoice, OlderReader}
 use Rattle.older.proofs.Numbered.{block-past, listed-level, invalid-level, fixed-level, flags-same, fixed-fewer, not-removed}
-use Rattle.older.proofs.OlderReadings.{parts, judge-down, default-number, reads-agree}
+use Rattle.older.proofs.OlderReadings.{judge-down, default-number, reads-agree}
 use Rattle.older.specs.Alike.{DefaultKept, Kept, StandAlike}
 use Rattle.older.proofs.Simulation.{on, choice-same, runs-agree}
 use Rattle.older.proofs.Lacking.{idle, each-refused}
@@ -41,7 +41,7 @@ each-quiet : (image : List ℕ) (a : Arguments) (w : Walk) (cs : List Call) → 
 each-quiet image a w [] = tt
 each-quiet image a w (c ∷ cs) = (tt, each-quiet image a (call image a w c .walk) cs)
 
-module _ (image : List ℕ) (a : Arguments) (older : ℕ) (h : older < newestLevel)
+module _ (image : List ℕ) (a : Arguments) (older : ℕ) (bytes : Bytes image) (h : older < newestLevel)
     (e : firstMet (judgeCauses image (atLevel a newestLevel)) ≡ 0) where
   abbrev new : Arguments
   new = atLevel a newestLevel
@@ -58,11 +58,10 @@ module _ (image : List ℕ) (a : Arguments) (older : ℕ) (h : older < newestLev
 
   nowhere : removedBlock image a older none ≡ false
   nowhere =
-      let b = parts image new e in
       let few : length (blocksFor image a) ≤ none =
       omega (
         arith,
-        few-blocks image new (b .0) (b .1),
+        few-blocks image a bytes,
         cut-length (rowFor a) (countFor image a) (restFrom (a .layout) image (startFor image a)),
       ) in
       block-past _ (blocksFor image a) none few
@@ -141,8 +140,8 @@ module _ (image : List ℕ) (a : Arguments) (older : ℕ) (h : older < newestLev
         ∙ lacking) idle calls
 
 pub no-choice : NoChoice
-no-choice image a older h e fixed lacking calls =
-    (newest-refused image a older h e fixed lacking calls, older-refused image a older h e fixed lacking calls)
+no-choice image a older bytes h e fixed lacking calls =
+    (newest-refused image a older bytes h e fixed lacking calls, older-refused image a older bytes h e fixed lacking calls)
 
 pub older-reader : OlderReader
-older-reader image a older h e = (reads-agree image a older h e, walks-agree image a older h e)
+older-reader image a older bytes h e = (reads-agree image a older h e, walks-agree image a older bytes h e)

@@ -6,8 +6,7 @@ use mathlib.Core.List.{List, [], _∷_, _++_, map, map-append, append-nil, rever
 use mathlib.Core.Path.{_≡_, refl, ap, sym, _∙_}
 use mathlib.Core.Bool.{Bool, true, false, _&&_, not}
 use lib.ListN.{length, getD, replicate, length-append, length-map, length-replicate, replicate-append-replicate}
-use Rattle.rom.specs.Bytes.{pick, one}
-use Rattle.rom.specs.Refusal.{firstMet}
+use Rattle.rom.specs.Bytes.{pick, one, Bytes}
 use Rattle.rom.proofs.Truth.{and-false}
 use Rattle.format.specs.Block.{sizeOf, isListed}
 use Rattle.header.specs.declared.Arguments.{Arguments}
@@ -15,7 +14,7 @@ use Rattle.header.specs.Image.{restFrom}
 use Rattle.header.specs.Header.{rowFor, startFor, countFor}
 use Rattle.leaf.specs.Leaf.{Place, placed, keep, table, tableOf}
 use Rattle.leaf.proofs.Cuts.{cut-length}
-use Rattle.reader.specs.Reading.{blocksFor, judgeCauses, acceptedAnswer}
+use Rattle.reader.specs.Reading.{blocksFor, acceptedAnswer}
 use Rattle.rom.specs.Geometry.{none}
 use Rattle.walk.specs.Walk.{rowLength, noFlags, flags, blockIs, isInvalid, isFixedMedium, isUp, rowsOf, loadedWalk, lastBelow, isCandidate}
 use Rattle.walk.specs.Walk.{firstUp, fixedBlock}
@@ -23,7 +22,6 @@ use Rattle.walk.proofs.Loads.{few-blocks}
 use Rattle.older.specs.Claims.{FlagForEach, RowsSay, ZerosElsewhere, numbersFrom, entryNumbers, firstOf, TableNumbers, FirstInOrder}
 use Rattle.older.specs.Claims.{FixedInOrder}
 use Rattle.older.proofs.Numbered.{flag-block}
-use Rattle.older.proofs.OlderReadings.{parts}
 use Rattle.older.proofs.Simulation.{last-same}
 
 -- ## Rows
@@ -33,21 +31,21 @@ unfolding loadedWalk rowsOf
 rows-say image a k =
     (flag-block _ (blocksFor image a) k, flag-block _ (blocksFor image a) k, flag-block _ (blocksFor image a) k)
 
-flags-length : (p : List ℕ → Bool) (bs : List (List ℕ)) → length bs ≤ 128 → length (flags p bs) ≡ rowLength
+flags-length : (p : List ℕ → Bool) (bs : List (List ℕ)) → length bs ≤ 256 → length (flags p bs) ≡ rowLength
 unfolding flags
 flags-length p bs h =
     omega (
       arith,
-      length-append (map (λ s. one (p s)) bs) (replicate (128 - length bs) 0),
+      length-append (map (λ s. one (p s)) bs) (replicate (256 - length bs) 0),
       length-map bs (λ s. one (p s)),
-      length-replicate {A = ℕ} (128 - length bs) 0,
+      length-replicate {A = ℕ} (256 - length bs) 0,
     )
 
-module _ (image : List ℕ) (a : Arguments) (e : firstMet (judgeCauses image a) ≡ 0) where
-  few : countFor image a ≤ 91
-  few = let b = parts image a e in few-blocks image a (b .0) (b .1)
+module _ (image : List ℕ) (a : Arguments) (bytes : Bytes image) where
+  few : countFor image a ≤ 255
+  few = omega (arith, few-blocks image a bytes)
 
-  short : length (blocksFor image a) ≤ 128
+  short : length (blocksFor image a) ≤ 256
   short = omega (arith, few, cut-length (rowFor a) (countFor image a) (restFrom (a .layout) image (startFor image a)))
 
 pub flag-for-each : FlagForEach
@@ -68,11 +66,11 @@ pub zeros-elsewhere : ZerosElsewhere
 unfolding loadedWalk rowsOf flags noFlags isFixedMedium
 zeros-elsewhere image a e f =
     let bs = blocksFor image a in
-    let all : length bs + (128 - length bs) ≡ 128 = omega (arith, short image a e) in
-    ap (λ (r : List ℕ). r ++ replicate (128 - length bs) 0)
+    let all : length bs + (256 - length bs) ≡ 256 = omega (arith, short image a e) in
+    ap (λ (r : List ℕ). r ++ replicate (256 - length bs) 0)
     (no-flag (isFixedMedium (acceptedAnswer image a .connection) (rowFor a) (a .level))
     (λ s. rw f (and-false (isListed (rowFor a) (a .level) s))) bs)
-    ∙ replicate-append-replicate (length bs) (128 - length bs) 0
+    ∙ replicate-append-replicate (length bs) (256 - length bs) 0
     ∙ ap (λ (n : ℕ). replicate n 0) all
 
 -- ## Numbers

@@ -7,7 +7,7 @@ use mathlib.Core.Logic.{_⊎_}
 use lib.Dec.{eqb, ltb}
 use lib.ListN.{length, getD}
 use Rattle.rom.specs.Geometry.{none}
-use Rattle.rom.specs.Bytes.{pick, one, isIn}
+use Rattle.rom.specs.Bytes.{pick, one, isIn, Bytes}
 use Rattle.rom.specs.Refusal.{firstMet}
 use Rattle.format.specs.Chips.{newestLevel}
 use Rattle.format.specs.Block.{kindOf, isKnown, isListed, isReset, isPower, isSkipped, isDefault}
@@ -83,10 +83,10 @@ WalksAgree image a older =
     (calls : List Call) → Comparable (wayFor image a) image a older calls →
     run image (atLevel a newestLevel) freshWalk calls ≡ run image (atLevel a older) freshWalk calls
 
--- for every image and arguments that the newest reader accepts, 12 apart, and every older level
+-- for every image, which is bytes, and arguments that the newest reader accepts, 12 apart, and every older level
 abbrev pub OlderReader : Type 0
 OlderReader =
-    (image : List ℕ) (a : Arguments) (older : ℕ) → older < newestLevel →
+    (image : List ℕ) (a : Arguments) (older : ℕ) → Bytes image → older < newestLevel →
     firstMet (judgeCauses image (atLevel a newestLevel)) ≡ 0 →
     ReadsAgree image a older × WalksAgree image a older
 
@@ -104,7 +104,7 @@ ReadBelow =
 -- under a fixed type without a choice every look at a loaded walk is refused with 32, at both levels
 abbrev pub NoChoice : Type 0
 NoChoice =
-    (image : List ℕ) (a : Arguments) (older : ℕ) → older < newestLevel →
+    (image : List ℕ) (a : Arguments) (older : ℕ) → Bytes image → older < newestLevel →
     firstMet (judgeCauses image (atLevel a newestLevel)) ≡ 0 →
     isFixed (wayFor image a) ≡ true → newestChoice image a ≡ none →
     (calls : List Call) →
@@ -154,10 +154,10 @@ OneLook = (removed : ℕ → Bool) (new old : Walk) (report : List ℕ) → remo
 
 -- ## Rows (demand 2)
 
--- an accepted leaf has at most 91 blocks, so each has its flag in rows of 128
+-- a leaf of bytes has at most 255 blocks, so each has its flag in rows of 256
 abbrev pub FlagForEach : Type 0
-FlagForEach = (image : List ℕ) (a : Arguments) → firstMet (judgeCauses image a) ≡ 0 →
-    (loadedWalk image a .blocks ≤ 91)
+FlagForEach = (image : List ℕ) (a : Arguments) → Bytes image →
+    (loadedWalk image a .blocks ≤ 255)
     × (length (loadedWalk image a .rows .listed) ≡ rowLength) × (length (loadedWalk image a .rows .«active_invalid») ≡ rowLength)
     × (length (loadedWalk image a .rows .fixed) ≡ rowLength)
 
@@ -171,8 +171,7 @@ RowsSay = (image : List ℕ) (a : Arguments) (k : ℕ) →
 
 -- the row of the fixed medium is all zeros where the type is not fixed
 abbrev pub ZerosElsewhere : Type 0
-ZerosElsewhere = (image : List ℕ) (a : Arguments) → firstMet (judgeCauses image a) ≡ 0
-    → isFixed (wayOf (loadedWalk image a .connection)) ≡ false
+ZerosElsewhere = (image : List ℕ) (a : Arguments) → Bytes image → isFixed (wayOf (loadedWalk image a .connection)) ≡ false
     → loadedWalk image a .rows .fixed ≡ noFlags
 
 -- ## Table order

@@ -14,6 +14,7 @@ use text::line;
 use text::line::Line;
 use text::line::say;
 use text::slice::byte_at;
+ghost use Prim.Native.Nat.{_<_};
 
 // ## What a byte belongs to
 
@@ -156,17 +157,20 @@ fn colour(line: Line, field: u8) -> Line {
     ))
 }
 
+// There is a cell for each byte of the larger size.
+const CELLS: usize = rom::LARGE_LENGTH;
+
 // The bytes' fields, and with each the number of the controller or of the block that it is of.
 struct Cells {
-    fields: [u8; rom::IMAGE_LENGTH],
-    numbers: [u8; rom::IMAGE_LENGTH],
+    fields: [u8; CELLS],
+    numbers: [u8; CELLS],
 }
 
 impl Cells {
     fn none() -> Cells {
         Cells {
-            fields: [PRIVATE; rom::IMAGE_LENGTH],
-            numbers: [0; rom::IMAGE_LENGTH],
+            fields: [PRIVATE; CELLS],
+            numbers: [0; CELLS],
         }
     }
 
@@ -175,7 +179,7 @@ impl Cells {
         let mut k = 0;
         let mut at = start;
         while k < count {
-            if rom::IMAGE_LENGTH <= at {
+            if CELLS <= at {
                 return cells;
             }
             cells.fields[at] = field;
@@ -202,12 +206,12 @@ impl Cells {
         if !layout.magic {
             return self;
         }
-        self.painted(PASSWORD, 0, place_of(magic::PASSWORD), 6)
-            .painted(WAKE_ADDRESS, 0, place_of(magic::ADDRESS), 6)
-            .painted(COMMAND, 0, place_of(magic::COMMAND), 2)
-            .painted(RESERVED, 0, place_of(magic::ZEROS), 16)
-            .painted(MAGIC_CRC, 0, place_of(magic::CRC), 1)
-            .painted(RESERVED, 0, place_of(magic::LAST), 1)
+        self.painted(PASSWORD, 0, place_of(layout.size, magic::PASSWORD), 6)
+            .painted(WAKE_ADDRESS, 0, place_of(layout.size, magic::ADDRESS), 6)
+            .painted(COMMAND, 0, place_of(layout.size, magic::COMMAND), 2)
+            .painted(RESERVED, 0, place_of(layout.size, magic::ZEROS), 16)
+            .painted(MAGIC_CRC, 0, place_of(layout.size, magic::CRC), 1)
+            .painted(RESERVED, 0, place_of(layout.size, magic::LAST), 1)
     }
 }
 
@@ -286,6 +290,58 @@ fn cells_of(image: &[u8], arguments: Arguments) -> Cells {
     cells.painted(RESERVED, 0, rom::CONTROLLERS_AT + 3 * (count as usize), 1)
 }
 
+// ## The page
+
+// How a page is laid out, in its own units: the height of a cell; below its top the baselines of its value, of its label and
+// of its row's offset; and where the legend and the lines on blocks that are stepped over begin.
+struct Page {
+    width: u16,
+    height: u16,
+    cell: u8,
+    value: u8,
+    label: u8,
+    offset: u8,
+    keys: u16,
+    unknowns: u16,
+}
+
+const SMALL_PAGE: Page = Page {
+    width: 1120,
+    height: 818,
+    cell: 60,
+    value: 30,
+    label: 50,
+    offset: 38,
+    keys: 600,
+    unknowns: 756,
+};
+
+// Has the form of A4, upright, on which its smallest text is one of 6 points.
+const LARGE_PAGE: Page = Page {
+    width: 1092,
+    height: 1544,
+    cell: 36,
+    value: 19,
+    label: 32,
+    offset: 26,
+    keys: 1318,
+    unknowns: 1472,
+};
+
+fn page_of(size: u16) -> Page {
+    if size == rom::SMALL_SIZE {
+        return SMALL_PAGE;
+    }
+    LARGE_PAGE
+}
+
+// Where a row of cells begins. Between two rows is room.
+fn row_top(page: Page, row: u16) -> u64
+    ensures { λ r. ⌜ r < 20000000 ⌝ }
+{
+    84 + ((page.cell as u64) + 2) * (row as u64)
+}
+
 // ## The picture
 
 fn styles(file: i32) {
@@ -337,46 +393,55 @@ fn end_text(line: Line, file: i32) {
     line.text(b"</text>").end(file);
 }
 
-fn draw_cell(file: i32, at: u8, byte: u8, field: u8, number: u8) {
+fn draw_cell(file: i32, page: Page, at: u16, byte: u8, field: u8, number: u8) {
     let x = 60 + 64 * ((at % 16) as u64);
-    let y = 84 + 62 * ((at / 16) as u64);
-    let line = line::of(
-        b"<rect class=\"field#\" x=\"#\" y=\"#\"",
-        [field as u64, x, y, 0],
-    );
-    line.text(b" width=\"62\" height=\"60\"/>").end(file);
-    let value = text_in(b"value", field, x + 31, y + 30);
+    let y = row_top(page, at / 16);
+    let middle = x + 31;
+    let value_at = y + (page.value as u64);
+    let label_at = y + (page.label as u64);
+    line::of(
+            b"<rect class=\"field#\" x=\"#\" y=\"#\"",
+            [field as u64, x, y, 0],
+        )
+        .with(b" width=\"62\" height=\"#\"/>", [page.cell as u64, 0, 0, 0])
+        .end(file);
+    let value = text_in(b"value", field, middle, value_at);
     end_text(value.with(b"%", [byte as u64, 0, 0, 0]), file);
-    end_text(
-        label(text_in(b"label", field, x + 31, y + 50), field, number),
-        file,
-    );
+    let name = text_in(b"label", field, middle, label_at);
+    end_text(label(name, field, number), file);
 }
 
-fn draw_cells(file: i32, image: &[u8], cells: Cells) {
+fn draw_cells(file: i32, page: Page, image: &[u8], cells: Cells) {
     let fields = cells.fields;
     let numbers = cells.numbers;
-    let mut at = 0u8;
-    while at < 128 {
+    let mut at = 0u16;
+    while at < rom::LARGE_SIZE {
         let i = at as usize;
-        draw_cell(file, at, byte_at(image, i), fields[i], numbers[i]);
+        if image.len() <= i {
+            return;
+        }
+        draw_cell(file, page, at, byte_at(image, i), fields[i], numbers[i]);
         at += 1;
     }
 }
 
-// The number of each row's first byte.
-fn draw_offsets(file: i32) {
-    let mut row = 0u64;
-    while row < 8 {
-        let line = text_at(b"value", 30, 122 + 62 * row);
-        end_text(line.with(b"#", [16 * row, 0, 0, 0]), file);
+// The number of a row's first byte.
+fn draw_offset(file: i32, page: Page, row: u16) {
+    let line = text_at(b"value", 30, row_top(page, row) + (page.offset as u64));
+    end_text(line.with(b"#", [16 * (row as u64), 0, 0, 0]), file);
+}
+
+fn draw_offsets(file: i32, page: Page, rows: u16) {
+    let mut row = 0u16;
+    while row < rows {
+        draw_offset(file, page, row);
         row += 1;
     }
 }
 
-fn draw_key(file: i32, field: u8) {
+fn draw_key(file: i32, page: Page, field: u8) {
     let x = 60 + 212 * ((field % 5) as u64);
-    let y = 600 + 26 * ((field / 5) as u64);
+    let y = (page.keys as u64) + 26 * ((field / 5) as u64);
     let line = line::of(
         b"<rect class=\"field#\" x=\"#\" y=\"#\"",
         [field as u64, x, y, 0],
@@ -385,23 +450,28 @@ fn draw_key(file: i32, field: u8) {
     end_text(field_words(text_at(b"words", x + 36, y + 14), field), file);
 }
 
-fn draw_keys(file: i32, layout: Layout) {
+fn draw_keys(file: i32, page: Page, layout: Layout) {
     let fields = fields_of(layout);
     let mut field = 0u8;
     while field < fields {
-        draw_key(file, field);
+        draw_key(file, page, field);
         field += 1;
     }
 }
 
+fn magic_words(line: Line, layout: Layout) -> Line {
+    if layout.magic {
+        return line.text(b" with a Magic Packet block");
+    }
+    line
+}
+
 fn draw_title(file: i32, arguments: Arguments, number: u8) {
+    let layout = arguments.layout;
     let line = text_at(b"title", 60, 36);
     let line = line.with(b"Serial ROM of a # card", [arguments.chip as u64, 0, 0, 0]);
-    if arguments.layout.magic {
-        end_text(line.text(b" with a Magic Packet block"), file);
-    } else {
-        end_text(line, file);
-    }
+    let line = magic_words(line, layout);
+    end_text(report::size_words(line, false, layout.size), file);
     draw_verdict(file, arguments, number);
 }
 
@@ -439,6 +509,7 @@ fn draw_unknown(file: i32, number: u8, place: Place, level: u8, y: u64) {
 
 // The first blocks of the controller that the reader steps over, as many as there is room for.
 fn draw_unknowns(file: i32, image: &[u8], arguments: Arguments, blocks: u8) {
+    let first = page_of(arguments.layout.size).unknowns as u64;
     let mut drawn = 0u64;
     let mut k = 0u8;
     while k < blocks {
@@ -446,7 +517,7 @@ fn draw_unknowns(file: i32, image: &[u8], arguments: Arguments, blocks: u8) {
         let known = report::is_known(place.kind, arguments.level);
         if !known {
             if drawn < 3 {
-                draw_unknown(file, k, place, arguments.level, 756 + 22 * drawn);
+                draw_unknown(file, k, place, arguments.level, first + 22 * drawn);
                 drawn += 1;
             }
         }
@@ -454,21 +525,29 @@ fn draw_unknowns(file: i32, image: &[u8], arguments: Arguments, blocks: u8) {
     }
 }
 
+// The page's frame, its styles and its ground.
+fn open_page(file: i32, page: Page) {
+    let width = page.width as u64;
+    let height = page.height as u64;
+    line::of(
+        b"<svg xmlns=\"http://www.w3.org/2000/svg\" viewBox=\"0 0 # #\">",
+        [width, height, 0, 0],
+    ).end(file);
+    styles(file);
+    line::of(b"<rect width=\"#\" height=\"#\"", [width, height, 0, 0])
+        .text(b" fill=\"#ffffff\"/>")
+        .end(file);
+}
+
 // Whether the last of it could be written: what is full stays full.
 fn draw(file: i32, image: &[u8], arguments: Arguments, number: u8) -> bool {
-    io::write_all(
-        file,
-        b"<svg xmlns=\"http://www.w3.org/2000/svg\" viewBox=\"0 0 1120 818\">\n",
-    );
-    styles(file);
-    io::write_all(
-        file,
-        b"<rect width=\"1120\" height=\"818\" fill=\"#ffffff\"/>\n",
-    );
+    let layout = arguments.layout;
+    let page = page_of(layout.size);
+    open_page(file, page);
     draw_title(file, arguments, number);
-    draw_offsets(file);
-    draw_cells(file, image, cells_of(image, arguments));
-    draw_keys(file, arguments.layout);
+    draw_offsets(file, page, layout.size / 16);
+    draw_cells(file, page, image, cells_of(image, arguments));
+    draw_keys(file, page, layout);
     draw_unknowns(
         file,
         image,
@@ -478,11 +557,12 @@ fn draw(file: i32, image: &[u8], arguments: Arguments, number: u8) -> bool {
     io::write_all(file, b"</svg>\n")
 }
 
-// Draws the picture of an image to the file that a word names. An image of another length has none.
-pub fn show(image: &[u8], arguments: Arguments, place: usize, force: bool) -> u8 {
+// Draws the picture of an image to the file that a word names. An image of another length than its size, which may have been
+// given, has none.
+pub fn show(image: &[u8], arguments: Arguments, given: bool, place: usize, force: bool) -> u8 {
     let number = reader::judge(image, arguments).number;
     if number != refusal::ACCEPTED {
-        report::show_refused(image, arguments, number);
+        report::show_refused(image, arguments, given, number);
     }
     if number == refusal::IMAGE_LENGTH {
         return status::REFUSED;

@@ -1,3 +1,4 @@
+pub mod Sizes
 pub mod Words
 pub mod Blocks
 pub mod Layouts

@@ -1,6 +1,7 @@
 -- Words for what a card says.
 use Prim.Native.Nat.{ℕ, zero, suc, _+_, _/_, _%_}
 use Prim.Native.String.{String}
+use mathlib.Core.Bool.{Bool}
 use mathlib.Core.List.{List, [], _∷_, _++_}
 use lib.Dec.{eqb, leb}
 use lib.ListN.{getD}
@@ -13,6 +14,7 @@ use Rattle.text.specs.Written.{withValues, withFields}
 use Rattle.format.specs.Chips.{kindCompact, kind21041}
 use Rattle.header.specs.declared.Arguments.{Arguments}
 use Rattle.survey.specs.declared.Place.{Place}
+use Rattle.report.specs.Sizes.{isNamed}
 
 -- a pattern of text with its values
 abbrev pub says : String → List ℕ → List ℕ
@@ -53,8 +55,16 @@ sixWords bytes = withFields bytes (quoted "%0:%1:%2:%3:%4:%5")
 abbrev pub layoutWords : Layout → List ℕ
 layoutWords l = pick (l .magic) (quoted ", Magic Packet layout") []
 
-unfoldable pub argumentsWords : Arguments → List ℕ
-argumentsWords a = says "chip #, controller #, level #" (a .chip ∷ a .controller ∷ a .level ∷ 0 ∷ []) ++ layoutWords (a .layout)
+-- a size, where it is named
+unfoldable pub sizeWords : Bool → ℕ → List ℕ
+sizeWords given size = pick (isNamed given size) (says ", size #" (size ∷ 0 ∷ 0 ∷ 0 ∷ [])) []
+
+abbrev pub readerWords : Arguments → List ℕ
+readerWords a = says "chip #, controller #, level #" (a .chip ∷ a .controller ∷ a .level ∷ 0 ∷ [])
+
+-- the arguments of a reading, and whether its size was given
+unfoldable pub argumentsWords : Bool → Arguments → List ℕ
+argumentsWords given a = readerWords a ++ (sizeWords given (a .layout .size) ++ layoutWords (a .layout))
 
 abbrev pub startWords : ℕ → Place → List ℕ
 startWords number place = says "block # at byte #, " (number ∷ place .start ∷ 0 ∷ 0 ∷ [])

@@ -1,4 +1,5 @@
 // Why a reading is refused, and where.
+pub mod size;
 pub mod words;
 
 use block::Block;
@@ -22,8 +23,8 @@ ghost use Rattle.text.specs.Written.{textOf, fitted};
 ghost use Rattle.format.specs.Block.{isKnown};
 ghost use Rattle.header.specs.Image.{leafAt};
 ghost use Rattle.report.specs.Blocks.{blockFrom, bytesAt};
-ghost use Rattle.report.specs.Layouts.{otherwise, isAcceptedOtherwise, hasSromCrc};
-ghost use Rattle.report.specs.Words.{threeBytes, addressWords, sixWords, argumentsWords, placeWords};
+ghost use Rattle.report.specs.Layouts.{otherwise, ofLength, isAcceptedOtherwise, isAcceptedByLength, hasSromCrc};
+ghost use Rattle.report.specs.Words.{threeBytes, addressWords, sixWords, sizeWords, argumentsWords, placeWords};
 
 // ## Parts of an image
 
@@ -63,8 +64,20 @@ pub fn six_words(line: Line, bytes: &[u8]) -> Line
     line::fields(line, b"%0:%1:%2:%3:%4:%5", bytes)
 }
 
-pub fn arguments_words(line: Line, arguments: Arguments) -> Line
-    ensures { λ r. ⌜ textOf r ≡ fitted (textOf line ++ argumentsWords arguments) ⌝ }
+// A size, where it is named.
+pub fn size_words(line: Line, given: bool, size: u16) -> Line
+    ensures { λ r. ⌜ textOf r ≡ fitted (textOf line ++ sizeWords given size) ⌝ }
+{
+    let named = size::is_named(given, size);
+    if named {
+        return line.with(b", size #", [size as u64, 0, 0, 0]);
+    }
+    line
+}
+
+// The arguments of a reading, and its size where that was given.
+pub fn arguments_words(line: Line, arguments: Arguments, given: bool) -> Line
+    ensures { λ r. ⌜ textOf r ≡ fitted (textOf line ++ argumentsWords given arguments) ⌝ }
 {
     let line = line.with(
         b"chip #, controller #, level #",
@@ -75,6 +88,7 @@ pub fn arguments_words(line: Line, arguments: Arguments) -> Line
             0,
         ],
     );
+    let line = size_words(line, given, arguments.layout.size);
     if arguments.layout.magic {
         return line.text(b", Magic Packet layout");
     }
@@ -214,7 +228,15 @@ fn show_clashes(image: &[u8], arguments: Arguments, number: u8, blocks: u8) {
 // ## Fields of the header
 
 pub fn show_length(image: &[u8]) {
-    line::of(b"  the image has # bytes", [image.len() as u64, 0, 0, 0]).print();
+    line::of(
+        b"  the image has # bytes; a ROM has # or #",
+        [
+            image.len() as u64,
+            rom::SMALL_SIZE as u64,
+            rom::LARGE_SIZE as u64,
+            0,
+        ],
+    ).print();
 }
 
 fn show_version(image: &[u8]) {
@@ -237,9 +259,9 @@ pub fn show_srom_crc(image: &[u8], layout: Layout) {
         .print();
 }
 
-fn show_id_crc(image: &[u8]) {
+fn show_id_crc(image: &[u8], size: u16) {
     let stored = byte_of(image, rom::ID_CRC_AT);
-    let computed = crc::id_crc(image).value as u64;
+    let computed = crc::id_crc(image, size).value as u64;
     line::of(
         b"  ID CRC, byte 16: 0x% stored, 0x% of bytes 0 to 15 and 17",
         [stored, computed, 0, 0],
@@ -304,9 +326,9 @@ pub fn show_magic(magic: Magic) {
     words::command_words(line, magic.command).print();
 }
 
-fn show_magic_crc(image: &[u8]) {
-    let at = magic::place_of(magic::CRC);
-    let computed = crc::magic_crc(image).value as u64;
+fn show_magic_crc(image: &[u8], size: u16) {
+    let at = magic::place_of(size, magic::CRC);
+    let computed = crc::magic_crc(image, size).value as u64;
     line::of(
         b"  Magic CRC, byte #: 0x% stored, 0x% of the block's other bytes",
         [at as u64, byte_of(image, at), computed, 0],
@@ -321,28 +343,28 @@ fn show_reserved(image: &[u8], at: usize) {
     }
 }
 
-fn show_magic_reserved(image: &[u8]) {
+fn show_magic_reserved(image: &[u8], size: u16) {
     let mut field = magic::ZEROS;
     while field <= magic::LAST {
         if field != magic::CRC {
-            show_reserved(image, magic::place_of(field));
+            show_reserved(image, magic::place_of(size, field));
         }
         field += 1;
     }
 }
 
 // What a refusal of the block is about.
-pub fn show_magic_field(image: &[u8], number: u8) {
+pub fn show_magic_field(image: &[u8], size: u16, number: u8) {
     if number == refusal::MAGIC_CRC {
-        show_magic_crc(image);
+        show_magic_crc(image, size);
     } else {
-        show_magic_reserved(image);
+        show_magic_reserved(image, size);
     }
 }
 
-// ## The other layout
+// ## Another layout
 
-// The same arguments for the other layout.
+// The same arguments with a Magic Packet block where there was none, and the other way round.
 fn otherwise(arguments: Arguments) -> Arguments
     ensures { λ r. ⌜ r ≡ otherwise arguments ⌝ }
 {
@@ -352,7 +374,17 @@ fn otherwise(arguments: Arguments) -> Arguments
     other
 }
 
-// Whether an image that is refused with a number, and that is 3, is accepted in the other layout.
+// The same arguments for the size that a length says.
+fn of_length(arguments: Arguments, length: usize) -> Arguments
+    ensures { λ r. ⌜ r ≡ ofLength length arguments ⌝ }
+{
+    let size = size::by_length(length);
+    let mut other = arguments;
+    other.layout.size = size;
+    other
+}
+
+// Whether an image that is refused with a number, and that is 3, is accepted with a Magic Packet block, or without it.
 fn is_accepted_otherwise(image: &[u8], arguments: Arguments, number: u8) -> bool
     ensures { λ r. ⌜ r ≡ isAcceptedOtherwise (now (image .entry)) arguments number ⌝ }
 {
@@ -360,6 +392,17 @@ fn is_accepted_otherwise(image: &[u8], arguments: Arguments, number: u8) -> bool
         return false;
     }
     reader::judge(image, otherwise(arguments)).number == refusal::ACCEPTED
+}
+
+// Whether one that is refused with 1 is accepted for the size that its length says.
+fn is_accepted_by_length(image: &[u8], arguments: Arguments, number: u8) -> bool
+    ensures { λ r. ⌜ r ≡ isAcceptedByLength (now (image .entry)) arguments number ⌝ }
+{
+    if number != refusal::IMAGE_LENGTH {
+        return false;
+    }
+    let length = image.len();
+    reader::judge(image, of_length(arguments, length)).number == refusal::ACCEPTED
 }
 
 // Nobody at a bench knows the layout beforehand.
@@ -371,6 +414,11 @@ fn show_otherwise(image: &[u8], arguments: Arguments, number: u8) {
         } else {
             say(b"  accepted with --magic");
         }
+    }
+    let accepted = is_accepted_by_length(image, arguments, number);
+    if accepted {
+        let size = size::by_length(image.len());
+        line::of(b"  accepted with --size #", [size as u64, 0, 0, 0]).print();
     }
 }
 
@@ -390,7 +438,7 @@ fn show_image_field(image: &[u8], layout: Layout, number: u8) {
         refusal::IMAGE_LENGTH => show_length(image),
         refusal::VERSION => show_version(image),
         refusal::SROM_CRC => show_srom_crc(image, layout),
-        refusal::ID_CRC => show_id_crc(image),
+        refusal::ID_CRC => show_id_crc(image, layout.size),
         _ => show_count(image, layout),
     }
 }
@@ -437,7 +485,7 @@ fn show_where(image: &[u8], arguments: Arguments, number: u8) {
         let blocks = header::read_header(image, arguments).blocks;
         show_clashes(image, arguments, number, blocks);
     } else {
-        show_magic_field(image, number);
+        show_magic_field(image, arguments.layout.size, number);
     }
 }
 
@@ -448,10 +496,24 @@ pub fn show_refusal(number: u8) {
     say(b"");
 }
 
-// A refused reading: the number, what it means, and where.
-pub fn show_refused(image: &[u8], arguments: Arguments, number: u8) {
+// A refusal that names its size, where it was given.
+pub fn show_refused_size(number: u8, given: bool, size: u16) {
     show_refusal(number);
-    arguments_words(Line::new().to(2), arguments).print();
+    let named = size::is_named(given, size);
+    if named {
+        line::of(b"  size #", [size as u64, 0, 0, 0]).print();
+    }
+}
+
+// A refusal with the arguments of its reading.
+pub fn show_refused_reading(arguments: Arguments, given: bool, number: u8) {
+    show_refusal(number);
+    arguments_words(Line::new().to(2), arguments, given).print();
+}
+
+// A refused reading: the number, what it means, and where.
+pub fn show_refused(image: &[u8], arguments: Arguments, given: bool, number: u8) {
+    show_refused_reading(arguments, given, number);
     show_where(image, arguments, number);
     show_otherwise(image, arguments, number);
 }

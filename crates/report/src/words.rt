@@ -13,7 +13,7 @@ ghost use Rattle.report.specs.Words.{mediaWords, kindWords, mediumWords,
 pub fn show_refusal(number: u8, file: i32) {
     let words = decimal_words(
         b"0 accepted
-1 the image does not have 128 bytes
+1 the image's length or its stated size is wrong
 2 the format version is neither 3 nor 4
 3 the SROM CRC is wrong
 4 the ID CRC is wrong

@@ -30,6 +30,10 @@ pub or-false : (a b : Bool) → (a || b) ≡ false → (a ≡ false) × (b ≡ f
 or-false true b e = true-false e
 or-false false b e = (refl, e)
 
+pub or-true : (x : Bool) → (x || true) ≡ true
+or-true true = refl
+or-true false = refl
+
 pub met-not : (t : Bool) → t ≡ true → not t ≡ false
 met-not true e = refl
 met-not false e = sym e

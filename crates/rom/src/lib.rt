@@ -5,56 +5,83 @@ pub mod store;
 ghost use mathlib.Core.Path.{_≡_};
 ghost use Prim.Native.Nat.{_+_, _*_};
 ghost use Rattle.rom.specs.Geometry.{imageLength, magicAt, magicWord, boardLength, checkedLength, leavesEnd};
-ghost use Rattle.rom.specs.Geometry.{mostControllers};
+ghost use Rattle.rom.specs.Geometry.{mostControllers, isSize, wrongLength};
 ghost use Rattle.rom.specs.Bytes.{byteAt, wordAt, allZero};
 
-// ## Geometry (document 01, 'The image'; document 02, request 1)
+// ## Geometry (document 01, 'The image'; document 02, requests 1 and 6)
 
-// How an image is laid out: whether a Magic Packet block stands in its last bytes. The caller says so.
+// How an image is laid out: its size in bytes, and whether a Magic Packet block stands in its last bytes. The caller says so.
 #[repr(C)]
 pub struct Layout {
+    pub size: u16,
     pub magic: bool,
 }
 
-// Without a Magic Packet block, and with one.
-pub const WITHOUT_MAGIC: Layout = Layout { magic: false };
+// The two sizes, of parts of 1K and of 4K bits.
+pub const SMALL_SIZE: u16 = 128;
 
-pub const WITH_MAGIC: Layout = Layout { magic: true };
+pub const LARGE_SIZE: u16 = 512;
 
-// The bytes of an image.
-pub const IMAGE_LENGTH: usize = 128;
+// The bytes of an image of the smaller size, and of the larger.
+pub const SMALL_LENGTH: usize = SMALL_SIZE as usize;
+
+pub const LARGE_LENGTH: usize = LARGE_SIZE as usize;
 
 // A Magic Packet block is the image's last bytes.
 pub const MAGIC_LENGTH: usize = 32;
 
+// Whether an image can have so many bytes.
+fn is_size(size: usize) -> bool
+    ensures { λ r. ⌜ r ≡ isSize size ⌝ }
+{
+    size == SMALL_LENGTH || size == LARGE_LENGTH
+}
+
+// Whether an image of that length is refused with 1: it is not the stated size, or that is none of the two.
+pub fn is_wrong_length(size: u16, length: usize) -> bool
+    ensures { λ r. ⌜ r ≡ wrongLength size length ⌝ }
+{
+    match length {
+        SMALL_LENGTH => size != SMALL_SIZE,
+        LARGE_LENGTH => size != LARGE_SIZE,
+        _ => true,
+    }
+}
+
+// The bytes of an image of a stated size. One of neither size is refused before anything goes by it, and counts as the smaller.
+pub fn image_length(size: u16) -> usize
+    ensures { λ r. ⌜ r ≡ imageLength size ⌝ }
+{
+    let length = size as usize;
+    let known = is_size(length);
+    if known {
+        return length;
+    }
+    SMALL_LENGTH
+}
+
+// Where a Magic Packet block starts.
+pub fn magic_at(size: u16) -> usize
+    ensures { λ r. ⌜ r ≡ magicAt size ⌝ }
+{
+    image_length(size) - MAGIC_LENGTH
+}
+
+pub fn magic_word(size: u16) -> WordNumber
+    ensures { λ r. ⌜ r .0 ≡ magicWord size ⌝ }
+{
+    WordNumber((magic_at(size) / 2) as u16)
+}
+
 impl Layout {
-    pub fn image_length(self) -> usize
-        ensures { λ r. ⌜ r ≡ imageLength self ⌝ }
-    {
-        IMAGE_LENGTH
-    }
-
-    // Where a Magic Packet block starts.
-    pub fn magic_at(self) -> usize
-        ensures { λ r. ⌜ r ≡ magicAt self ⌝ }
-    {
-        self.image_length() - MAGIC_LENGTH
-    }
-
-    pub fn magic_word(self) -> WordNumber
-        ensures { λ r. ⌜ r .0 ≡ magicWord self ⌝ }
-    {
-        WordNumber((self.magic_at() / 2) as u16)
-    }
-
     // The board's part of an image: all of it, or what stands before the Magic Packet block.
     pub fn board_length(self) -> usize
         ensures { λ r. ⌜ r ≡ boardLength self ⌝ }
     {
         if self.magic {
-            return self.magic_at();
+            return magic_at(self.size);
         }
-        self.image_length()
+        image_length(self.size)
     }
 
     // The bytes that the SROM CRC covers; it stands behind them, in the board's last word.
@@ -74,6 +101,10 @@ impl Layout {
     pub fn most_controllers(self) -> u8
         ensures { λ r. ⌜ r ≡ mostControllers self ⌝ }
     {
+        let length = image_length(self.size);
+        if length != SMALL_LENGTH {
+            return 32;
+        }
         if self.magic {
             return 20;
         }
@@ -93,7 +124,7 @@ pub const ADDRESS_AT: usize = 20;
 // Three bytes a controller: device number, leaf offset.
 pub const CONTROLLERS_AT: usize = 26;
 
-// No block, where a block's number is asked for: a leaf has fewer blocks.
+// No block, where a block's number is asked for: the last that a leaf can have is 254.
 pub const NONE: u8 = 255;
 
 // ## Bytes and words

@@ -11,7 +11,7 @@ use lib.Seq.{take-at, drop-at, take-take, take-add, drop-drop, getD-drop, length
 use lib.Dec.{eqb, ltb, lit<}
 use borrow.Author.Tests.{eqb-true, eq-eqb, not-false}
 use Rattle.rom.specs.declared.Layout.{Layout}
-use Rattle.rom.specs.Geometry.{imageLength, boardLength, checkedLength, leavesEnd, mostControllers}
+use Rattle.rom.specs.Geometry.{otherSize, imageLength, boardLength, checkedLength, leavesEnd, mostControllers}
 use Rattle.rom.specs.Bytes.{pick, byteAt, wordAt, isIn, Bytes, allZero}
 use Rattle.rom.specs.Store.{wordBytes}
 use Rattle.rom.specs.Refusal.{firstMet}
@@ -33,7 +33,7 @@ use Rattle.sheet.specs.Image.{leafStart, frontWith, frontOf, encodes, co
 use Rattle.sheet.specs.Image.{imageOf, newest}
 use Rattle.sheet.specs.Image.{entryFrom, imageFrom, sizes, leafEnd, upToLeavesEnd, isTidy}
 use Rattle.sheet.specs.Write.{anyBad, strayControl, cannotHold}
-use Rattle.rom.proofs.Layouts.{Geometry, geometry}
+use Rattle.rom.proofs.Layouts.{Geometry, geometry, right-length, small-length}
 use Rattle.rom.proofs.Lists.{word-of, word-back, zeros, zeros-all, bytes-drop, bytes-take, spell, spelled}
 use Rattle.sheet.proofs.Blocks.{cut-encodes, entries-length, blocks-few, bodies-short, Encoded, encodes-cut}
 use Rattle.sheet.proofs.Sheets.{Sized, spelledOut, spelled-out, sheet-length}
@@ -298,7 +298,7 @@ module _ (l : Layout) (p : Plain) (out : List ℕ) (z : Sized p) (fits : length 
 
 pub record Accepted (l : Layout) (chip : ℕ) (s : List ℕ) : Type 0 where
   pub known : Geometry l
-  pub long : length s ≡ imageLength l
+  pub long : length s ≡ imageLength (l .size)
   pub crc : wordAt s (checkedLength l) ≡ sromCrc l s
   pub id : byteAt s 16 ≡ idCrc s
   pub reserved : byteAt s (reservedAt s) ≡ 0
@@ -325,7 +325,7 @@ accepted l chip s h =
     let n = none-here _ _ (lit< tt) (m .1) in
     record {
       known = geometry l;
-      long = eqb-true _ _ (not-false _ (a .0));
+      long = right-length (l .size) (length s) (a .0);
       crc = eqb-true _ _ (not-false _ (c .0));
       id = eqb-true _ _ (not-false _ (d .0));
       reserved = eqb-true _ _ (not-false _ (third (eqb (controllerCount s) 0) (ltb (mostControllers l) (controllerCount s)) _ (e .0)));
@@ -363,7 +363,7 @@ spell-head row r low h = rw (word-back (byteAt r 0) (byteAt r 1) low) (go (eqb r
     go false = sym (spelled 0 3 r (omega arith))
 
 module _ (l : Layout) (chip : ℕ) (s : List ℕ) (by : Bytes s) (a : Accepted l chip s) (t : Tidy l chip s) where
-  behind-length : length (drop leafStart s) ≡ imageLength l - leafStart
+  behind-length : length (drop leafStart s) ≡ imageLength (l .size) - leafStart
   behind-length = length-drop leafStart s ∙ omega (arith, a .long)
 
   pub means-sized : Sized (imageFrom l chip s)
@@ -470,9 +470,10 @@ module _ (l : Layout) (chip : ℕ) (s : List ℕ) (by : Bytes s) (a : Accepted l
       ∙ ap (λ (k : ℕ). take k (drop leafStart s)) n
 
   -- the longest sheet
-  pub means-short : length (sheetOf (imageFrom l chip s)) ≤ 398
+  pub means-short : otherSize (l .size) ≡ false → length (sheetOf (imageFrom l chip s)) ≤ 398
   unfolding imageFrom newest
-  means-short =
+  means-short small =
+      let m = small-length (l .size) small in
       let h = header-some (rowOf chip) in
       let n = blocks-few (rowOf chip) (countFor s (newest l chip)) (restFrom l s (startFor s (newest l chip))) in
       let b = bodies-short (rowOf chip) (countFor s (newest l chip)) (restFrom l s (startFor s (newest l chip))) in

@@ -7,15 +7,15 @@ use native.Mathlib.Omega.{arith}
 use lib.ListN.{length, take, drop, drop-of-length-le}
 use lib.Seq.{take-append-seam, drop-at}
 use lib.Dec.{lit<}
-use borrow.Author.Tests.{eqb-true, eq-eqb, ne-eqb, ltb-false, le-ltb, not-false}
+use borrow.Author.Tests.{eq-eqb, ne-eqb, ltb-false, le-ltb, not-false}
 use Rattle.rom.specs.declared.Layout.{Layout}
-use Rattle.rom.specs.Geometry.{imageLength, boardLength, leavesEnd}
+use Rattle.rom.specs.Geometry.{otherSize, wrongLength, imageLength, boardLength, leavesEnd}
 use Rattle.rom.specs.Bytes.{pick, isIn, Bytes}
 use Rattle.rom.specs.Refusal.{firstMet, Numbered}
 use Rattle.rom.proofs.First.{exact, numbered-append, none-here, after-accepted, both-accepted}
-use Rattle.rom.proofs.Layouts.{geometry, magic-board, plain-board}
-use Rattle.rom.proofs.Reached.{reached, end, stop, skip}
-use Rattle.rom.proofs.Truth.{pick-true, pick-false, met-not}
+use Rattle.rom.proofs.Layouts.{geometry, small-length, small-right, magic-board, plain-board}
+use Rattle.rom.proofs.Reached.{reached, end, stop, skip, past}
+use Rattle.rom.proofs.Truth.{pick-true, pick-false, met-not, or-false}
 use Rattle.format.specs.Chips.{chips}
 use Rattle.header.specs.declared.Arguments.{Arguments}
 use Rattle.header.specs.Header.{headerCauses}
@@ -26,7 +26,7 @@ use Rattle.sheet.specs.Lists.{over}
 use Rattle.sheet.specs.Record.{Plain}
 use Rattle.sheet.specs.Sheet.{sheetOf, chipIn, sheetFrom, isSheet}
 use Rattle.sheet.specs.Image.{leafStart, leafOf, boardOf, imageOf, newest, imageFrom, isTidy}
-use Rattle.sheet.specs.Write.{cannotHold, recordCauses, writeCauses, writeNumber, written}
+use Rattle.sheet.specs.Write.{cannotHold, wrongOutput, recordCauses, writeCauses, writeNumber, written}
 use Rattle.sheet.specs.Make.{sheetFor, makeCauses, makeNumber, makeLength, made}
 use Rattle.sheet.specs.Claims.{SheetReturns, SameBlock, ImageReturns, WrittenIsTidy, WriterKeepsBlock, SheetFits}
 use Rattle.sheet.specs.Claims.{ExactRefusals, WriterOrder, RefusalsChangeNothing}
@@ -41,12 +41,11 @@ unfolding writeNumber writeCauses recordCauses sheetFrom
 writer-order l sheet out = (
   λ no-sheet. sym (reached (stop (ap not no-sheet))),
   λ is. (
-    λ other. sym (reached (skip (met-not _ is) (stop (ap not (ne-eqb (length out) (imageLength l) other))))),
-    λ e.
-        let room = met-not _ (eq-eqb (length out) (imageLength l) e) in (
-          λ no-chip. sym (reached (skip (met-not _ is) (skip room (stop (ap not no-chip))))),
-          λ chip held. sym (reached (skip (met-not _ is) (skip room (skip (met-not _ chip) (stop held))))),
-        ),
+    λ other. sym (reached (skip (met-not _ is) (stop other))),
+    λ room. (
+      λ no-chip. sym (reached (skip (met-not _ is) (skip room (stop (ap not no-chip))))),
+      λ chip held. sym (reached (skip (met-not _ is) (skip room (skip (met-not _ chip) (stop held))))),
+    ),
   ),
 )
 
@@ -68,7 +67,7 @@ write-numbered l sheet out =
 make-numbered : (l : Layout) (image : List ℕ) (chip room : ℕ) → Numbered (makeCauses l image chip room)
 unfolding makeCauses
 make-numbered l image chip room =
-    numbered-append (judgeCauses image (newest l chip)) _ (judge-numbered image (newest l chip)) (lit< tt, (lit< tt, tt))
+    (lit< tt, numbered-append (judgeCauses image (newest l chip)) _ (judge-numbered image (newest l chip)) (lit< tt, (lit< tt, tt)))
 
 pub exact-refusals : ExactRefusals
 unfolding writeNumber makeNumber
@@ -79,9 +78,17 @@ exact-refusals l = (
 
 -- ## What the writer's acceptance says
 
+pub small-output : (l : Layout) (n : ℕ) → wrongOutput l n ≡ false → (otherSize (l .size) ≡ false) × (wrongLength (l .size) n ≡ false)
+unfolding wrongOutput
+small-output l n e = or-false _ _ e
+
+pub right-output : (l : Layout) (n : ℕ) → otherSize (l .size) ≡ false → wrongLength (l .size) n ≡ false → wrongOutput l n ≡ false
+unfolding wrongOutput
+right-output l n e f = rw (e, f)
+
 pub record Writable (l : Layout) (s out : List ℕ) : Type 0 where
   pub is : isSheet s ≡ true
-  pub room : length out ≡ imageLength l
+  pub room : wrongOutput l (length out) ≡ false
   pub chip : isIn (sheetFrom s .chip) chips ≡ true
   pub holds : cannotHold (sheetFrom s) ≡ false
   pub fits : leafStart + length (leafOf (sheetFrom s)) ≤ leavesEnd l
@@ -98,7 +105,7 @@ writable l s out h =
     let e = none-here _ _ (lit< tt) (d .1) in
     record {
       is = not-false _ (a .0);
-      room = eqb-true _ _ (not-false _ (b .0));
+      room = b .0;
       chip = not-false _ (c .0);
       holds = d .0;
       fits = ltb-false _ _ (e .0);
@@ -113,7 +120,7 @@ record-accepted l p c h f = sym (reached (skip (met-not _ c) (skip h (skip (le-l
 pub writes : (l : Layout) (s out : List ℕ) → Writable l s out → writeNumber l s out ≡ 0
 unfolding writeNumber writeCauses firstMet pick
 writes l s out w =
-    simp (w .is, eq-eqb (length out) (imageLength l) (w .room))
+    simp (w .is, w .room)
     (after-accepted (recordCauses l (sheetFrom s)) _ (record-numbered l (sheetFrom s))
     (record-accepted l (sheetFrom s) (w .chip) (w .holds) (w .fits)) ∙ w .reads)
 
@@ -124,6 +131,7 @@ write-is l s out h = pick-true _ _ _ (eq-eqb _ _ h)
 -- ## What the sheet maker's acceptance says
 
 pub record Makeable (l : Layout) (s : List ℕ) (chip room : ℕ) : Type 0 where
+  pub small : otherSize (l .size) ≡ false
   pub reads : firstMet (judgeCauses s (newest l chip)) ≡ 0
   pub neat : isTidy l chip s ≡ true
   pub fits : length (sheetFor l s chip) ≤ room
@@ -132,16 +140,17 @@ module _ (l : Layout) (s : List ℕ) (chip : ℕ) where
   pub makeable : (room : ℕ) → makeNumber l s chip room ≡ 0 → Makeable l s chip room
   unfolding makeNumber makeCauses
   makeable room h =
-      let j = both-accepted (judgeCauses s (newest l chip)) _ (judge-numbered s (newest l chip)) h in
+      let first = none-here _ _ (lit< tt) h in
+      let j = both-accepted (judgeCauses s (newest l chip)) _ (judge-numbered s (newest l chip)) (first .1) in
       let a = none-here _ _ (lit< tt) (j .1) in
       let b = none-here _ _ (lit< tt) (a .1) in
-      record { reads = j .0; neat = not-false _ (a .0); fits = ltb-false _ _ (b .0) }
+      record { small = first .0; reads = j .0; neat = not-false _ (a .0); fits = ltb-false _ _ (b .0) }
 
   pub makes : (room : ℕ) → Makeable l s chip room → makeNumber l s chip room ≡ 0
   unfolding makeNumber makeCauses
   makes room m =
-      after-accepted (judgeCauses s (newest l chip)) _ (judge-numbered s (newest l chip)) (m .reads)
-      ∙ sym (reached (skip (met-not _ (m .neat)) (skip (le-ltb _ _ (m .fits)) end)))
+      sym (reached (skip (m .small) (past (judgeCauses s (newest l chip)) (judge-numbered s (newest l chip)) (m .reads)
+      (skip (met-not _ (m .neat)) (skip (le-ltb _ _ (m .fits)) end)))))
 
   pub length-is : (room : ℕ) → makeNumber l s chip room ≡ 0 → makeLength l s chip room ≡ length (sheetFor l s chip)
   unfolding makeLength
@@ -180,7 +189,7 @@ sheet-returns l s out buffer by h room =
     let w = writable l s out h in
     let back = again l s out w by in
     let m : Makeable l (imageOf l (sheetFrom s) out) (sheetFrom s .chip) (length buffer)
-    = record { reads = w .reads; neat = image-neat l s out w; fits = rw back room } in
+    = record { small = small-output l (length out) (w .room) .0; reads = w .reads; neat = image-neat l s out w; fits = rw back room } in
     let n = makes _ _ _ _ m in
     rw (write-is l s out h, ← chip-from s) (n, length-is _ _ _ _ n ∙ ap length back, made-is _ _ _ buffer n ∙ ap (over buffer) back)
 
@@ -190,7 +199,7 @@ written-is-tidy l s out h =
     rw (write-is l s out h, ← chip-from s) (image-neat l s out w, w .reads)
 
 -- an output that holds an image's block holds all that stands behind its board
-behind-board : (l : Layout) (s t : List ℕ) → length s ≡ imageLength l → length t ≡ imageLength l → SameBlock l s t
+behind-board : (l : Layout) (s t : List ℕ) → length s ≡ imageLength (l .size) → length t ≡ imageLength (l .size) → SameBlock l s t
     → drop (boardLength l) s ≡ drop (boardLength l) t
 behind-board l s t ls lt same = go (l .magic) refl
   where
@@ -202,8 +211,8 @@ behind-board l s t ls lt same = go (l .magic) refl
 
 pub image-returns : ImageReturns
 unfolding over
-image-returns l s out buffer chip by reads neat enough room same =
-    let h = makes l s chip (length buffer) (record { reads = reads; neat = neat; fits = enough }) in
+image-returns l s out buffer chip small by reads neat enough room same =
+    let h = makes l s chip (length buffer) (record { small = small; reads = reads; neat = neat; fits = enough }) in
     let a = accepted l chip s reads in
     let t = tidy l chip s neat in
     let z = means-sized l chip s by a t in
@@ -216,7 +225,7 @@ image-returns l s out buffer chip by reads neat enough room same =
     let w : Writable l (sheetFor l s chip) out
     = record {
       is = sheet-is (imageFrom l chip s) z;
-      room = room;
+      room = right-output l (length out) small (small-right (l .size) (length out) small (room ∙ small-length (l .size) small));
       chip = rw (means, of) (a .known-chip);
       holds = rw means (means-holds l chip s by a t);
       fits = rw means (let g = geometry l in omega (arith, means-fits l chip s by a t));
@@ -226,7 +235,7 @@ image-returns l s out buffer chip by reads neat enough room same =
     (h, rw is n, rw is (write-is _ _ out n ∙ back))
 
 pub sheet-fits : SheetFits
-sheet-fits l s chip by reads neat = means-short l chip s by (accepted l chip s reads) (tidy l chip s neat)
+sheet-fits l s chip small by reads neat = means-short l chip s by (accepted l chip s reads) (tidy l chip s neat) small
 
 -- ## The block that is kept
 

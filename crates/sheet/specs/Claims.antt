@@ -5,7 +5,7 @@ use mathlib.Core.Bool.{true, false}
 use mathlib.Core.List.{List}
 use lib.ListN.{length, take, drop}
 use Rattle.rom.specs.declared.Layout.{Layout}
-use Rattle.rom.specs.Geometry.{imageLength, magicAt}
+use Rattle.rom.specs.Geometry.{otherSize, imageLength, magicAt}
 use Rattle.rom.specs.Bytes.{isIn, Bytes}
 use Rattle.rom.specs.Refusal.{firstMet, Exact}
 use Rattle.format.specs.Chips.{chips}
@@ -13,7 +13,7 @@ use Rattle.reader.specs.Reading.{judgeCauses}
 use Rattle.sheet.specs.Lists.{over}
 use Rattle.sheet.specs.Sheet.{chipIn, sheetFrom, isSheet}
 use Rattle.sheet.specs.Image.{isTidy, newest}
-use Rattle.sheet.specs.Write.{cannotHold, writeCauses, writeNumber, written}
+use Rattle.sheet.specs.Write.{cannotHold, wrongOutput, writeCauses, writeNumber, written}
 use Rattle.sheet.specs.Make.{sheetFor, makeCauses, makeNumber, makeLength, made}
 
 -- ## Sheet, image, sheet
@@ -35,14 +35,15 @@ sheetMade l image chip buffer = take (makeLength l image chip (length buffer)) (
 
 -- where there is a Magic Packet block, two images have the same
 abbrev pub SameBlock : Layout → List ℕ → List ℕ → Type 0
-SameBlock l s t = l .magic ≡ true → drop (magicAt l) s ≡ drop (magicAt l) t
+SameBlock l s t = l .magic ≡ true → drop (magicAt (l .size)) s ≡ drop (magicAt (l .size)) t
 
--- an image that the newest reader accepts and that is tidy, made a sheet in a buffer that is long enough and written over an
--- output that already holds its Magic Packet block, if it has one, is that image byte for byte
+-- an image of the smaller size that the newest reader accepts and that is tidy, made a sheet in a buffer that is long enough
+-- and written over an output that already holds its Magic Packet block, if it has one, is that image byte for byte
 abbrev pub ImageReturns : Type 0
 ImageReturns =
-    (l : Layout) (image out buffer : List ℕ) (chip : ℕ) → Bytes image → firstMet (judgeCauses image (newest l chip)) ≡ 0
-    → isTidy l chip image ≡ true → length (sheetFor l image chip) ≤ length buffer → length out ≡ imageLength l → SameBlock l out image
+    (l : Layout) (image out buffer : List ℕ) (chip : ℕ) → otherSize (l .size) ≡ false
+    → Bytes image → firstMet (judgeCauses image (newest l chip)) ≡ 0 → isTidy l chip image ≡ true
+    → length (sheetFor l image chip) ≤ length buffer → length out ≡ imageLength (l .size) → SameBlock l out image
     → (makeNumber l image chip (length buffer) ≡ 0)
     × (writeNumber l (sheetMade l image chip buffer) out ≡ 0)
     × (written l (sheetMade l image chip buffer) out ≡ image)
@@ -53,8 +54,9 @@ longestSheet = 398
 
 abbrev pub SheetFits : Type 0
 SheetFits =
-    (l : Layout) (image : List ℕ) (chip : ℕ) → Bytes image → firstMet (judgeCauses image (newest l chip)) ≡ 0
-    → isTidy l chip image ≡ true → length (sheetFor l image chip) ≤ longestSheet
+    (l : Layout) (image : List ℕ) (chip : ℕ) → otherSize (l .size) ≡ false
+    → Bytes image → firstMet (judgeCauses image (newest l chip)) ≡ 0 → isTidy l chip image ≡ true
+    → length (sheetFor l image chip) ≤ longestSheet
 
 -- ## What is written
 
@@ -84,8 +86,8 @@ WriterOrder =
     (l : Layout) (sheet out : List ℕ)
     → (isSheet sheet ≡ false → writeNumber l sheet out ≡ 24)
     × (isSheet sheet ≡ true
-    → ((length out ≡ imageLength l → ⊥) → writeNumber l sheet out ≡ 1)
-    × (length out ≡ imageLength l
+    → (wrongOutput l (length out) ≡ true → writeNumber l sheet out ≡ 1)
+    × (wrongOutput l (length out) ≡ false
     → (isIn (chipIn sheet) chips ≡ false → writeNumber l sheet out ≡ 7)
     × (isIn (chipIn sheet) chips ≡ true → cannotHold (sheetFrom sheet) ≡ true → writeNumber l sheet out ≡ 25)))
 

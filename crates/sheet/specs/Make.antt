@@ -6,6 +6,7 @@ use lib.ListN.{length}
 use lib.Dec.{eqb, ltb}
 use Rattle.rom.specs.declared.Layout.{Layout}
 use Rattle.rom.specs.Bytes.{pick}
+use Rattle.rom.specs.Geometry.{otherSize}
 use Rattle.rom.specs.Refusal.{Cause, _⇒_, firstMet}
 use Rattle.reader.specs.Reading.{judgeCauses}
 use Rattle.sheet.specs.Lists.{over}
@@ -16,11 +17,12 @@ use Rattle.sheet.specs.Image.{imageFrom, isTidy, newest}
 abbrev pub sheetFor : Layout → List ℕ → ℕ → List ℕ
 sheetFor l image chip = sheetOf (imageFrom l chip image)
 
--- for a buffer of a length: the reader's numbers, 12 apart, at the newest level and for controller 0, then not tidy, then the
--- buffer too short
+-- for a buffer of a length: 1 for another stated size than that of sheets, then the reader's numbers, 12 apart, at the newest
+-- level and for controller 0, then not tidy, then the buffer too short
 unfoldable pub makeCauses : Layout → List ℕ → ℕ → ℕ → List Cause
 makeCauses l image chip room =
-    judgeCauses image (newest l chip)
+    (1 ⇒ otherSize (l .size))
+    ∷ judgeCauses image (newest l chip)
     ++ (27 ⇒ not (isTidy l chip image)) ∷ (12 ⇒ ltb room (length (sheetFor l image chip))) ∷ []
 
 unfoldable pub makeNumber : Layout → List ℕ → ℕ → ℕ → ℕ

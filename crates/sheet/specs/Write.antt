@@ -5,7 +5,7 @@ use mathlib.Core.Bool.{Bool, false, _&&_, _||_, not}
 use lib.ListN.{length}
 use lib.Dec.{eqb, leb, ltb}
 use Rattle.rom.specs.declared.Layout.{Layout}
-use Rattle.rom.specs.Geometry.{imageLength, leavesEnd}
+use Rattle.rom.specs.Geometry.{otherSize, wrongLength, leavesEnd}
 use Rattle.rom.specs.Bytes.{pick, byteAt, isIn}
 use Rattle.rom.specs.Refusal.{Cause, _⇒_, firstMet}
 use Rattle.format.specs.Chips.{chips, rowOf, row21140, kindCompact, kind21041}
@@ -53,11 +53,15 @@ recordCauses l p =
     ∷ (26 ⇒ ltb (leavesEnd l) (leafStart + length (leafOf p)))
     ∷ []
 
+-- an output of another length than the stated size, or a stated size that sheets are not written to
+unfoldable pub wrongOutput : Layout → ℕ → Bool
+wrongOutput l n = otherSize (l .size) || wrongLength (l .size) n
+
 -- for an output; last the newest reader's, 12 apart, for controller 0 of the image to be written
 unfoldable pub writeCauses : Layout → List ℕ → List ℕ → List Cause
 writeCauses l sheet out =
     (24 ⇒ not (isSheet sheet))
-    ∷ (1 ⇒ not (eqb (length out) (imageLength l)))
+    ∷ (1 ⇒ wrongOutput l (length out))
     ∷ (recordCauses l (sheetFrom sheet) ++ judgeCauses (imageOf l (sheetFrom sheet) out) (newest l (sheetFrom sheet .chip)))
 
 unfoldable pub writeNumber : Layout → List ℕ → List ℕ → ℕ

@@ -1,14 +1,19 @@
-// Each sheet on standard input, written and made again: the image and the sheet in hexadecimal, a line each, or a refusal. A
-// record is the sheet's length (word), the layout (1 with a Magic Packet block, 0 without), the block that the output holds
-// before, and the sheet's bytes.
+// Each sheet on standard input, written and made again: the image and the sheet in hexadecimal, a line each, or a refusal; of an
+// output that is refused for its size a sheet is asked too. A record is the sheet's length (word), the stated size (word), the
+// layout (1 with a Magic Packet block, 0 without), whether the output has the larger size (1) or the smaller (0), the block that
+// it holds before, and the sheet's bytes.
 use libc::STDIN_FILENO;
 use libc::STDOUT_FILENO;
 use rom::ByteOffset;
 use rom::Layout;
 use rom::store::put_bytes;
+use text::slice::part;
 
 // The bytes of a record before the sheet's.
-const HEAD: usize = 3 + rom::MAGIC_LENGTH;
+const HEAD: usize = 6 + rom::MAGIC_LENGTH;
+
+// Room for the sheet of every image.
+const ROOM: usize = 400;
 
 fn print_refusal(number: u8) {
     io::write_all(STDOUT_FILENO, b"refused ");
@@ -30,7 +35,7 @@ fn print_front(bytes: &[u8], length: usize) {
 
 // The sheet of an image again.
 fn print_sheet(image: &[u8], chip: u16, layout: Layout) {
-    let mut buffer = [0u8; 512];
+    let mut buffer = [0u8; ROOM];
     let made = maker::make(image, chip, layout, &mut buffer);
     if made.number != rom::refusal::ACCEPTED {
         print_refusal(made.number);
@@ -39,32 +44,30 @@ fn print_sheet(image: &[u8], chip: u16, layout: Layout) {
     print_front(&buffer, made.length);
 }
 
-fn print_image(sheet: &[u8], layout: Layout, block: &[u8]) {
-    let mut image = [0u8; 128];
-    put_bytes(&mut image, ByteOffset(layout.magic_at()), block);
-    let number = writer::write(sheet, layout, &mut image);
+// The sheet written to an image of a size.
+fn print_written(sheet: &[u8], layout: Layout, image: &mut [u8], size: u16, block: &[u8]) {
+    put_bytes(image, ByteOffset(rom::magic_at(size)), block);
+    let number = writer::write(sheet, layout, image);
     if number != rom::refusal::ACCEPTED {
         print_refusal(number);
-        return;
+        if number != rom::refusal::IMAGE_LENGTH {
+            return;
+        }
+    } else {
+        print_line(image);
     }
-    print_line(&image);
     let chip = rom::word_at(sheet, ByteOffset(sheet::CHIP_AT));
-    print_sheet(&image, chip, layout);
+    print_sheet(image, chip, layout);
 }
 
-// Fills the front of the room from the input; a sheet that it does not hold is left out.
-fn read_front(room: &mut [u8], length: usize) {
-    if room.len() < length {
+fn print_image(sheet: &[u8], layout: Layout, is_large: bool, block: &[u8]) {
+    if is_large {
+        let mut image = [0u8; rom::LARGE_LENGTH];
+        print_written(sheet, layout, &mut image, rom::LARGE_SIZE, block);
         return;
     }
-    io::read_full(STDIN_FILENO, &mut room[..length]);
-}
-
-fn print_front_image(room: &[u8], length: usize, layout: Layout, block: &[u8]) {
-    if room.len() < length {
-        return;
-    }
-    print_image(&room[..length], layout, block);
+    let mut image = [0u8; rom::SMALL_LENGTH];
+    print_written(sheet, layout, &mut image, rom::SMALL_SIZE, block);
 }
 
 // One record; false at the end of the input.
@@ -76,11 +79,13 @@ fn next_record() -> bool {
     }
     let length = rom::word_at(&head, ByteOffset(0)) as usize;
     let layout = Layout {
-        magic: head[2] == 1,
+        size: rom::word_at(&head, ByteOffset(2)),
+        magic: head[4] == 1,
     };
+    let is_large = head[5] == 1;
     let mut room = io::buffer();
-    read_front(&mut room, length);
-    print_front_image(&room, length, layout, &head[3..]);
+    vectors::read_front(&mut room, length);
+    print_image(part(&room, 0, length), layout, is_large, &head[6..]);
     true
 }
 

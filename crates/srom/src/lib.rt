@@ -29,18 +29,18 @@ pub extern "C" fn srom_crc(image: &[u8], layout: Layout) -> Checksum
 
 // The CRC that byte 16 of an image should hold.
 #[no_mangle]
-pub extern "C" fn srom_id_crc(image: &[u8]) -> Checksum
-    ensures { λ r. ⌜ r ≡ idAnswer (now (image .entry)) ⌝ }
+pub extern "C" fn srom_id_crc(image: &[u8], size: u16) -> Checksum
+    ensures { λ r. ⌜ r ≡ idAnswer size (now (image .entry)) ⌝ }
 {
-    crc::id_crc(image)
+    crc::id_crc(image, size)
 }
 
-// The CRC that byte 126 of an image with a Magic Packet block should hold.
+// The CRC that the last byte but one of an image with a Magic Packet block should hold.
 #[no_mangle]
-pub extern "C" fn srom_magic_crc(image: &[u8]) -> Checksum
-    ensures { λ r. ⌜ r ≡ magicAnswer (now (image .entry)) ⌝ }
+pub extern "C" fn srom_magic_crc(image: &[u8], size: u16) -> Checksum
+    ensures { λ r. ⌜ r ≡ magicAnswer size (now (image .entry)) ⌝ }
 {
-    crc::magic_crc(image)
+    crc::magic_crc(image, size)
 }
 
 // The media table of a controller's leaf, in two lent arrays.
@@ -100,19 +100,19 @@ pub extern "C" fn srom_clear(walk: Walk) -> Walked
 
 // What the Magic Packet block of an image says.
 #[no_mangle]
-pub extern "C" fn srom_read_magic(image: &[u8]) -> MagicAnswer
-    ensures { λ r. ⌜ r ≡ magicReading (now (image .entry)) ⌝ }
+pub extern "C" fn srom_read_magic(image: &[u8], size: u16) -> MagicAnswer
+    ensures { λ r. ⌜ r ≡ magicReading size (now (image .entry)) ⌝ }
 {
-    magic::read(image)
+    magic::read(image, size)
 }
 
 // Writes the Magic Packet block of an image.
 #[no_mangle]
-pub extern "C" fn srom_write_magic(magic: Magic, image: &mut [u8]) -> u8
-    ensures { λ r. ⌜ r ≡ magicWriteNumber (now (image .entry)) ⌝ }
-    ensures { λ r. ⌜ now (image .exit) ≡ magicWritten magic (now (image .entry)) ⌝ }
+pub extern "C" fn srom_write_magic(magic: Magic, image: &mut [u8], size: u16) -> u8
+    ensures { λ r. ⌜ r ≡ magicWriteNumber size (now (image .entry)) ⌝ }
+    ensures { λ r. ⌜ now (image .exit) ≡ magicWritten size magic (now (image .entry)) ⌝ }
 {
-    magic::write(magic, image)
+    magic::write(magic, image, size)
 }
 
 // Writes the image of a sheet.

@@ -2,14 +2,15 @@
 -- claims what holds over lists of loads, looks and clears, and of the rows of loaded walks.
 use Prim.Native.Nat.{ℕ}
 use mathlib.Core.Path.{_≡_}
-use mathlib.Core.List.{List, [], _∷_, map}
+use mathlib.Core.List.{List, [], _∷_, _++_, map}
+use lib.ListN.{replicate}
 use mathlib.Core.Bool.{true}
 use Rattle.rom.specs.Refusal.{firstMet, Exact}
 use Rattle.format.specs.Chips.{connectionRows}
 use Rattle.header.specs.declared.Arguments.{Arguments}
 use Rattle.reader.specs.Reading.{judgeCauses}
 use Rattle.walk.specs.declared.Walk.{Walk}
-use Rattle.walk.specs.Walk.{wayOf, isFixed, fixedBlock, mostLooks, lookCauses, loadCauses, loadFor, lookFor, clearFor}
+use Rattle.walk.specs.Walk.{flags, wayOf, isFixed, fixedBlock, mostLooks, lookCauses, loadCauses, loadFor, lookFor, clearFor}
 use Rattle.walk.specs.Cases.{looked, lookCases}
 use Rattle.walk.specs.FixedCases.{lookedAt, numberAfter, unlessMissing, fixedCases, typeOf, fixedTables, fixedOf}
 
@@ -45,6 +46,10 @@ ClearedIsFresh = (w : Walk) →
 -- the looks answer as they stand in the list of cases
 abbrev pub LooksWorked : Type 0
 LooksWorked = map looked lookCases ≡ lookCases
+
+-- of 255 blocks each has its flag, and behind them there is none (document 02, request 6)
+abbrev pub FlagsWorked : Type 0
+FlagsWorked = flags (λ s. true) (replicate 255 []) ≡ replicate 255 1 ++ 0 ∷ []
 
 -- ## The way to walk (document 02, request 4)
 

@@ -73,7 +73,7 @@ hasMedium connection code capabilities =
 -- ## Rows of flags
 
 abbrev pub rowLength : ℕ
-rowLength = 128
+rowLength = 256
 
 unfoldable pub noFlags : List ℕ
 noFlags = replicate rowLength 0

@@ -4,9 +4,9 @@
 // the medium that the connection type is fixed to.
 #[repr(C)]
 pub struct Rows {
-    pub listed: [u8; 128],
-    pub active_invalid: [u8; 128],
-    pub fixed: [u8; 128],
+    pub listed: [u8; 256],
+    pub active_invalid: [u8; 256],
+    pub fixed: [u8; 256],
 }
 
 // A walk, fresh or loaded. No block is selected before the first look.

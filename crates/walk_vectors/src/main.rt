@@ -1,6 +1,6 @@
-// The walk over each record's list of calls on standard input, one line a call. A record is chip (word), controller, level,
-// layout (1 with a Magic Packet block, 0 without), image and the number of calls; a call is 0 for a load, 1 for a clear, or 2, a
-// length and a report for a look.
+// The walk over each record's list of calls on standard input, one line a call. A record is the image's length (word), chip
+// (word), controller, level, stated size (word), layout (1 with a Magic Packet block, 0 without), the number of calls, the image
+// and the calls; a call is 0 for a load, 1 for a clear, or 2, a length and a report for a look.
 use autosense::Walk;
 use autosense::Walked;
 use libc::STDIN_FILENO;
@@ -8,10 +8,14 @@ use libc::STDOUT_FILENO;
 use reader::Arguments;
 use rom::ByteOffset;
 use rom::Layout;
+use text::slice::part;
 
 const LOAD: u8 = 0;
 
 const CLEAR: u8 = 1;
+
+// The bytes of a record before the image's.
+const HEAD: usize = 10;
 
 fn print_number(n: u64) {
     io::print_decimal(STDOUT_FILENO, n);
@@ -57,14 +61,6 @@ fn next_byte() -> u8 {
     one[0]
 }
 
-// Fills the front of the room from the input; a report that it does not hold is left out.
-fn read_front(room: &mut [u8], length: usize) {
-    if room.len() < length {
-        return;
-    }
-    io::read_full(STDIN_FILENO, &mut room[..length]);
-}
-
 // A look with the front of the room.
 fn look_front(walk: Walk, room: &[u8], length: usize) -> Walked {
     if room.len() < length {
@@ -77,7 +73,7 @@ fn look_front(walk: Walk, room: &[u8], length: usize) -> Walked {
 fn next_look(walk: Walk) -> Walked {
     let length = next_byte() as usize;
     let mut room = [0u8; 255];
-    read_front(&mut room, length);
+    vectors::read_front(&mut room, length);
     look_front(walk, &room, length)
 }
 
@@ -105,21 +101,24 @@ fn run(image: &[u8], arguments: Arguments, count: u8) {
 
 // One record; false at the end of the input.
 fn next_record() -> bool {
-    let mut record = [0u8; 134];
-    let got = io::read_full(STDIN_FILENO, &mut record);
-    if got < 134 {
+    let mut head = [0u8; HEAD];
+    let got = io::read_full(STDIN_FILENO, &mut head);
+    if got < HEAD {
         return false;
     }
+    let length = rom::word_at(&head, ByteOffset(0)) as usize;
     let arguments = Arguments {
-        chip: rom::word_at(&record, ByteOffset(0)),
-        controller: record[2],
-        level: record[3],
+        chip: rom::word_at(&head, ByteOffset(2)),
+        controller: head[4],
+        level: head[5],
         layout: Layout {
-            magic: record[4] == 1,
+            size: rom::word_at(&head, ByteOffset(6)),
+            magic: head[8] == 1,
         },
     };
-    let count = record[133];
-    run(&record[5..133], arguments, count);
+    let mut room = io::buffer();
+    vectors::read_front(&mut room, length);
+    run(part(&room, 0, length), arguments, head[9]);
     true
 }
 

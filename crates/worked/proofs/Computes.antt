@@ -21,10 +21,10 @@ use Rattle.sheet.specs.Sheet.{headOf, kindBytes, sizeBytes, bodyBytes, partsOf,
 use Rattle.sheet.specs.Image.{frontWith, frontOf, isWhole, openingOf, encodes, controlBytes, leafHeadOf, leafOf}
 use Rattle.sheet.specs.Image.{coveredOf, boardOf, imageOf, newest}
 use Rattle.sheet.specs.Image.{openingLength, bodyOf, imageFrom, sizes, leafEnd, upToLeavesEnd, isTidy}
-use Rattle.sheet.specs.Write.{isOtherFamily, isBadBody, isBad, anyBad, strayControl, cannotHold, recordCauses, writeCauses, writeNumber}
-use Rattle.sheet.specs.Write.{written}
+use Rattle.sheet.specs.Write.{isOtherFamily, isBadBody, isBad, anyBad, strayControl, cannotHold, recordCauses, wrongOutput, writeCauses}
+use Rattle.sheet.specs.Write.{writeNumber, written}
 use Rattle.sheet.specs.Make.{makeCauses, makeNumber, makeLength, made}
-use Rattle.worked.specs.Cases.{unsealed, sealed, behindBoard, imageWith}
+use Rattle.worked.specs.Cases.{sharing, unsealedAt, unsealed, sealed, behindBoard, imageWith}
 
 -- a whole image, and why it is refused
 unfoldable pub image-computes : Unit {0}
@@ -32,7 +32,7 @@ unfolding leaf-computes magic-computes sromCrc idCrc
     connections21041 connections21140 connections21142 connectionRows isConnection
     versions controllerCount reservedAt baseAddress addressOf leafAt headerLength controlByte blocksAt blockCount restFrom badCount
     magicCauses imageCauses argumentCauses leafHeaderCauses headerCauses leafCausesFor judgeCauses
-    unsealed sealed behindBoard imageWith
+    sharing unsealedAt unsealed sealed behindBoard imageWith
 image-computes = tt
 
 -- what is read of it
@@ -53,6 +53,6 @@ unfolding image-computes wordBytes sum padded over
     headOf kindBytes sizeBytes bodyBytes partsOf sheetOf entriesFrom sheetFrom isSheet
     frontWith frontOf isWhole openingOf encodes controlBytes leafHeadOf leafOf coveredOf boardOf imageOf
     newest openingLength bodyOf imageFrom sizes leafEnd upToLeavesEnd isTidy
-    isOtherFamily isBadBody isBad anyBad strayControl cannotHold recordCauses writeCauses writeNumber written
+    isOtherFamily isBadBody isBad anyBad strayControl cannotHold recordCauses wrongOutput writeCauses writeNumber written
     makeCauses makeNumber makeLength made
 sheet-computes = tt

@@ -1,11 +1,11 @@
 -- Cases a to k of document 01, 'Blocks to prove', as whole images, read and walked, and cards with a power block and under fixed
 -- types. Cases a to j are those of crate `leaf`.
-use Prim.Native.Nat.{ℕ, _/_, _%_}
+use Prim.Native.Nat.{ℕ, zero, suc, _+_, _-_, _*_, _/_, _%_}
 use mathlib.Core.List.{List, [], _∷_, _++_, map}
 use mathlib.Core.Bool.{Bool, true, false}
 use lib.ListN.{take, drop, replicate, set}
 use Rattle.rom.specs.declared.Layout.{Layout}
-use Rattle.rom.specs.Geometry.{withoutMagic, withMagic, imageLength, checkedLength, none}
+use Rattle.rom.specs.Geometry.{withoutMagic, withMagic, imageLength, checkedLength, controllersAt, none}
 use Rattle.rom.specs.Bytes.{pick}
 use Rattle.rom.specs.Refusal.{firstMet}
 use Rattle.crc.specs.Crc.{sromCrc, idCrc}
@@ -20,12 +20,22 @@ use Rattle.older.specs.Written.{Arrays, answerOf, tableIn}
 
 -- ## A whole image
 
--- the bytes before the SROM CRC: an ID block of zeros with this CRC, version 4, one controller with address 0 and its leaf at
--- 30, zeros elsewhere
-unfoldable pub unsealed : Layout → ℕ → List ℕ → List ℕ
-unsealed l idCrc leaf =
+-- so many controllers with device number 0 and one leaf
+unfoldable pub sharing : ℕ → ℕ → List ℕ
+sharing zero start = []
+sharing (suc n) start = 0 ∷ start % 256 ∷ start / 256 ∷ sharing n start
+
+-- the bytes before the SROM CRC: an ID block of zeros with this CRC, version 4, so many controllers with addresses from 0 on
+-- that share a leaf, which starts there, and zeros elsewhere
+unfoldable pub unsealedAt : Layout → ℕ → ℕ → ℕ → List ℕ → List ℕ
+unsealedAt l idCrc controllers start leaf =
     take (checkedLength l)
-    (replicate 16 0 ++ (idCrc ∷ 0 ∷ 4 ∷ 1 ∷ replicate 6 0) ++ (0 ∷ 30 ∷ 0 ∷ 0 ∷ leaf) ++ replicate (imageLength l) 0)
+    (replicate 16 0 ++ (idCrc ∷ 0 ∷ 4 ∷ controllers ∷ replicate 6 0) ++ sharing controllers start
+    ++ replicate (start - (controllersAt + 3 * controllers)) 0 ++ leaf ++ replicate (imageLength (l .size)) 0)
+
+-- one controller with its leaf at 30
+unfoldable pub unsealed : Layout → ℕ → List ℕ → List ℕ
+unsealed l idCrc leaf = unsealedAt l idCrc 1 30 leaf
 
 -- the SROM CRC behind them
 unfoldable pub sealed : Layout → List ℕ → List ℕ
@@ -54,9 +64,8 @@ argumentsOf l c = record { chip = c .chip; controller = 0; level = c .level; lay
 abbrev room : Arrays
 room = record { kinds = replicate 8 0; offsets = replicate 8 0 }
 
-unfoldable pub readWhole : Layout → List ℕ → leaves.LeafCase → leaves.LeafCase
-readWhole l image c =
-    let a = argumentsOf l c in
+unfoldable pub readWhole : List ℕ → Arguments → Arrays → leaves.LeafCase → leaves.LeafCase
+readWhole image a room c =
     let answer = answerOf image a room in
     let table = tableIn image a room in
     record {
@@ -75,11 +84,12 @@ readWhole l image c =
 unfoldable pub worked : ImageCase → ImageCase
 worked c =
     let image = imageWith (c .layout) (c .reading .leaf) in
+    let a = argumentsOf (c .layout) (c .reading) in
     record {
       layout = c .layout;
-      reading = readWhole (c .layout) image (c .reading);
+      reading = readWhole image a room (c .reading);
       calls = c .calls;
-      seen = run image (argumentsOf (c .layout) (c .reading)) freshWalk (c .calls);
+      seen = run image a freshWalk (c .calls);
     }
 
 -- ## The cases

@@ -3,7 +3,7 @@
 use Prim.Native.Nat.{ℕ, _*_}
 use mathlib.Core.List.{List, [], _∷_, _++_}
 use lib.ListN.{length, take, drop, replicate, set}
-use Rattle.rom.specs.Geometry.{withoutMagic, imageLength}
+use Rattle.rom.specs.Geometry.{smallSize, withoutMagic}
 use Rattle.magic.specs.Cases.{wholeBlock}
 use Rattle.sheet.specs.Write.{writeNumber, written}
 use Rattle.sheet.specs.Make.{made}
@@ -100,7 +100,7 @@ caseNoBlock = record {
 
 -- an image of ones
 unfoldable pub allOnes : List ℕ
-allOnes = replicate (imageLength withoutMagic) 1
+allOnes = replicate smallSize 1
 
 -- the sheet written over an image of ones, and the image made a sheet in a buffer of ones
 unfoldable pub runSheet : SheetCase → SheetCase

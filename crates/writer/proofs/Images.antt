@@ -8,8 +8,8 @@ use lib.ListN.{length, take, drop, set, length-append, length-drop, length-repli
 use lib.Seq.{take-at, take-all, drop-at, drop-append-le, drop-append-add, set-at, length-take-le}
 use borrow.Rule.Slice.PartMut.{putMid}
 use Rattle.rom.specs.declared.Layout.{Layout}
-use Rattle.rom.specs.Geometry.{imageLength, boardLength, checkedLength, leavesEnd, idCrcAt}
-use Rattle.rom.proofs.Layouts.{geometry, image-length}
+use Rattle.rom.specs.Geometry.{smallSize, otherSize, imageLength, boardLength, checkedLength, leavesEnd, idCrcAt}
+use Rattle.rom.proofs.Layouts.{geometry, right-length, small-length}
 use Rattle.rom.proofs.Lists.{spell, spelled}
 use Rattle.rom.proofs.Put.{laid-end, laid-behind}
 use Rattle.rom.specs.Bytes.{pick}
@@ -22,6 +22,9 @@ use Rattle.sheet.specs.Image.{leafStart, frontWith, frontOf, leafOf, coveredOf,
 use Rattle.sheet.proofs.Crcs.{srom-front}
 use Rattle.sheet.proofs.Sheets.{Sized, from-sized}
 use Rattle.sheet.proofs.Images.{front-length, covered-length, board-length}
+use Rattle.sheet.proofs.Returns.{small-output}
+use Rattle.sheet.specs.Write.{wrongOutput}
+use mathlib.Core.Bool.{false}
 use Rattle.writer.specs.Inside.{zeros, frameOf, withIdCrc, withSromCrc, Writable}
 use Rattle.writer.proofs.Checksums.{id-front}
 use Rattle.writer.proofs.Sheets.{has-head, leaf-fits}
@@ -52,11 +55,11 @@ put-zeros n k m h = ap₂ (λ (a b : List ℕ). a ++ (m ++ b)) (take-zeros k n (
 -- ## The frame
 
 -- what stands before the leaf, part by part
-pub front-is : (s : List ℕ) → headLength ≤ length s → {blank id last address image : List ℕ} → blank ≡ zeros 128
+pub front-is : (s : List ℕ) → headLength ≤ length s → {blank id last address image : List ℕ} → blank ≡ zeros smallSize
     → id ≡ laid blank 0 (take 16 (drop 2 s)) → last ≡ laid id 17 (take 2 (drop 18 s))
     → address ≡ laid (set last 19 1) 20 (take 7 (drop 20 s))
     → image ≡ laid address 27 (wordBytes leafStart)
-    → image ≡ frontWith 0 (sheetFrom s) ++ zeros (128 - leafStart)
+    → image ≡ frontWith 0 (sheetFrom s) ++ zeros (smallSize - leafStart)
 unfolding pick put laid zeros frontWith sheetFrom spell wordBytes
 front-is s h e₀ e₁ e₂ e₃ e₄ =
     rw (e₄, e₃, e₂, e₁, e₀)
@@ -85,22 +88,23 @@ module _ (s : List ℕ) (h : headLength ≤ length s) where
   front-start crc = simp length-append (omega (arith, sixteen, six))
 
   -- the maker's bytes where leaves end
-  pub frame-is : (l : Layout) (at : ℕ) {image framed : List ℕ} → image ≡ frontWith 0 (sheetFrom s) ++ zeros (128 - leafStart)
+  pub frame-is : (l : Layout) → otherSize (l .size) ≡ false → (at : ℕ) {image framed : List ℕ}
+      → image ≡ frontWith 0 (sheetFrom s) ++ zeros (smallSize - leafStart)
       → at ≡ leavesEnd l → framed ≡ laid image at (take 2 (drop 32 s))
       → framed ≡ frameOf l (frontWith 0 (sheetFrom s)) (sheetFrom s .maker)
   unfolding frameOf sheetFrom
-  frame-is l at e ea ef =
+  frame-is l small at e ea ef =
       let g = geometry l in
-      let n = image-length l in
+      let n = small-length (l .size) small in
       let k = leavesEnd l - leafStart in
       let m = take 2 (drop 32 s) in
       let place : at ≡ leafStart + k = omega arith in
-      let left : (128 - leafStart) - (k + length m) ≡ imageLength l - checkedLength l = omega (arith, two) in
+      let left : (smallSize - leafStart) - (k + length m) ≡ imageLength (l .size) - checkedLength l = omega (arith, two) in
       ef ∙ ap₂ (λ (x : List ℕ) (i : ℕ). laid x i m) e place
-      ∙ laid-behind (frontWith 0 (sheetFrom s)) (zeros (128 - leafStart)) m leafStart k (front-start 0)
-      (omega (arith, two, zeros-length (128 - leafStart)))
+      ∙ laid-behind (frontWith 0 (sheetFrom s)) (zeros (smallSize - leafStart)) m leafStart k (front-start 0)
+      (omega (arith, two, zeros-length (smallSize - leafStart)))
       ∙ ap (λ (x : List ℕ). frontWith 0 (sheetFrom s) ++ x)
-      (put-zeros (128 - leafStart) k m (omega (arith, two)) ∙ ap (λ (i : ℕ). zeros k ++ (m ++ zeros i)) left)
+      (put-zeros (smallSize - leafStart) k m (omega (arith, two)) ∙ ap (λ (i : ℕ). zeros k ++ (m ++ zeros i)) left)
 
   -- the ID CRC goes to its byte, which it does not cover
   pub with-id-crc : (l : Layout) → withIdCrc (frameOf l (frontWith 0 (sheetFrom s)) (sheetFrom s .maker))
@@ -108,7 +112,7 @@ module _ (s : List ℕ) (h : headLength ≤ length s) where
   unfolding withIdCrc frameOf frontOf frontWith
   with-id-crc l =
       let p = sheetFrom s in
-      let rest = zeros (leavesEnd l - leafStart) ++ (p .maker ++ zeros (imageLength l - checkedLength l)) in
+      let rest = zeros (leavesEnd l - leafStart) ++ (p .maker ++ zeros (imageLength (l .size) - checkedLength l)) in
       ap (λ (v : ℕ). set (frontWith 0 p ++ rest) idCrcAt v) (id-front (frontWith 0 p) rest (omega (arith, front-start 0)))
       ∙ ap (λ (x : List ℕ). set x idCrcAt (idCrc (frontWith 0 p))) (append-assoc (p .id) _ rest)
       ∙ set-at (p .id) 0 _ (idCrc (frontWith 0 p)) 16 sixteen
@@ -170,44 +174,46 @@ module _ (l : Layout) (s : List ℕ) (w : Writable l s) where
   -- frame, ID CRC, leaf, SROM CRC
   pub board-is : (image₀ image room image₂ : List ℕ) → image₀ ≡ frameOf l (frontWith 0 (sheetFrom s)) (sheetFrom s .maker)
       → image ≡ withIdCrc image₀
-      → room ≡ put (take (128 - leafStart) (drop leafStart image)) 0 (leafOf (sheetFrom s))
-      → image₂ ≡ withSromCrc l (putMid leafStart (128 - leafStart) image room)
-      → image₂ ≡ boardOf l (sheetFrom s) ++ zeros (128 - boardLength l)
+      → room ≡ put (take (smallSize - leafStart) (drop leafStart image)) 0 (leafOf (sheetFrom s))
+      → image₂ ≡ withSromCrc l (putMid leafStart (smallSize - leafStart) image room)
+      → image₂ ≡ boardOf l (sheetFrom s) ++ zeros (smallSize - boardLength l)
   unfolding boardOf coveredOf frameOf frontOf
   board-is image₀ image room image₂ e₀ e er e₂ =
       let g = geometry l in
-      let n = image-length l in
+      let n = small-length (l .size) (w .small) in
       let p = sheetFrom s in
-      let z = imageLength l - checkedLength l in
+      let z = imageLength (l .size) - checkedLength l in
       let i : image ≡ frameOf l (frontOf p) (p .maker) = e ∙ ap withIdCrc e₀ ∙ with-id-crc s (has-head s (w .is)) l in
-      let after : (leavesEnd l - leafStart) + length (p .maker ++ zeros z) ≤ 128 - leafStart
+      let after : (leavesEnd l - leafStart) + length (p .maker ++ zeros z) ≤ smallSize - leafStart
       = simp length-append (omega (arith, size .maker, zeros-length z)) in
-      let whole : putMid leafStart (128 - leafStart) image room ≡ coveredOf l p ++ zeros z
-      = ap (putMid leafStart (128 - leafStart) image) er
-      ∙ ap (λ (x : List ℕ). putMid leafStart (128 - leafStart) x (put (take (128 - leafStart) (drop leafStart x)) 0 (leafOf p))) i
-      ∙ placed (frontOf p) (leafOf p) (p .maker ++ zeros z) (leavesEnd l - leafStart) (128 - leafStart)
+      let whole : putMid leafStart (smallSize - leafStart) image room ≡ coveredOf l p ++ zeros z
+      = ap (putMid leafStart (smallSize - leafStart) image) er
+      ∙ ap (λ (x : List ℕ). putMid leafStart (smallSize - leafStart) x
+      (put (take (smallSize - leafStart) (drop leafStart x)) 0 (leafOf p))) i
+      ∙ placed (frontOf p) (leafOf p) (p .maker ++ zeros z) (leavesEnd l - leafStart) (smallSize - leafStart)
       (front-length p (idCrc (frontWith 0 p)) size) (leaf-fits l s w) after
       ∙ framed (frontOf p) (leafOf p) (p .maker) (leavesEnd l - leafStart) z in
-      let left : z - 2 ≡ 128 - boardLength l = omega arith in
+      let left : z - 2 ≡ smallSize - boardLength l = omega arith in
       e₂ ∙ ap (withSromCrc l) whole
       ∙ with-srom-crc l (coveredOf l p) z (covered-length l p [] size (leaf-fits l s w)) (omega arith)
       ∙ ap (λ (k : ℕ). boardOf l p ++ zeros k) left
 
   -- and what the output has behind the board
-  pub built-is : (out image built : List ℕ) (end : ℕ) → length out ≡ imageLength l
-      → image ≡ boardOf l (sheetFrom s) ++ zeros (128 - boardLength l) → end ≡ boardLength l
+  pub built-is : (out image built : List ℕ) (end : ℕ) → wrongOutput l (length out) ≡ false
+      → image ≡ boardOf l (sheetFrom s) ++ zeros (smallSize - boardLength l) → end ≡ boardLength l
       → built ≡ laid image end (take (length out - end) (drop end out)) → built ≡ imageOf l (sheetFrom s) out
   unfolding imageOf
-  built-is out image built end long ei ee eb =
+  built-is out image built end right ei ee eb =
+      let long = right-length (l .size) (length out) (small-output l (length out) right .1) in
       let g = geometry l in
-      let n = image-length l in
+      let n = small-length (l .size) (w .small) in
       let b = board-length l (sheetFrom s) out size (leaf-fits l s w) in
       let tail : take (length out - end) (drop end out) ≡ drop (boardLength l) out
       = ap (λ (k : ℕ). take (length out - k) (drop k out)) ee
       ∙ take-all (length out - boardLength l) (drop (boardLength l) out) (simp length-drop (omega arith)) in
-      let all : boardLength l + length (drop (boardLength l) out) ≡ length (boardOf l (sheetFrom s) ++ zeros (128 - boardLength l))
-      = simp (length-append, length-drop) (omega (arith, b, zeros-length (128 - boardLength l))) in
+      let all : boardLength l + length (drop (boardLength l) out) ≡ length (boardOf l (sheetFrom s) ++ zeros (smallSize - boardLength l))
+      = simp (length-append, length-drop) (omega (arith, b, zeros-length (smallSize - boardLength l))) in
       eb ∙ ap₂ (λ (x : List ℕ) (k : ℕ). laid x k (take (length out - end) (drop end out))) ei ee
-      ∙ ap (laid (boardOf l (sheetFrom s) ++ zeros (128 - boardLength l)) (boardLength l)) tail
-      ∙ laid-end (boardOf l (sheetFrom s) ++ zeros (128 - boardLength l)) (drop (boardLength l) out) (boardLength l) all
+      ∙ ap (laid (boardOf l (sheetFrom s) ++ zeros (smallSize - boardLength l)) (boardLength l)) tail
+      ∙ laid-end (boardOf l (sheetFrom s) ++ zeros (smallSize - boardLength l)) (drop (boardLength l) out) (boardLength l) all
       ∙ ap (λ (x : List ℕ). x ++ drop (boardLength l) out) (take-at (boardOf l (sheetFrom s)) _ (boardLength l) b)

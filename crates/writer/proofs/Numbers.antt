@@ -5,10 +5,10 @@ use mathlib.Core.Bool.{Bool, true, false, _||_, not}
 use mathlib.Core.List.{List, _++_}
 use native.Mathlib.Omega.{arith}
 use lib.ListN.{length}
-use lib.Dec.{eqb, ltb}
+use lib.Dec.{ltb}
 use borrow.Author.Tests.{eq-eqb, ne-eqb, lt-ltb, le-ltb}
 use Rattle.rom.specs.declared.Layout.{Layout}
-use Rattle.rom.specs.Geometry.{imageLength, leavesEnd}
+use Rattle.rom.specs.Geometry.{leavesEnd}
 use Rattle.rom.specs.Bytes.{pick, isIn}
 use Rattle.rom.specs.Refusal.{firstMet}
 use Rattle.rom.proofs.First.{after-accepted, after-refused}
@@ -23,7 +23,7 @@ use Rattle.reader.proofs.Readings.{answer-number}
 use Rattle.sheet.specs.Record.{Plain}
 use Rattle.sheet.specs.Sheet.{sheetFrom, isSheet}
 use Rattle.sheet.specs.Image.{leafStart, encodes, leafOf, imageOf, newest}
-use Rattle.sheet.specs.Write.{anyBad, strayControl, cannotHold, recordCauses, writeCauses, writeNumber, written}
+use Rattle.sheet.specs.Write.{anyBad, strayControl, cannotHold, wrongOutput, recordCauses, writeCauses, writeNumber, written}
 use Rattle.sheet.proofs.Returns.{writer-order, record-numbered}
 use Rattle.writer.specs.Inside.{entryCauses}
 use Rattle.writer.proofs.Tests.{or-second}
@@ -79,16 +79,16 @@ module _ (l : Layout) (s out : List ℕ) where
   write-24 h = sym (writer-order l s out .0 h)
 
   module _ (is : isSheet s ≡ true) where
-    pub write-1 : (length out ≡ imageLength l → ⊥) → 1 ≡ writeNumber l s out
+    pub write-1 : wrongOutput l (length out) ≡ true → 1 ≡ writeNumber l s out
     write-1 h = sym (writer-order l s out .1 is .0 h)
 
-    module _ (e : length out ≡ imageLength l) where
+    module _ (e : wrongOutput l (length out) ≡ false) where
       later : writeNumber l s out
           ≡ firstMet (recordCauses l (sheetFrom s) ++ judgeCauses (imageOf l (sheetFrom s) out) (newest l (sheetFrom s .chip)))
       unfolding writeNumber writeCauses firstMet
       later =
           pick-false (not (isSheet s)) _ _ (ap not is)
-          ∙ pick-false (not (eqb (length out) (imageLength l))) _ _ (ap not (eq-eqb (length out) (imageLength l) e))
+          ∙ pick-false (wrongOutput l (length out)) _ _ e
 
       pub write-record : (n : ℕ) → n ≡ firstMet (recordCauses l (sheetFrom s)) → (n ≡ 0 → ⊥) → n ≡ writeNumber l s out
       write-record n en z = sym (later ∙ after-refused (recordCauses l (sheetFrom s)) _ n z (sym en))

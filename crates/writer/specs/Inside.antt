@@ -6,7 +6,7 @@ use mathlib.Core.Bool.{true, false}
 use lib.ListN.{length, take, set, replicate}
 use lib.Dec.{ltb}
 use Rattle.rom.specs.declared.Layout.{Layout}
-use Rattle.rom.specs.Geometry.{imageLength, leavesEnd, checkedLength, idCrcAt}
+use Rattle.rom.specs.Geometry.{otherSize, imageLength, leavesEnd, checkedLength, idCrcAt}
 use Rattle.rom.specs.Bytes.{pick}
 use Rattle.rom.specs.Store.{wordBytes, put}
 use Rattle.rom.specs.Refusal.{Cause, _⇒_, firstMet}
@@ -25,7 +25,7 @@ zeros n = replicate n 0
 
 -- an image with these bytes before the place of its leaf, these maker's bytes, and zeros elsewhere
 unfoldable pub frameOf : Layout → List ℕ → List ℕ → List ℕ
-frameOf l front maker = front ++ (zeros (leavesEnd l - leafStart) ++ (maker ++ zeros (imageLength l - checkedLength l)))
+frameOf l front maker = front ++ (zeros (leavesEnd l - leafStart) ++ (maker ++ zeros (imageLength (l .size) - checkedLength l)))
 
 -- an image with its ID CRC, and with its SROM CRC
 unfoldable pub withIdCrc : List ℕ → List ℕ
@@ -68,9 +68,10 @@ pub record Holds (room : List ℕ) (to n : ℕ) (kinds sizes bodies : List ℕ) 
   pub good : anyBad row (entriesFrom n kinds sizes bodies) ≡ false
   pub fits : to + length (encodes (entriesFrom n kinds sizes bodies)) ≤ length room
 
--- a sheet that passes 24, 7, 25 and 26
+-- a sheet that passes 24, 7, 25 and 26, for an image of the smaller size
 pub record Writable (l : Layout) (s : List ℕ) : Type 0 where
   pub is : isSheet s ≡ true
+  pub small : otherSize (l .size) ≡ false
   pub number : firstMet (recordCauses l (sheetFrom s)) ≡ 0
 
 -- a sheet whose entries images of its chip hold, and room for its leaf

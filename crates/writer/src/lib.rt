@@ -10,16 +10,16 @@ use rom::refusal;
 use rom::store::put_bytes;
 use rom::store::put_word;
 ghost use mathlib.Core.Path.{_≡_};
-ghost use mathlib.Core.Bool.{true};
+ghost use mathlib.Core.Bool.{true, false};
 ghost use mathlib.Core.List.{_++_};
 ghost use Prim.Native.Nat.{_-_, _≤_};
 ghost use lib.ListN.{length};
-ghost use Rattle.rom.specs.Geometry.{imageLength, boardLength};
+ghost use Rattle.rom.specs.Geometry.{smallSize, otherSize, boardLength};
 ghost use Rattle.rom.specs.Refusal.{firstMet};
 ghost use Rattle.sheet.specs.Layout.{headLength};
 ghost use Rattle.sheet.specs.Sheet.{isSheet, sheetFrom};
 ghost use Rattle.sheet.specs.Image.{leafStart, frontWith, boardOf, imageOf};
-ghost use Rattle.sheet.specs.Write.{strayControl, recordCauses, writeNumber, written};
+ghost use Rattle.sheet.specs.Write.{strayControl, wrongOutput, recordCauses, writeNumber, written};
 ghost use Rattle.writer.specs.Inside.{Writable, zeros, frameOf, withIdCrc, withSromCrc};
 
 // Where ID byte 17 stands in an image, before the version.
@@ -83,16 +83,16 @@ fn record_refusal(sheet: &[u8], layout: Layout) -> u8
     )
 }
 
-fn blank() -> [u8; rom::IMAGE_LENGTH]
-    ensures { λ r. ⌜ r ≡ zeros 128 ⌝ }
+fn blank() -> [u8; rom::SMALL_LENGTH]
+    ensures { λ r. ⌜ r ≡ zeros smallSize ⌝ }
 {
-    [0; rom::IMAGE_LENGTH]
+    [0; rom::SMALL_LENGTH]
 }
 
 // What stands before the leaf, but for the ID CRC: one controller, and its leaf at 30.
-fn front(sheet: &[u8]) -> [u8; rom::IMAGE_LENGTH]
+fn front(sheet: &[u8]) -> [u8; rom::SMALL_LENGTH]
     requires { ⌜ headLength ≤ length (now sheet) ⌝ }
-    ensures { λ r. ⌜ r ≡ frontWith 0 (sheetFrom (now (sheet .entry))) ++ zeros (128 - leafStart) ⌝ }
+    ensures { λ r. ⌜ r ≡ frontWith 0 (sheetFrom (now (sheet .entry))) ++ zeros (smallSize - leafStart) ⌝ }
 {
     let mut image = blank();
     put_bytes(
@@ -120,8 +120,8 @@ fn front(sheet: &[u8]) -> [u8; rom::IMAGE_LENGTH]
 }
 
 // The board but for its leaf and CRCs.
-fn frame(sheet: &[u8], layout: Layout) -> [u8; rom::IMAGE_LENGTH]
-    requires { ⌜ headLength ≤ length (now sheet) ⌝ }
+fn frame(sheet: &[u8], layout: Layout) -> [u8; rom::SMALL_LENGTH]
+    requires { ⌜ (headLength ≤ length (now sheet)) × (otherSize (layout .size) ≡ false) ⌝ }
     ensures { λ r. ⌜ r ≡ frameOf layout (frontWith 0 (sheetFrom (now (sheet .entry)))) (sheetFrom (now (sheet .entry)) .maker) ⌝ }
 {
     let mut image = front(sheet);
@@ -134,17 +134,18 @@ fn frame(sheet: &[u8], layout: Layout) -> [u8; rom::IMAGE_LENGTH]
 }
 
 // The image with its ID CRC.
-fn identify(image: [u8; rom::IMAGE_LENGTH]) -> [u8; rom::IMAGE_LENGTH]
+fn identify(image: [u8; rom::SMALL_LENGTH]) -> [u8; rom::SMALL_LENGTH]
     ensures { λ r. ⌜ r ≡ withIdCrc image ⌝ }
 {
-    let checksum = crc::id_crc(&image).value;
+    let checksum = crc::id_crc(&image, rom::SMALL_SIZE).value;
     let mut whole = image;
     whole[rom::ID_CRC_AT] = checksum as u8;
     whole
 }
 
 // The image with its SROM CRC.
-fn seal(image: [u8; rom::IMAGE_LENGTH], layout: Layout) -> [u8; rom::IMAGE_LENGTH]
+fn seal(image: [u8; rom::SMALL_LENGTH], layout: Layout) -> [u8; rom::SMALL_LENGTH]
+    requires { ⌜ otherSize (layout .size) ≡ false ⌝ }
     ensures { λ r. ⌜ r ≡ withSromCrc layout image ⌝ }
 {
     let checksum = crc::srom_crc(&image, layout).value;
@@ -154,9 +155,9 @@ fn seal(image: [u8; rom::IMAGE_LENGTH], layout: Layout) -> [u8; rom::IMAGE_LENGT
 }
 
 // The board of a sheet. The image from byte 30 on is lent to the leaf writer.
-fn board(sheet: &[u8], layout: Layout) -> [u8; rom::IMAGE_LENGTH]
+fn board(sheet: &[u8], layout: Layout) -> [u8; rom::SMALL_LENGTH]
     requires { ⌜ Writable layout (now sheet) ⌝ }
-    ensures { λ r. ⌜ r ≡ boardOf layout (sheetFrom (now (sheet .entry))) ++ zeros (128 - boardLength layout) ⌝ }
+    ensures { λ r. ⌜ r ≡ boardOf layout (sheetFrom (now (sheet .entry))) ++ zeros (smallSize - boardLength layout) ⌝ }
 {
     let mut image = identify(frame(sheet, layout));
     leaf_writer::put_leaf(&mut image[sheet::LEAF_START..], sheet);
@@ -164,14 +165,24 @@ fn board(sheet: &[u8], layout: Layout) -> [u8; rom::IMAGE_LENGTH]
 }
 
 // The image of a sheet, with what an output holds behind the board: a Magic Packet block.
-fn build(sheet: &[u8], layout: Layout, output: &[u8]) -> [u8; rom::IMAGE_LENGTH]
-    requires { ⌜ Writable layout (now sheet) × (length (now output) ≡ imageLength layout) ⌝ }
+fn build(sheet: &[u8], layout: Layout, output: &[u8]) -> [u8; rom::SMALL_LENGTH]
+    requires { ⌜ Writable layout (now sheet) × (wrongOutput layout (length (now output)) ≡ false) ⌝ }
     ensures { λ r. ⌜ r ≡ imageOf layout (sheetFrom (now (sheet .entry))) (now (output .entry)) ⌝ }
 {
     let mut image = board(sheet, layout);
     let end = layout.board_length();
     put_bytes(&mut image, ByteOffset(end), &output[end..]);
     image
+}
+
+// Whether sheets are not written to images of the stated size, or the output has another length.
+fn is_wrong_output(layout: Layout, length: usize) -> bool
+    ensures { λ r. ⌜ r ≡ wrongOutput layout length ⌝ }
+{
+    if layout.size != rom::SMALL_SIZE {
+        return true;
+    }
+    rom::is_wrong_length(layout.size, length)
 }
 
 // Writes the image of a sheet, or answers the first refusal and leaves the image as it was. Told of a Magic Packet block, it
@@ -184,7 +195,8 @@ pub fn write(sheet: &[u8], layout: Layout, image: &mut [u8]) -> u8
     if !whole {
         return refusal::SHEET;
     }
-    if image.len() != layout.image_length() {
+    let wrong = is_wrong_output(layout, image.len());
+    if wrong {
         return refusal::IMAGE_LENGTH;
     }
     let number = record_refusal(sheet, layout);

@@ -6,6 +6,7 @@ use library::{Answer, Layout, Made, Magic, Walk};
 use second::crc;
 use second::images::block::{self, Phy};
 use second::images::{Card, Image, MagicBlock};
+use second::layout::{LARGE, SMALL};
 use second::random::Random;
 use second::reader::{self, Arguments, HIGHEST_COUNT};
 use second::{magic, sheet, walk};
@@ -22,17 +23,17 @@ fn main() {
         );
     }
     let typical = images(|random| Card {
-        private: random.bytes(),
+        private: random.row(SMALL.into()),
         ..typical_card()
     });
     let longest = images(|random| Card::longest(random, Layout::PLAIN));
     let waking = images(|random| Card {
-        private: random.bytes(),
+        private: random.row(SMALL.into()),
         magic: Some(MagicBlock::valid(random)),
         ..typical_card()
     });
     let powered = images(|random| Card {
-        private: random.bytes(),
+        private: random.row(SMALL.into()),
         ..powered_card()
     });
     let (newest, newest_21041) = (Arguments::newest(21143), Arguments::newest(21041));
@@ -48,7 +49,7 @@ fn main() {
         card
     });
     let fixed = images(|random| Card {
-        private: random.bytes(),
+        private: random.row(SMALL.into()),
         ..fixed_card()
     });
     contest_by_value(&tidy);
@@ -61,6 +62,17 @@ fn main() {
     for count in [10, 20, 40] {
         let leaf = images(|random| Card::one_byte_blocks(random, count));
         contest_making(&count.to_string(), 21041, &leaf);
+    }
+    // How the cost of the others does in a ROM of the larger size, up to the most.
+    let newest_large = newest_21041.laid_out(Layout::LARGE_PLAIN);
+    for count in [10, 50, 100, 255] {
+        let name = format!("{LARGE} {count}");
+        if only().is_some_and(|(call, ..)| !call.ends_with(&name)) {
+            continue;
+        }
+        let leaf = images(|random| Card::one_byte_blocks(random, count).sized(LARGE));
+        contest_reading(&name, newest_large, &leaf);
+        contest_walking(&name, newest_large, &leaf);
     }
 }
 
@@ -118,12 +130,17 @@ fn contest_crcs(typical: &[Image], waking: &[Image]) {
             |image| crc::fast::srom_crc(image, layout),
         );
     }
-    contest("id_crc", typical, library::id_crc, crc::fast::id_crc);
+    contest(
+        "id_crc",
+        typical,
+        |image| library::id_crc(image, SMALL),
+        |image| crc::fast::id_crc(image, SMALL),
+    );
     contest(
         "magic_crc",
         waking,
-        library::magic_crc,
-        crc::fast::magic_crc,
+        |image| library::magic_crc(image, SMALL),
+        |image| crc::fast::magic_crc(image, SMALL),
     );
 }
 
@@ -132,8 +149,8 @@ fn contest_magic(waking: &[Image]) {
     contest(
         "read_magic",
         waking,
-        library::read_magic,
-        magic::fast::read_magic,
+        |image| library::read_magic(image, SMALL),
+        |image| magic::fast::read_magic(image, SMALL),
     );
     contest(
         "write_magic",
@@ -144,15 +161,15 @@ fn contest_magic(waking: &[Image]) {
 }
 
 /// A call with an image of its own, which writes what stands first in the one that it is given.
-fn writing_magic(write: impl Fn(Magic, &mut [u8]) -> u8) -> impl FnMut(&[u8]) -> u8 {
-    let mut image = [0; 128];
+fn writing_magic(write: impl Fn(Magic, &mut [u8], u16) -> u8) -> impl FnMut(&[u8]) -> u8 {
+    let mut image = [0; SMALL as usize];
     move |from| {
         let magic = Magic {
             password: from[..6].try_into().expect("six bytes"),
             address: from[6..12].try_into().expect("six bytes"),
             command: u16::from_le_bytes([from[12], from[13]]),
         };
-        write(magic, black_box(&mut image))
+        write(magic, black_box(&mut image), SMALL)
     }
 }
 
@@ -255,7 +272,7 @@ fn contest_making(leaf: &str, chip: u16, images: &[Image]) {
 
 /// A call with an image of its own.
 fn writing(write: impl Fn(&[u8], Layout, &mut [u8]) -> u8) -> impl FnMut(&[u8]) -> u8 {
-    let mut image = [0; 128];
+    let mut image = [0; SMALL as usize];
     move |sheet| write(sheet, Layout::PLAIN, black_box(&mut image))
 }
 

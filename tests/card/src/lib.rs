@@ -1,6 +1,6 @@
 //! The bench tool `./card`, run from the root of the repository.
 
-use second::layout::Layout;
+use second::layout::{Layout, SIZES, SMALL};
 use second::reader::{Arguments, EXTENDED, POWER, starts};
 use std::fs;
 use std::ops::Range;
@@ -34,8 +34,8 @@ pub fn shell(line: &str, temporary: &Path) -> Run {
     }
 }
 
-/// The words that name the arguments of a reading.
-pub fn words(arguments: Arguments) -> String {
+/// The words that name the arguments of a reading of an image.
+pub fn words(arguments: Arguments, image: &[u8]) -> String {
     let Arguments {
         chip,
         controller,
@@ -44,13 +44,45 @@ pub fn words(arguments: Arguments) -> String {
     } = arguments;
     format!(
         "{chip} --controller {controller} --level {level}{}",
-        option(layout)
+        options(layout, image)
     )
 }
 
-/// The option that names a layout, behind other words.
-pub fn option(layout: Layout) -> &'static str {
-    if layout.magic { " --magic" } else { "" }
+/// The options that name a layout of an image, behind other words: its size where the image's length says another.
+pub fn options(layout: Layout, image: &[u8]) -> String {
+    let size = if layout.size == size_by_length(image) {
+        String::new()
+    } else {
+        format!(" --size {}", layout.size)
+    };
+    let magic = if layout.magic { " --magic" } else { "" };
+    format!("{size}{magic}")
+}
+
+/// "The size is the file's length where that is 128 or 512"; any other counts as the smaller (docs/DECISIONS.md, 'The bench
+/// tool').
+pub fn size_by_length(image: &[u8]) -> u16 {
+    let is_length = |size: &u16| usize::from(*size) == image.len();
+    SIZES.into_iter().find(is_length).unwrap_or(SMALL)
+}
+
+/// How a verdict names the arguments of a reading that `words` asks for. "`--size N` says otherwise, and the verdict then
+/// tells which"; so it does of the larger size.
+pub fn asked(arguments: Arguments, image: &[u8]) -> String {
+    let Arguments {
+        chip,
+        controller,
+        level,
+        layout: Layout { size, magic },
+    } = arguments;
+    let is_named = size != SMALL || size != size_by_length(image);
+    let size = if is_named {
+        format!(", size {size}")
+    } else {
+        String::new()
+    };
+    let magic = if magic { ", Magic Packet layout" } else { "" };
+    format!("chip {chip}, controller {controller}, level {level}{size}{magic}")
 }
 
 /// Runs `./card` with words that need no quotes.
@@ -138,8 +170,10 @@ pub fn samples() -> Vec<(String, Arguments, Vec<u8>)> {
         let chip = cells.next().and_then(|chip| chip.parse().ok());
         let chip = chip.unwrap_or_else(|| panic!("samples/README.md has no chip in: {row}"));
         let layout = match cells.next() {
-            Some("plain") => Layout::PLAIN,
-            Some("magic") => Layout::MAGIC,
+            Some("128 plain") => Layout::PLAIN,
+            Some("128 magic") => Layout::MAGIC,
+            Some("512 plain") => Layout::LARGE_PLAIN,
+            Some("512 magic") => Layout::LARGE_MAGIC,
             _ => panic!("samples/README.md has no layout in: {row}"),
         };
         let arguments = Arguments::newest(chip).laid_out(layout);

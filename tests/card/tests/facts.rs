@@ -1,10 +1,13 @@
 //! What the bench tool says of a card, held to the second implementation.
 
-use card::{PowerBlock, Run, card, fixed_name, option, power_blocks, samples, temporary, words};
-use second::crc::{IMAGE_LENGTH, MAGIC_CRC_OFFSET, lay_srom_crc, magic_crc, srom_crc};
-use second::images::{Card, Image, MagicBlock, Sample, block};
-use second::layout::{LAYOUTS, Layout};
-use second::magic::{LAST_RESERVED, Magic, RESERVED, read_magic, write_magic};
+use card::{
+    PowerBlock, Run, asked, card, fixed_name, options, power_blocks, samples, size_by_length,
+    temporary, words,
+};
+use second::crc::{lay_srom_crc, magic_crc, srom_crc};
+use second::images::{Card, MagicBlock, Sample, WRONG_SIZES, block};
+use second::layout::{LARGE, LAYOUTS, Layout, SHEET_LAYOUTS, SIZES, SMALL, magic_offset};
+use second::magic::{CRC_OFFSET, LAST_RESERVED, Magic, RESERVED, read_magic, write_magic};
 use second::random::Random;
 use second::reader::{
     Answer, Arguments, CHIPS, COMPACT, MEDIA_21041, NEWEST_LEVEL, NO_DEFAULT, connections,
@@ -29,6 +32,7 @@ fn expected(image: &[u8], arguments: Arguments) -> Vec<String> {
     let (answer, entries) = read_all(image, arguments);
     if answer.number != 0 {
         let mut facts = vec![format!("REFUSED {}", answer.number)];
+        facts.push(asked(arguments, image));
         facts.extend(reasons(image, arguments.layout, answer.number));
         if answer.number == 31 {
             facts.extend(shared_modes(image, arguments));
@@ -37,6 +41,7 @@ fn expected(image: &[u8], arguments: Arguments) -> Vec<String> {
         return facts;
     }
     let mut facts = vec!["ACCEPTED".to_string()];
+    facts.push(asked(arguments, image));
     facts.push(six(&answer.address.to_be_bytes()[2..]));
     facts.push(format!("0x{:04x}", answer.connection));
     facts.push(format!(
@@ -45,7 +50,7 @@ fn expected(image: &[u8], arguments: Arguments) -> Vec<String> {
     ));
     facts.push(default(&answer));
     if arguments.layout.magic {
-        facts.extend(magic_lines(read_magic(image).magic));
+        facts.extend(magic_lines(read_magic(image, arguments.layout.size).magic));
     }
     for (entry, (kind, offset)) in entries.into_iter().enumerate() {
         facts.push(format!("{entry} {offset} {}", kind_words(kind)));
@@ -79,7 +84,14 @@ fn shared_modes(image: &[u8], arguments: Arguments) -> Vec<String> {
 /// What is shown of a refusal that the layout has a say in, and of the CRC and the reserved bytes of the
 /// Magic Packet block.
 fn reasons(image: &[u8], layout: Layout, number: u8) -> Vec<String> {
+    if number == 1 {
+        let length = image.len();
+        return vec![format!(
+            "the image has {length} bytes; a ROM has {SMALL} or {LARGE}"
+        )];
+    }
     let leaf_limit = layout.leaf_limit();
+    let magic = magic_offset(layout.size);
     match number {
         3 => {
             let at = layout.srom_crc_offset();
@@ -107,13 +119,15 @@ fn reasons(image: &[u8], layout: Layout, number: u8) -> Vec<String> {
         }
         13 => vec![format!("leaves end before byte {leaf_limit}")],
         29 => {
-            let (stored, computed) = (image[MAGIC_CRC_OFFSET], magic_crc(image).value);
+            let at = magic + CRC_OFFSET;
+            let (stored, computed) = (image[at], magic_crc(image, layout.size).value);
             vec![format!(
-                "Magic CRC, byte 126: 0x{stored:02x} stored, 0x{computed:02x} of the block's other bytes"
+                "Magic CRC, byte {at}: 0x{stored:02x} stored, 0x{computed:02x} of the block's other bytes"
             )]
         }
         30 => RESERVED
             .chain([LAST_RESERVED])
+            .map(|inside| magic + inside)
             .filter(|&at| image[at] != 0)
             .map(|at| format!("reserved byte, byte {at}: 0x{:02x}", image[at]))
             .collect(),
@@ -121,8 +135,9 @@ fn reasons(image: &[u8], layout: Layout, number: u8) -> Vec<String> {
     }
 }
 
-/// What the lines of `reasons` begin with, and that about the other layout.
-const BEGINS: [&str; 7] = [
+/// What the lines of `reasons` begin with, and that about another layout.
+const BEGINS: [&str; 8] = [
+    "the image has",
     "SROM CRC,",
     "controller count (",
     "a leaf of this card",
@@ -132,13 +147,22 @@ const BEGINS: [&str; 7] = [
     "accepted with",
 ];
 
-/// What is said of an image that is refused with 3 and accepted in the other layout.
+/// What is said of an image that is refused with 3 and accepted with a Magic Packet block or without it, or refused with 1 and
+/// accepted at the size that its length says.
 fn otherwise(image: &[u8], arguments: Arguments) -> Option<String> {
     let number = |arguments| read_all(image, arguments).0.number;
-    let other = other(arguments.layout);
-    let is_so = number(arguments) == 3 && number(arguments.laid_out(other)) == 0;
-    let word = if other.magic { "with" } else { "without" };
-    is_so.then(|| format!("accepted {word} --magic"))
+    let layout = arguments.layout;
+    let (other, words) = match number(arguments) {
+        1 => {
+            let size = size_by_length(image);
+            (Layout { size, ..layout }, format!("with --size {size}"))
+        }
+        3 if layout.magic => (other(layout), "without --magic".to_string()),
+        3 => (other(layout), "with --magic".to_string()),
+        _ => return None,
+    };
+    let is_accepted = number(arguments.laid_out(other)) == 0;
+    is_accepted.then(|| format!("accepted {words}"))
 }
 
 /// "the command's bits in 000's words", and by its number one that must be 0.
@@ -187,12 +211,13 @@ fn default(answer: &Answer) -> String {
 
 /// The same facts, taken from what the tool wrote.
 fn shown(written: &str) -> Vec<String> {
-    let mut facts = Vec::new();
-    let first = written.lines().next().unwrap_or_default();
-    facts.push(match first.split_once(':') {
-        Some((refused, _)) => refused.to_string(),
-        None => first.split("  ").next().unwrap_or_default().to_string(),
-    });
+    let mut lines = written.lines();
+    let first = lines.next().unwrap_or_default();
+    let verdict = match first.split_once(':') {
+        Some((refused, _)) => (refused, lines.next().unwrap_or_default()),
+        None => first.split_once("  ").unwrap_or_default(),
+    };
+    let mut facts = vec![verdict.0.to_string(), verdict.1.trim_start().to_string()];
     if facts[0] != "ACCEPTED" {
         let lines = written.lines().map(str::trim_start);
         let is_fact = |line: &&str| BEGINS.iter().any(|begin| line.starts_with(begin));
@@ -248,10 +273,17 @@ fn below_blocks(written: &str, name: &str) -> Vec<String> {
 }
 
 /// The arguments that a sample is read with: at every level for two controllers and for the first in
-/// the other layout, and at the newest level with every other chip.
+/// the other layout, and at the newest level with every other chip and size.
 fn readers(newest: Arguments) -> Vec<Arguments> {
     let chips = CHIPS.into_iter().filter(|&chip| chip != newest.chip);
     let mut readers: Vec<_> = chips.map(|chip| Arguments { chip, ..newest }).collect();
+    let sizes = SIZES.into_iter().chain(WRONG_SIZES);
+    let others = sizes.filter(|&size| size != newest.layout.size);
+    let layout = |size| Layout {
+        size,
+        ..newest.layout
+    };
+    readers.extend(others.map(|size| newest.laid_out(layout(size))));
     for level in 0..=NEWEST_LEVEL + 1 {
         let own = Arguments { level, ..newest };
         let second = Arguments {
@@ -266,6 +298,7 @@ fn readers(newest: Arguments) -> Vec<Arguments> {
 fn other(layout: Layout) -> Layout {
     Layout {
         magic: !layout.magic,
+        ..layout
     }
 }
 
@@ -276,7 +309,7 @@ fn readings() {
     let mut verdicts = BTreeMap::new();
     for (name, own, image) in samples() {
         for arguments in readers(own) {
-            let run = card(&format!("read samples/{name} {}", words(arguments)));
+            let run = card(&format!("read samples/{name} {}", words(arguments, &image)));
             let facts = expected(&image, arguments);
             assert_eq!(
                 shown(&run.written),
@@ -293,13 +326,18 @@ fn readings() {
     }
     println!("{verdicts:?}");
     assert!(verdicts.len() > 19, "{verdicts:?}");
-    for fact in ["accepted with --magic", "accepted without --magic"] {
-        assert!(verdicts[fact] > 10, "{verdicts:?}");
+    for (fact, least) in [
+        ("accepted with --magic", 10),
+        ("accepted without --magic", 10),
+        ("accepted with --size 128", 100),
+        ("accepted with --size 512", 10),
+    ] {
+        assert!(verdicts[fact] > least, "{verdicts:?}");
     }
     assert!(verdicts.contains_key("REFUSED 31"), "{verdicts:?}");
 }
 
-/// The same of random cards of both layouts, whose blocks say anything.
+/// The same of random cards of all layouts, whose blocks say anything.
 #[test]
 fn random_cards() {
     let file = temporary("random_cards").join("card.rom");
@@ -310,15 +348,18 @@ fn random_cards() {
                 card: made,
                 arguments,
             } = Sample::valid_in(&mut random, layout);
-            fs::write(&file, made.image()).unwrap();
-            let run = card(&format!("read {} {}", file.display(), words(arguments)));
-            let facts = expected(&made.image(), arguments);
+            let image = made.image();
+            fs::write(&file, &image).unwrap();
+            let words = words(arguments, &image);
+            let run = card(&format!("read {} {words}", file.display()));
+            let facts = expected(&image, arguments);
             assert_eq!(shown(&run.written), facts, "{arguments:?}\n{}", run.written);
         }
     }
 }
 
-/// Every command that shows the verdict of a reading says where the other layout would accept.
+/// Every command that shows the verdict of a reading says where another layout would accept; but `sheet` of no other size, since
+/// "Sheets and their writer keep to 128 bytes".
 #[test]
 fn other_layout() {
     let folder = temporary("other_layout");
@@ -329,17 +370,34 @@ fn other_layout() {
             let arguments = own.laid_out(layout);
             let line = otherwise(&image, arguments).map(|line| format!("  {line}"));
             let chip = own.chip;
-            let option = option(layout);
-            for command in [
-                format!("read samples/{name} {chip}{option}"),
-                format!("older samples/{name} {chip}{option}"),
-                format!("walk samples/{name} {chip} 0{option}"),
-                format!("sheet samples/{name} {chip} {out} --force{option}"),
-                format!("map samples/{name} {chip} {out} --force{option}"),
+            let options = options(layout, &image);
+            let is_sheet = |line: &&String| layout.size == SMALL && line.ends_with("--magic");
+            let of_sheet = line.as_ref().filter(is_sheet);
+            for (command, line) in [
+                (
+                    format!("read samples/{name} {chip}{options}"),
+                    line.as_ref(),
+                ),
+                (
+                    format!("older samples/{name} {chip}{options}"),
+                    line.as_ref(),
+                ),
+                (
+                    format!("walk samples/{name} {chip} 0{options}"),
+                    line.as_ref(),
+                ),
+                (
+                    format!("sheet samples/{name} {chip} {out} --force{options}"),
+                    of_sheet,
+                ),
+                (
+                    format!("map samples/{name} {chip} {out} --force{options}"),
+                    line.as_ref(),
+                ),
             ] {
                 let run = card(&command);
                 let said = run.written.lines().find(|it| it.starts_with("  accepted"));
-                assert_eq!(said, line.as_deref(), "{command}\n{}", run.written);
+                assert_eq!(said, line.map(|it| &**it), "{command}\n{}", run.written);
                 count += usize::from(said.is_some());
             }
         }
@@ -348,12 +406,12 @@ fn other_layout() {
 }
 
 /// The block for which an image is refused: the last of the fewest blocks that are refused so, were they the whole leaf.
-fn refused_block(image: &Image, arguments: Arguments, number: u8) -> u8 {
+fn refused_block(image: &[u8], arguments: Arguments, number: u8) -> u8 {
     let controller = controller_offset(arguments.controller.into());
     let leaf = u16::from_le_bytes([image[controller + 1], image[controller + 2]]);
     let count = usize::from(leaf) + header_size(arguments.chip) - 1;
     let is_refused = |&blocks: &u8| {
-        let mut fewer = *image;
+        let mut fewer = image.to_vec();
         fewer[count] = blocks;
         lay_srom_crc(&mut fewer, arguments.layout);
         read_all(&fewer, arguments).0.number == number
@@ -374,8 +432,8 @@ fn named_blocks() {
                 arguments,
             } = Sample::damaged(&mut random, number);
             let image = damaged.image();
-            fs::write(&file, image).unwrap();
-            let words = format!("{} {}", file.display(), words(arguments));
+            fs::write(&file, &image).unwrap();
+            let words = format!("{} {}", file.display(), words(arguments, &image));
             let run = card(&format!("read {words}"));
             assert_eq!(shown(&run.written), expected(&image, arguments));
             let block = refused_block(&image, arguments, number);
@@ -418,10 +476,11 @@ fn named_modes() {
             [block::power(mode, &words), block::sia(0, None, 1, 2)]
         });
         let image = Card::tidy(21143, 0x0800, blocks.collect()).image();
-        fs::write(&file, image).unwrap();
+        fs::write(&file, &image).unwrap();
         for level in [NEWEST_LEVEL - 1, NEWEST_LEVEL] {
             let arguments = Arguments::at_level(21143, level);
-            let run = card(&format!("read {} {}", file.display(), words(arguments)));
+            let words = words(arguments, &image);
+            let run = card(&format!("read {} {words}", file.display()));
             let facts = expected(&image, arguments);
             assert_eq!(shown(&run.written), facts, "{arguments:?}\n{}", run.written);
             assert!(run.written.lines().all(|line| line.len() <= 80));
@@ -440,7 +499,7 @@ fn named_modes() {
     assert!(named.len() > 10 && most > Some(2), "{named:?}");
 }
 
-/// The sheet of every sample in both layouts, and the image of that sheet, with the sample's own block
+/// The sheet of every sample in every layout, and the image of that sheet, with the sample's own block
 /// where it has one: the second implementation's bytes, or no file.
 #[test]
 fn sheets() {
@@ -470,12 +529,15 @@ fn is_sheet_made(
 ) -> bool {
     let Arguments { chip, layout, .. } = arguments;
     let _ = fs::remove_file(made);
-    let words = format!("samples/{name} {chip} {}{}", made.display(), option(layout));
+    let options = options(layout, image);
+    let words = format!("samples/{name} {chip} {}{options}", made.display());
     let run = card(&format!("sheet {words}"));
     let mut buffer = [0; 1024];
     let answer = sheet::make(image, chip, layout, &mut buffer);
     if answer.number != 0 {
         assert_refused(&run, answer.number, made);
+        let is_told = run.written.contains(&keeps_to(image));
+        assert_eq!(is_told, answer.number == 1, "{}", run.written);
         return false;
     }
     let bytes = &buffer[..answer.length];
@@ -488,13 +550,19 @@ fn is_sheet_made(
     let words = format!("{} {} --force{from}", made.display(), written.display());
     let run = card(&format!("write {words}"));
     let mut output = if layout.magic {
-        image.try_into().unwrap()
+        image.to_vec()
     } else {
-        [0; IMAGE_LENGTH]
+        vec![0; SMALL.into()]
     };
     assert_eq!(sheet::write(bytes, layout, &mut output), 0, "{name}");
     assert_written(&run, written, &output);
     true
+}
+
+/// What is shown of an image that has no sheet for its length.
+fn keeps_to(image: &[u8]) -> String {
+    let length = image.len();
+    format!("  the image has {length} bytes; sheets keep to size {SMALL}\n")
 }
 
 /// A byte behind the leaf that is not 0, the last before the maker's bytes: a sheet would lose it.
@@ -502,14 +570,16 @@ fn is_sheet_made(
 fn untidy_images() {
     let folder = temporary("untidy_images");
     let (file, out) = (folder.join("card.rom"), folder.join("card.sheet"));
-    for layout in LAYOUTS {
+    for layout in SHEET_LAYOUTS {
         let mut made = Card::tidy(21143, 0x0800, vec![]);
         made.magic = MagicBlock::of_layout(&mut Random::new(1), layout);
         let limit = layout.leaf_limit();
         made.private[limit - 1] = 1;
-        fs::write(&file, made.image()).unwrap();
+        let image = made.image();
+        fs::write(&file, &image).unwrap();
         let (file, words) = (file.display(), out.display());
-        let run = card(&format!("sheet {file} 21143 {words}{}", option(layout)));
+        let options = options(layout, &image);
+        let run = card(&format!("sheet {file} 21143 {words}{options}"));
         assert_refused(&run, 27, &out);
         let line = format!("  a byte behind the leaf's last, before byte {limit}, is not 0");
         assert_eq!(run.written.lines().nth(1), Some(&*line));
@@ -563,7 +633,11 @@ fn kept_blocks() {
             assert_written(&run, &out, &image);
         } else {
             assert_refused(&run, number, &out);
-            for reason in reasons(&image, Layout::MAGIC, number) {
+            let reasons = match number {
+                1 => vec![keeps_to(&image)],
+                _ => reasons(&image, Layout::MAGIC, number),
+            };
+            for reason in reasons {
                 assert!(run.written.contains(&reason), "{name}\n{}", run.written);
             }
         }
@@ -595,7 +669,8 @@ fn magic_blocks() {
             six(&magic.address),
             magic.command
         ));
-        let number = write_magic(magic, &mut image);
+        let layout = Layout::new(size_by_length(&image), true);
+        let number = write_magic(magic, &mut image, layout.size);
         if number != 0 {
             assert_refused(&run, number, &out);
             continue;
@@ -608,13 +683,13 @@ fn magic_blocks() {
             format!("  address          {address}"),
             format!("  command          {command}"),
         ];
-        let at = Layout::MAGIC.srom_crc_offset();
+        let at = layout.srom_crc_offset();
         let stored = u16::from_le_bytes([image[at], image[at + 1]]);
-        let is_laid_out = stored == srom_crc(&image, Layout::MAGIC).value;
+        let is_laid_out = stored == srom_crc(&image, layout).value;
         if !is_laid_out {
             lines.push(NOT_LAID_OUT.to_string());
             lines.extend(
-                reasons(&image, Layout::MAGIC, 3)
+                reasons(&image, layout, 3)
                     .iter()
                     .map(|it| format!("  {it}")),
             );
@@ -656,10 +731,12 @@ fn is_walked(name: &str, image: &[u8], arguments: Arguments, random: &mut Random
         level,
         layout,
     } = arguments;
+    let options = options(layout, image);
     let mut walk = Autosense::Fresh;
     let number = walk.load(image, arguments);
     if number != 0 {
-        let run = card(&format!("walk samples/{name} {} 0", words(arguments)));
+        let words = words(arguments, image);
+        let run = card(&format!("walk samples/{name} {words} 0"));
         let refused = format!("REFUSED {number}: ");
         assert!(run.written.starts_with(&refused), "{name}");
         assert_eq!(run.status, 1, "{name}");
@@ -669,25 +746,23 @@ fn is_walked(name: &str, image: &[u8], arguments: Arguments, random: &mut Random
     let reports: Vec<_> = (0..20).map(|_| report(random, starts.len())).collect();
     let (first, last) = reports.split_at(random.below(reports.len()));
     let (first, last) = (first.join(" "), last.join(" "));
-    let magic = option(layout);
     let run = card(&format!(
-        "walk --level {level} samples/{name} {chip} {first}{magic} --controller {controller} {last}"
+        "walk --level {level} samples/{name} {chip} {first}{options} --controller {controller} {last}"
     ));
     let lines: Vec<_> = run.written.lines().collect();
-    assert_eq!(lines.len(), 2 + reports.len(), "{name}\n{}", run.written);
-    let laid_out = if layout.magic {
-        ", Magic Packet layout"
-    } else {
-        ""
-    };
+    let long = reports.iter().filter(|report| is_long(report)).count();
+    let count = 2 + reports.len() + long;
+    assert_eq!(lines.len(), count, "{name}\n{}", run.written);
     let loaded = format!(
-        "LOADED  chip {chip}, controller {controller}, level {level}{laid_out}, {} blocks",
+        "LOADED  {}, {} blocks",
+        asked(arguments, image),
         starts.len()
     );
     assert_eq!(lines[0], loaded, "{name}");
     assert_eq!(lines[1], way_line(walk.walk().connection), "{name}");
     let mut refused = false;
-    for (report, line) in reports.iter().zip(&lines[2..]) {
+    let mut lines = lines[2..].iter();
+    for report in &reports {
         let links: Vec<u8> = report.bytes().map(|digit| digit - b'0').collect();
         let number = walk.look(&links);
         refused |= number != 0;
@@ -697,7 +772,13 @@ fn is_walked(name: &str, image: &[u8], arguments: Arguments, random: &mut Random
             (0, block) => format!("block {block} at byte {}, ", starts[usize::from(block)]),
             (number, _) => format!("REFUSED {number}: "),
         };
-        let begin = format!("  {report}  {begin}");
+        let begin = if is_long(report) {
+            assert_eq!(lines.next(), Some(&&*links_line(report)), "{name}");
+            format!("    {begin}")
+        } else {
+            format!("  {report}  {begin}")
+        };
+        let line = lines.next().unwrap();
         assert!(line.starts_with(&begin), "{name} {report}: {line}");
         if number == 0 {
             let settled = if state.settled {
@@ -712,6 +793,22 @@ fn is_walked(name: &str, image: &[u8], arguments: Arguments, random: &mut Random
     }
     assert_eq!(run.status, i32::from(refused), "{name}");
     true
+}
+
+/// Whether a report is longer than a person can count: then the links that are up are named in a line of their own.
+fn is_long(report: &str) -> bool {
+    report.len() > 16
+}
+
+/// That line, which names the first six.
+fn links_line(report: &str) -> String {
+    let up: Vec<_> = report.match_indices('1').map(|(at, _)| at).collect();
+    let words = match up.as_slice() {
+        [] => " none".to_string(),
+        _ => up.iter().take(6).map(|at| format!(" {at}")).collect(),
+    };
+    let more = if up.len() > 6 { " .." } else { "" };
+    format!("  links up:{words}{more}")
 }
 
 /// A connection type and its way to walk.
@@ -781,7 +878,7 @@ fn rows(written: &str) -> Vec<Row> {
 fn older_readers() {
     let mut count = 0;
     for (name, newest, image) in samples() {
-        let run = card(&format!("older samples/{name} {}", words(newest)));
+        let run = card(&format!("older samples/{name} {}", words(newest, &image)));
         let rows = rows(&run.written);
         let [
             levels,
@@ -836,8 +933,7 @@ fn older_readers() {
             let starts = starts(&image, arguments).unwrap();
             let number = read_all(&image, newest).0.number;
             let shown = if (13..18).contains(&number) {
-                let image = image.as_slice().try_into().unwrap();
-                usize::from(refused_block(image, newest, number)) + 1
+                usize::from(refused_block(&image, newest, number)) + 1
             } else {
                 starts.len()
             };

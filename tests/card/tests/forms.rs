@@ -3,6 +3,7 @@
 
 use card::{root, samples, shell, temporary};
 use second::forms::{FORMS, Form};
+use second::layout::SMALL;
 use second::random::Random;
 use std::fs;
 use std::io::Write;
@@ -63,11 +64,12 @@ fn random_image(random: &mut Random, number: usize) -> Vec<u8> {
     image
 }
 
-/// Every sample, and 10,000 random images, in every form. A form of words has an even number of
-/// bytes, so the sample that is a byte short is in the others alone.
+/// Every sample of which the test program has room for the text, and 10,000 random images, in every form. A form of words has an
+/// even number of bytes, so the sample that is a byte short is in the others alone.
 #[test]
 fn an_image_decodes_to_itself() {
-    let mut images: Vec<_> = samples().into_iter().map(|(.., image)| image).collect();
+    let images = samples().into_iter().map(|(.., image)| image);
+    let mut images: Vec<_> = images.filter(|image| !is_large(image)).collect();
     assert!(images.len() >= 30, "{} samples", images.len());
     let mut random = Random::new(2026);
     images.extend((0..RANDOM_IMAGES).map(|number| random_image(&mut random, number)));
@@ -81,6 +83,29 @@ fn an_image_decodes_to_itself() {
             assert_eq!(decoded, (0, digits(image)), "{form:?}\n{text}");
         }
     }
+}
+
+fn is_large(image: &[u8]) -> bool {
+    image.len() > usize::from(SMALL)
+}
+
+/// What `./card read` says of a larger sample in each form is what it says of the sample.
+#[test]
+fn a_large_image_is_read_in_each_form() {
+    let folder = temporary("large_forms");
+    let mut count = 0;
+    for (name, arguments, image) in samples() {
+        let arguments = card::words(arguments, &image);
+        let read = |file: &str| shell(&format!("./card read {file} {arguments}"), &folder);
+        let fits = |form: &&Form| is_large(&image) && (!form.is_words() || image.len() % 2 == 0);
+        for form in FORMS.iter().filter(fits) {
+            fs::write(folder.join("text"), form.text(&image)).unwrap();
+            let raw = read(&format!("samples/{name}"));
+            assert_eq!(read("$TMP/text"), raw, "{form:?} {name}");
+            count += 1;
+        }
+    }
+    assert!(count >= 6 * FORMS.len() - 4, "{count} texts");
 }
 
 /// A program, the words that have it print a file, and the form that it prints.
@@ -115,7 +140,7 @@ fn what_programs_print() {
             }
             assert_eq!(printed.written, form.text(&image), "{words} {name}");
             fs::write(folder.join("printed"), printed.written).unwrap();
-            let arguments = card::words(arguments);
+            let arguments = card::words(arguments, &image);
             let read = |file: &str| shell(&format!("./card read {file} {arguments}"), &folder);
             let raw = read(&format!("samples/{name}"));
             assert_eq!(read("$TMP/printed"), raw, "{words} {name}");

@@ -1,9 +1,12 @@
 //! The picture of a ROM: well formed, a cell for each byte with its value and its field.
 
-use card::{PowerBlock, card, option, power_blocks, samples, temporary, words};
-use second::crc::IMAGE_LENGTH;
-use second::layout::{LAYOUTS, Layout};
+use card::{PowerBlock, card, options, power_blocks, samples, temporary, words};
+use second::images::{Card, block};
+use second::layout::{LAYOUTS, Layout, MAGIC_LENGTH, SMALL, is_of_size, magic_offset};
+use second::magic::{ADDRESS_OFFSET, COMMAND_OFFSET, CRC_OFFSET, LAST_RESERVED, PASSWORD_OFFSET};
+use second::random::Random;
 use second::reader::{Arguments, COMPACT, read_all, view};
+use std::collections::BTreeMap;
 use std::fs;
 use std::ops::Range;
 use std::path::Path;
@@ -73,15 +76,18 @@ fn cells(tags: &[String]) -> Vec<(u8, usize)> {
     cells
 }
 
-/// Every sample of 128 bytes in both layouts, be it refused: its bytes in order, and what every image
+/// Every sample in every layout of its size, be it refused: its bytes in order, and what every image
 /// of the layout has in the same place. Where it is accepted, the bytes of each entry's block (document
 /// 01, "The image") and of each power block, and those of the blocks that a reader of level 3 does not
 /// know.
 #[test]
 fn every_sample() {
     let mut power = 0;
-    for layout in LAYOUTS {
-        let folder = temporary(&format!("map{}", option(layout).trim()));
+    // Three samples have a Magic Packet block and are accepted, and two of 512 bytes have none.
+    let least = [(30, 10), (5, 3), (200, 3), (4, 3)];
+    for (layout, least) in LAYOUTS.into_iter().zip(least) {
+        let Layout { size, magic } = layout;
+        let folder = temporary(&format!("map-{size}-{magic}"));
         let (mut known, mut unknown) = (0, 0);
         for (name, own, image) in samples() {
             let newest = own.laid_out(layout);
@@ -95,8 +101,6 @@ fn every_sample() {
             });
             unknown += held_power(&fields, &image, newest, UNKNOWN);
         }
-        // Two samples have a Magic Packet block and are accepted.
-        let least = if layout.magic { (5, 3) } else { (30, 10) };
         assert!(known >= least.0, "{layout:?}: {known} blocks are known");
         assert!(unknown >= least.1, "{layout:?}: {unknown} blocks are not");
     }
@@ -118,14 +122,16 @@ fn frame(layout: Layout) -> Vec<(Range<usize>, usize)> {
         (srom_crc..srom_crc + 2, SROM_CRC),
     ];
     if layout.magic {
-        frame.extend([
-            (96..102, PASSWORD),
-            (102..108, WAKE_ADDRESS),
-            (108..110, COMMAND),
-            (110..126, RESERVED),
-            (126..127, MAGIC_CRC),
-            (127..128, RESERVED),
-        ]);
+        let block = magic_offset(layout.size);
+        let inside = [
+            (PASSWORD_OFFSET..ADDRESS_OFFSET, PASSWORD),
+            (ADDRESS_OFFSET..COMMAND_OFFSET, WAKE_ADDRESS),
+            (COMMAND_OFFSET..second::magic::RESERVED.start, COMMAND),
+            (second::magic::RESERVED, RESERVED),
+            (CRC_OFFSET..LAST_RESERVED, MAGIC_CRC),
+            (LAST_RESERVED..MAGIC_LENGTH, RESERVED),
+        ];
+        frame.extend(inside.map(|(at, field)| (block + at.start..block + at.end, field)));
     }
     frame
 }
@@ -139,11 +145,11 @@ fn listed(kind: u16) -> usize {
 fn fields(folder: &Path, name: &str, arguments: Arguments, image: &[u8]) -> Vec<usize> {
     let layout = arguments.layout;
     let path = folder.join(format!("{name}.{}.svg", arguments.level));
-    let words = format!("{} {}", words(arguments), path.display());
+    let words = format!("{} {}", words(arguments, image), path.display());
     let run = card(&format!("map samples/{name} {words}"));
     let (answer, _) = read_all(image, arguments);
     assert_eq!(run.status, i32::from(answer.number != 0), "{name}");
-    if image.len() != IMAGE_LENGTH {
+    if !is_of_size(image, layout.size) {
         assert!(!path.exists(), "{name}");
         return Vec::new();
     }
@@ -209,35 +215,179 @@ fn attribute(tag: &str, name: &str) -> usize {
     value.split('"').next().unwrap().parse().unwrap()
 }
 
-/// The keys of the legend: each field has one, its words end before the next key of its row and before
-/// the page does, and all stand above the lines on blocks that are stepped over. A character of 14 pixels
-/// is 9 wide at most, and the first of those lines stands on 756.
+/// The width and the height of a page, in its units.
+fn page(tags: &[String]) -> (usize, usize) {
+    let (_, numbers) = tags[0].split_once(" viewBox=\"0 0 ").unwrap();
+    let (width, height) = numbers.split('"').next().unwrap().split_once(' ').unwrap();
+    (width.parse().unwrap(), height.parse().unwrap())
+}
+
+/// The sizes of the texts of a page by their classes, as its styles give them.
+fn text_sizes(tags: &[String]) -> BTreeMap<String, usize> {
+    let is_style = |tag: &&String| tag.starts_with("style>");
+    let styles = tags.iter().find(is_style).unwrap().replace("style>", "");
+    let rules = styles.split('}').filter_map(|rule| rule.split_once('{'));
+    let size = |(name, rule): (&str, &str)| {
+        let (_, size) = rule.split_once("font-size:")?;
+        let size = size.split("px").next().unwrap().parse().unwrap();
+        Some((name.trim().trim_start_matches('.').to_string(), size))
+    };
+    rules.filter_map(size).collect()
+}
+
+/// What is drawn on a page: the places that it covers, from left to right and from top to bottom.
+#[derive(Debug, Clone, PartialEq)]
+struct Drawn {
+    across: Range<usize>,
+    down: Range<usize>,
+    words: String,
+}
+
+impl Drawn {
+    fn rectangle(tag: &str) -> Self {
+        let (x, y) = (attribute(tag, "x"), attribute(tag, "y"));
+        Self {
+            across: x..x + attribute(tag, "width"),
+            down: y..y + attribute(tag, "height"),
+            words: String::new(),
+        }
+    }
+
+    /// A text stands on its line. A character is 0.62 of its size wide at most, and 0.8 of it high; what goes below the line is
+    /// less than a fourth.
+    fn text(tag: &str, sizes: &BTreeMap<String, usize>) -> Self {
+        let (_, class) = tag.split_once("class=\"").unwrap();
+        let class = class.split(['"', ' ']).next().unwrap();
+        let size = sizes[class];
+        let (x, y) = (attribute(tag, "x"), attribute(tag, "y"));
+        let words = tag.rsplit_once('>').unwrap().1.to_string();
+        let width = (words.chars().count() * size * 62).div_ceil(100);
+        let left = match class {
+            "words" | "title" => x,
+            _ => x
+                .checked_sub(width / 2)
+                .expect("a text that begins on the page"),
+        };
+        Self {
+            across: left..left + width,
+            down: y - size * 4 / 5..y + size / 4,
+            words,
+        }
+    }
+
+    fn is_apart(&self, other: &Self) -> bool {
+        let apart =
+            |one: &Range<usize>, two: &Range<usize>| one.end <= two.start || two.end <= one.start;
+        apart(&self.across, &other.across) || apart(&self.down, &other.down)
+    }
+
+    fn holds(&self, other: &Self) -> bool {
+        let holds =
+            |one: &Range<usize>, two: &Range<usize>| one.start <= two.start && two.end <= one.end;
+        holds(&self.across, &other.across) && holds(&self.down, &other.down)
+    }
+}
+
+/// Fails where two of what is drawn cover the same place.
+fn assert_apart(drawn: &[Drawn]) {
+    for (place, one) in drawn.iter().enumerate() {
+        for other in &drawn[place + 1..] {
+            assert!(one.is_apart(other), "{one:?} {other:?}");
+        }
+    }
+}
+
+/// All that is drawn stands on the page, and no two things in one place, but a cell's value and label in it. A card of 512
+/// bytes fits on a page of A4 (210 by 297 millimetres), on which no text is smaller than 6 points of 25.4/72 millimetres.
+fn assert_page(tags: &[String], layout: Layout) -> Vec<Drawn> {
+    let (width, height) = page(tags);
+    let sizes = text_sizes(tags);
+    let sheet = Drawn {
+        across: 0..width,
+        down: 0..height,
+        words: String::new(),
+    };
+    let (mut cells, mut inside, mut others) = (vec![], vec![], vec![]);
+    for tag in tags {
+        if tag.starts_with("rect class=") {
+            let drawn = Drawn::rectangle(tag);
+            let kind = if tag.contains("width=\"62\"") {
+                &mut cells
+            } else {
+                &mut others
+            };
+            kind.push(drawn);
+        } else if tag.starts_with("text ") {
+            let drawn = Drawn::text(tag, &sizes);
+            let is_inside = cells.last().is_some_and(|cell: &Drawn| cell.holds(&drawn));
+            let kind = if is_inside { &mut inside } else { &mut others };
+            kind.push(drawn);
+        }
+    }
+    assert_eq!(cells.len(), usize::from(layout.size));
+    assert_eq!(inside.len(), 2 * cells.len(), "a value and a label in each");
+    assert_apart(&inside);
+    others.extend(cells);
+    assert_apart(&others);
+    assert!(others.iter().all(|it| sheet.holds(it)), "{others:?}");
+    if layout.size != SMALL {
+        assert!(height * 210 <= width * 297, "{width} by {height}");
+        let smallest = *sizes.values().min().unwrap();
+        let points = (smallest * 210 * 72 * 10) as f64 / (width as f64 * 25.4);
+        assert!(points.round() >= 60.0, "{points} tenths of a point");
+    }
+    others
+}
+
+/// The page of a card of each layout, with blocks that a reader steps over: more than there are lines for, and with numbers up
+/// to 254. Each field has its key in the legend, and the lines stand below.
 #[test]
-fn legend() {
-    let folder = temporary("legend");
+fn pages() {
+    let folder = temporary("pages");
+    let unknown = || block::extended(9, &[]);
     for layout in LAYOUTS {
-        let path = folder.join(format!("{}.svg", layout.magic));
-        let words = format!("21143 {}{}", path.display(), option(layout));
-        card(&format!("map samples/power-21143.rom {words}"));
-        let tags = tags(&fs::read_to_string(&path).unwrap());
-        let keys: Vec<_> = tags
-            .windows(2)
-            .filter(|pair| pair[0].contains("width=\"26\""))
-            .map(|pair| {
-                let (x, y) = (attribute(&pair[0], "x"), attribute(&pair[0], "y"));
-                let words = pair[1].rsplit('>').next().unwrap();
-                (x, y, attribute(&pair[1], "x") + 9 * words.len(), words)
-            })
-            .collect();
-        assert_eq!(keys.len(), if layout.magic { 21 } else { 17 });
-        assert!(keys.iter().any(|key| key.3 == "block: power"), "{keys:?}");
-        for (place, &(x, y, end, words)) in keys.iter().enumerate() {
-            assert!(end <= 1120 && y + 18 <= 756 - 14, "{words}");
-            for &(other_x, other_y, ..) in &keys[place + 1..] {
-                let is_apart = y + 18 < other_y || y == other_y && end < other_x;
-                assert!(is_apart, "{words}: {keys:?}");
-            }
-            assert!(!words.is_empty() && x < end);
+        let made = if layout.size == SMALL {
+            Card::tidy(21143, 0x0800, vec![unknown(); 12])
+        } else {
+            Card::tidy(21041, 0x0800, vec![block::media(4, None); 255])
+        };
+        let made = made.laid_out(&mut Random::new(1), layout);
+        let blocks_of_21143 = Card::tidy(21143, 0x0800, vec![unknown(); 150]);
+        let mut cards = vec![(made.leaves[0].chip, made)];
+        if layout.size != SMALL {
+            let made = blocks_of_21143.laid_out(&mut Random::new(1), layout);
+            cards.push((21143, made));
+        }
+        for (chip, made) in cards {
+            let image = made.image();
+            let (file, svg) = (folder.join("card.rom"), folder.join("card.svg"));
+            fs::write(&file, &image).unwrap();
+            let (file, picture) = (file.display(), svg.display());
+            let options = options(layout, &image);
+            let run = card(&format!("map {file} {chip} {picture} --force{options}"));
+            assert_eq!(run.status, 0, "{}", run.written);
+            let tags = tags(&fs::read_to_string(&svg).unwrap());
+            let drawn = assert_page(&tags, layout);
+            let keys = tags
+                .iter()
+                .filter(|tag| tag.contains("width=\"26\""))
+                .count();
+            assert_eq!(keys, if layout.magic { 21 } else { 17 });
+            assert!(drawn.iter().any(|it| it.words == "block: power"));
+            let lowest_key = drawn
+                .iter()
+                .filter(|it| it.across.len() == 26)
+                .map(|it| it.down.end)
+                .max();
+            let lines: Vec<_> = drawn
+                .iter()
+                .filter(|it| it.words.contains("steps over"))
+                .collect();
+            assert_eq!(lines.len(), if chip == 21143 { 3 } else { 0 });
+            assert!(
+                lines.iter().all(|it| Some(it.down.start) > lowest_key),
+                "{lines:?}"
+            );
         }
     }
 }

@@ -265,7 +265,7 @@ impl Tally {
     }
 
     fn hold_reader(&mut self, file: &str, image: &[u8], reader: Arguments) {
-        let run = card(&format!("older {file} {}", words(reader)));
+        let run = card(&format!("older {file} {}", words(reader, image)));
         // Shown where a sentence does not hold.
         println!("{image:02x?}\n{}", run.written);
         assert_eq!(run.status, 0);
@@ -306,7 +306,7 @@ fn title(reader: u8) -> String {
     }
 }
 
-/// A random card for the chip, of either layout, autosensed or fixed, whose first controller has from 1 to 12 blocks, and in
+/// A random card for the chip, of any layout, autosensed or fixed, whose first controller has from 1 to 12 blocks, and in
 /// half of the cases with more blocks that have Active_Invalid.
 fn random_card(random: &mut Random, chip: u16) -> Card {
     loop {
@@ -416,7 +416,7 @@ fn refused_cards() {
         if number == 0 {
             continue;
         }
-        let run = card(&format!("older samples/{name} {}", words(newest)));
+        let run = card(&format!("older samples/{name} {}", words(newest, &image)));
         let said = run.written.lines().last().unwrap();
         if number == 31 {
             let read =

@@ -1,6 +1,6 @@
 //! Transcripts of the bench tool: each line that begins with `$ ` is run at the root, and what it
 //! writes and its exit status must be as stored. `TRANSCRIPTS=write cargo test -p card` stores
-//! them anew, so they guard against change alone; tests/facts.rs holds verdicts in both layouts,
+//! them anew, so they guard against change alone; tests/facts.rs holds verdicts in every layout,
 //! header fields, counts, tables, Magic Packet blocks, modes of power blocks, named blocks, walks,
 //! columns and sheets to the second implementation, and tests/sentences.rs what is said of older drivers.
 
@@ -54,6 +54,8 @@ transcripts! {
     /// Document 01, 'Why a call is refused', and document 02: every number that a card, a sheet or a report can
     /// cause, and the list of all.
     refusals,
+    /// Document 02, request 6: cards of 512 bytes, sizes that are said to be others, and what `--size` takes.
+    size,
     usage,
     walk,
 }

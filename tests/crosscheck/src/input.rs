@@ -14,11 +14,12 @@ use std::fmt::{self, Display, Formatter};
 #[derive(Debug, Clone, PartialEq, Eq)]
 pub enum Input {
     SromCrc(Vec<u8>, Layout),
-    IdCrc(Vec<u8>),
-    MagicCrc(Vec<u8>),
-    ReadMagic(Vec<u8>),
+    /// With the size that is stated of the image, as in the next three.
+    IdCrc(Vec<u8>, u16),
+    MagicCrc(Vec<u8>, u16),
+    ReadMagic(Vec<u8>, u16),
     /// To an image with these bytes.
-    WriteMagic(Magic, Vec<u8>),
+    WriteMagic(Magic, Vec<u8>, u16),
     Read {
         image: Vec<u8>,
         arguments: Arguments,
@@ -63,17 +64,24 @@ impl Input {
     /// Makes the calls of both implementations, or of both levels or types, as far as the first
     /// difference.
     pub fn compare(&self, tally: &mut Tally) -> Result<(), Difference> {
+        if let Some(layout) = self.layout() {
+            tally.count_under(layout);
+        }
         match self {
             Self::SromCrc(image, layout) => {
                 tally.count(Name::SromCrc, compare::srom_crc(image, *layout)?);
             }
-            Self::IdCrc(image) => tally.count(Name::IdCrc, compare::id_crc(image)?),
-            Self::MagicCrc(image) => tally.count(Name::MagicCrc, compare::magic_crc(image)?),
-            Self::ReadMagic(image) => {
-                tally.count(Name::ReadMagic, compare::read_magic(image)?.number);
+            Self::IdCrc(image, size) => {
+                tally.count(Name::IdCrc, compare::id_crc(image, *size)?);
             }
-            Self::WriteMagic(magic, image) => {
-                let (number, _) = compare::write_magic(*magic, image)?;
+            Self::MagicCrc(image, size) => {
+                tally.count(Name::MagicCrc, compare::magic_crc(image, *size)?);
+            }
+            Self::ReadMagic(image, size) => {
+                tally.count(Name::ReadMagic, compare::read_magic(image, *size)?.number);
+            }
+            Self::WriteMagic(magic, image, size) => {
+                let (number, _) = compare::write_magic(*magic, image, *size)?;
                 tally.count(Name::WriteMagic, number);
             }
             Self::Read {
@@ -126,6 +134,25 @@ impl Input {
         Ok(())
     }
 
+    /// The layout that is stated, or that of the first load; the calls of a Magic Packet block have one
+    /// with it. None for steps without a load.
+    fn layout(&self) -> Option<Layout> {
+        match self {
+            Self::SromCrc(_, layout)
+            | Self::Write { layout, .. }
+            | Self::MakeSheet { layout, .. } => Some(*layout),
+            Self::IdCrc(_, size) => Some(Layout::new(*size, false)),
+            Self::MagicCrc(_, size) | Self::ReadMagic(_, size) | Self::WriteMagic(_, _, size) => {
+                Some(Layout::new(*size, true))
+            }
+            Self::Read { arguments, .. }
+            | Self::View { arguments, .. }
+            | Self::Levels { arguments, .. }
+            | Self::Twins { arguments, .. } => Some(arguments.layout),
+            Self::Walk(steps) => steps.iter().find_map(|(step, _)| loaded(step)),
+        }
+    }
+
     /// How many calls of the library a comparison makes, about.
     pub fn cost(&self) -> usize {
         match self {
@@ -137,10 +164,22 @@ impl Input {
     }
 }
 
+/// The layout that a load states.
+fn loaded(step: &Step) -> Option<Layout> {
+    match step {
+        Step::Load(_, arguments) => Some(arguments.layout),
+        Step::Look(_) | Step::Clear => None,
+    }
+}
+
+/// The calls behind a load count under its layout.
 fn compare_steps(steps: &[(Step, usize)], tally: &mut Tally) -> Result<(), Difference> {
     let mut pair = Pair::fresh()?;
     tally.count(Name::Fresh, 0);
     for (step, times) in steps {
+        if let Some(layout) = loaded(step) {
+            tally.count_under(layout);
+        }
         let name = match step {
             Step::Load(..) => Name::Load,
             Step::Look(_) => Name::Look,

@@ -2,7 +2,7 @@
 //! looks under 0x8800, with random, damaged and sequenced inputs:
 //! `cargo run --release -p crosscheck -- SECONDS SEED [ROUNDS]`. Where ROUNDS is given, it decides
 //! instead of the clock. The status is 0, 1 at a difference, which is shown with the smallest input
-//! found for it, and 2 for wrong arguments.
+//! found for it, or where either size has less than a third of the calls, and 2 for wrong arguments.
 
 mod input;
 mod rounds;
@@ -82,6 +82,11 @@ fn main() -> ExitCode {
         usize::from(differing.is_some()),
     );
     let Some(input) = differing else {
+        let rare = tally.rare_sizes();
+        if !rare.is_empty() {
+            println!("less than a third of the calls state a size of {rare:?}");
+            return ExitCode::from(1);
+        }
         return ExitCode::SUCCESS;
     };
     println!("\nround {rounds} differs; the smallest input found:");

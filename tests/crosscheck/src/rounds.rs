@@ -4,18 +4,18 @@
 use crate::input::Input;
 use library::levels::Older;
 use second::calls::{self, Habits, Step};
-use second::crc::{IMAGE_LENGTH, lay_crcs};
-use second::images::{Card, DAMAGES, Image, MagicBlock, Sample, block, random_image};
-use second::layout::{LAYOUTS, Layout};
+use second::crc::lay_crcs;
+use second::images::{Card, DAMAGES, Image, MagicBlock, Sample, WRONG_SIZES, block, random_image};
+use second::layout::{LAYOUTS, Layout, SHEET_LAYOUTS, SIZES, is_of_size};
 use second::random::Random;
 use second::reader::{Arguments, NEWEST_LEVEL, read_all};
 use second::sheet;
 use second::sheets::tidy::{TIDY_DAMAGES, damaged, tidy, untidy};
-use second::sheets::{SHEET_DAMAGES, Sheet};
+use second::sheets::{SHEET_DAMAGES, Sheet, unserved};
 use second::walk::AUTOSENSE;
 
-/// One round in so many walks until no look is left.
-const SPENT_RARITY: u64 = 1_024;
+/// One round in so many walks until no look is left, at either size.
+const SPENT_RARITY: u64 = 2_048;
 
 /// More elements than any block count, and more bytes than any sheet of a tidy image.
 const ROOMY: usize = 450;
@@ -23,8 +23,8 @@ const ROOMY: usize = 450;
 /// Known levels and two that are none.
 const LEVELS: [u8; 10] = [0, 1, 2, 3, 4, 5, 6, 7, 8, 255];
 
-/// Lengths that are no image's, one of them 128 in its low bits.
-const WRONG_LENGTHS: [usize; 8] = [0, 1, 64, 127, 129, 256, 300, IMAGE_LENGTH + (1 << 8)];
+/// Of a longer table so many entries are viewed, its first and its last among them.
+const MOST_VIEWS: usize = 12;
 
 /// The rounds of a seed.
 pub struct Rounds {
@@ -52,12 +52,14 @@ impl Iterator for Rounds {
         inputs.push(Input::Walk(once(calls::steps(random))));
         for layout in LAYOUTS {
             inputs.extend(levels(random, layout));
+        }
+        for layout in SHEET_LAYOUTS {
             inputs.extend(writings(random, layout));
         }
         inputs.push(twins(random));
         inputs.extend(makings(random));
         if self.number.is_multiple_of(SPENT_RARITY) {
-            inputs.push(spent(random));
+            inputs.extend(SIZES.map(|size| spent(random, size)));
         }
         self.number += 1;
         Some(inputs)
@@ -68,53 +70,80 @@ fn once(steps: Vec<Step>) -> Vec<(Step, usize)> {
     steps.into_iter().map(|step| (step, 1)).collect()
 }
 
-/// Any bytes, few bits, or a right image, mostly 128 bytes.
+/// Any bytes, few bits, or a right image, mostly of the stated size.
 fn checksums(random: &mut Random) -> [Input; 4] {
-    let mut image = match random.below(3) {
-        0 => random.row(IMAGE_LENGTH),
+    let layout = random.pick(&LAYOUTS);
+    let length = usize::from(layout.size);
+    let image = match random.below(3) {
+        0 => random.row(length),
         1 => {
-            let mut image = vec![0; IMAGE_LENGTH];
+            let mut image = vec![0; length];
             for _ in 0..random.below(5) {
-                image[random.below(IMAGE_LENGTH)] ^= 1 << random.below(8);
+                image[random.below(length)] ^= 1 << random.below(8);
             }
             image
         }
-        _ => Sample::valid(random).card.image().to_vec(),
+        _ => Sample::valid_in(random, layout).card.image(),
     };
-    if random.one_in(4) {
-        image.resize(random.pick(&WRONG_LENGTHS), 0xFF);
-    }
-    let [plain, magic] = LAYOUTS.map(|layout| Input::SromCrc(image.clone(), layout));
+    let (image, size) = missized(random, 4, image);
+    let [plain, magic] = [false, true].map(|magic| {
+        let layout = Layout::new(size, magic);
+        Input::SromCrc(image.clone(), layout)
+    });
     [
         plain,
         magic,
-        Input::IdCrc(image.clone()),
-        Input::MagicCrc(image),
+        Input::IdCrc(image.clone(), size),
+        Input::MagicCrc(image, size),
     ]
+}
+
+/// The image and its size, once in so many calls with another length, another size stated of it, or
+/// both.
+fn missized(random: &mut Random, rarity: usize, mut image: Image) -> (Image, u16) {
+    let size = image.len() as u16;
+    if !random.one_in(rarity) {
+        return (image, size);
+    }
+    let [small, large] = SIZES;
+    let mut other = || random.pick(&[0, small, large, small - 1, 2 * small, large + 1, size + 1]);
+    let (length, stated) = (other(), other());
+    match random.below(4) {
+        0 => image.resize(length.into(), 0xFF),
+        1 => return (image, stated),
+        2 => return (image, random.pick(&WRONG_SIZES)),
+        _ => {
+            image.resize(length.into(), 0xFF);
+            return (image, length);
+        }
+    }
+    (image, size)
 }
 
 /// A Magic Packet block, right or damaged, behind any bytes, read and written again.
 fn blocks(random: &mut Random) -> [Input; 2] {
+    let layout = Layout::new(random.pick(&SIZES), true);
     let block = MagicBlock::any(random);
-    let mut image = random.bytes();
+    let mut image = random.row(layout.size.into());
     block.lay(&mut image);
     if random.one_in(8) {
-        change_byte(random, &mut image, Layout::MAGIC);
+        change_byte(random, &mut image, layout);
     }
-    let image = resized(random, image);
+    let (image, size) = missized(random, 16, image);
     let other = MagicBlock::valid(random).magic;
     [
-        Input::ReadMagic(image.clone()),
-        Input::WriteMagic(other, image),
+        Input::ReadMagic(image.clone(), size),
+        Input::WriteMagic(other, image, size),
     ]
 }
 
-/// Readings of one image at two levels, now and then in the other layout, into arrays that are roomy, exact and near the block count,
-/// and views of every entry, of one past and of one far past.
+/// Readings of one image at two levels, now and then in another layout, into arrays that are roomy,
+/// exact and near the block count, and views of every entry, or of some of a long table, of one past
+/// and of one far past.
 fn readings(random: &mut Random) -> Vec<Input> {
     let (image, mut arguments) = subject(random);
     if random.one_in(16) {
-        arguments.layout.magic ^= true;
+        arguments.layout = random.pick(&LAYOUTS);
     }
     let mut inputs = Vec::new();
     for level in [arguments.level, random.pick(&LEVELS)] {
@@ -131,7 +160,7 @@ fn readings(random: &mut Random) -> Vec<Input> {
         }
         let (_, entries) = read_all(&image, arguments);
         let far = random.pick(&[1 << 8, 1 << 16, 1 << 32, usize::MAX]);
-        for entry in (0..=entries.len()).chain([far]) {
+        for entry in viewed(random, entries.len()).into_iter().chain([far]) {
             inputs.push(Input::View {
                 image: image.clone(),
                 arguments,
@@ -140,6 +169,15 @@ fn readings(random: &mut Random) -> Vec<Input> {
         }
     }
     inputs
+}
+
+/// The entries of a table of so many that are viewed, and one past.
+fn viewed(random: &mut Random, listed: usize) -> Vec<usize> {
+    if listed <= MOST_VIEWS {
+        return (0..=listed).collect();
+    }
+    let some = (3..MOST_VIEWS).map(|_| random.below(listed));
+    some.chain([0, listed - 1, listed]).collect()
 }
 
 /// An image to read, and the arguments to read it with.
@@ -168,7 +206,7 @@ fn subject(random: &mut Random) -> (Vec<u8>, Arguments) {
             sample
         }
     };
-    let layout = sample.arguments.layout;
+    let layout = sample.card.layout();
     if random.one_in(32) {
         sample = Sample::longest(random, layout);
     }
@@ -178,12 +216,16 @@ fn subject(random: &mut Random) -> (Vec<u8>, Arguments) {
         3 => image = random_image(random, layout),
         _ => {}
     }
-    (resized(random, image), sample.arguments)
+    (image, sample.arguments)
 }
 
-/// Changes one byte, often by little, and mostly mends the CRCs.
+/// Changes one byte of an image, often by little, and mostly mends the CRCs, where the image has the
+/// layout's size.
 fn change_byte(random: &mut Random, image: &mut Image, layout: Layout) {
-    let offset = random.below(IMAGE_LENGTH);
+    if !is_of_size(image, layout.size) {
+        return;
+    }
+    let offset = random.below(image.len());
     image[offset] = changed(random, image[offset]);
     if !random.one_in(4) {
         lay_crcs(image, layout);
@@ -193,15 +235,6 @@ fn change_byte(random: &mut Random, image: &mut Image, layout: Layout) {
 fn changed(random: &mut Random, byte: u8) -> u8 {
     let (flipped, any) = (byte ^ 1 << random.below(8), random.byte());
     random.pick(&[byte.wrapping_add(1), byte.wrapping_sub(1), flipped, any])
-}
-
-/// The image, now and then not all of it or with bytes after it.
-fn resized(random: &mut Random, image: Image) -> Vec<u8> {
-    let mut image = image.to_vec();
-    if random.one_in(32) {
-        image.resize(random.pick(&WRONG_LENGTHS), 0);
-    }
-    image
 }
 
 /// A list at each level below the newest, on one image of a layout; mostly with the removed entries
@@ -219,7 +252,7 @@ fn levels(random: &mut Random, layout: Layout) -> Vec<Input> {
             list = older.expect("the newest reader accepts it").keep_down(list);
         }
         Input::Levels {
-            image: image.to_vec(),
+            image: image.clone(),
             arguments,
             level,
             list,
@@ -235,7 +268,7 @@ fn twins(random: &mut Random) -> Input {
     let habits = Habits::new(random, calls::block_count(&image, arguments));
     let count = 1 + random.below(16);
     Input::Twins {
-        image: image.to_vec(),
+        image,
         arguments,
         reports: habits.reports(random, count),
     }
@@ -243,17 +276,13 @@ fn twins(random: &mut Random) -> Input {
 
 /// "23 looks at 65,535": a walk of two media that looks as often and some times more, is cleared
 /// and looks again; under a fixed type whose medium neither has, 32 is answered for 0 and 23.
-fn spent(random: &mut Random) -> Input {
+fn spent(random: &mut Random, size: u16) -> Input {
     let media = [0, 1].map(|code| block::sia(code, None, 0, 0));
-    let layout = random.pick(&LAYOUTS);
-    let mut card = Card {
-        magic: MagicBlock::of_layout(random, layout),
-        ..Card::tidy(21143, AUTOSENSE, media.to_vec())
-    };
+    let layout = Layout::new(size, random.one_in(2));
+    let mut card = Card::tidy(21143, AUTOSENSE, media.to_vec()).laid_out(random, layout);
     calls::connect(random, &mut card);
-    let image = card.image();
     let arguments = Arguments::newest(21143).laid_out(layout);
-    let load = Step::Load(image.to_vec(), arguments);
+    let load = Step::Load(card.image(), arguments);
     let habits = Habits {
         blocks: 2,
         rarity: 2,
@@ -272,7 +301,7 @@ fn spent(random: &mut Random) -> Input {
     Input::Walk(steps)
 }
 
-/// One sheet in a layout, to an image of mostly 128 bytes and with a Magic Packet block that is mostly
+/// One sheet in a layout, to an image of mostly its size and with a Magic Packet block that is mostly
 /// right; of a valid one the image and its sheet in buffers of a near length.
 fn writings(random: &mut Random, layout: Layout) -> Vec<Input> {
     let sheet = match random.below(8) {
@@ -302,37 +331,37 @@ fn writings(random: &mut Random, layout: Layout) -> Vec<Input> {
         0 => MagicBlock::any(random),
         _ => MagicBlock::valid(random),
     };
-    let mut output = random.bytes();
+    let mut output = random.row(layout.size.into());
     block.lay(&mut output);
     let mut inputs = Vec::new();
-    let mut image = output;
+    let mut image = output.clone();
     if sheet::write(&sheet, layout, &mut image) == 0 {
         let chip = u16::from_le_bytes([sheet[sheet::CHIP], sheet[sheet::CHIP + 1]]);
         let exact = sheet.len();
         for length in [exact - 1, exact, exact + 1, ROOMY] {
             inputs.push(Input::MakeSheet {
-                image: image.to_vec(),
+                image: image.clone(),
                 chip,
                 layout,
                 length,
             });
         }
     }
-    let mut output = output.to_vec();
-    if random.one_in(8) {
-        output.resize(random.pick(&WRONG_LENGTHS), 0);
-    }
+    let (layout, image) = match random.one_in(8) {
+        true => unserved(random, layout.magic),
+        false => (layout, output),
+    };
     inputs.push(Input::Write {
         sheet,
         layout,
-        image: output,
+        image,
     });
     inputs
 }
 
-/// The sheet of an image that is damaged, not tidy, or of any bytes.
+/// The sheet of an image that is damaged, not tidy, of any bytes, or of a size that has no sheets.
 fn makings(random: &mut Random) -> [Input; 2] {
-    let (image, arguments) = match random.below(8) {
+    let (image, arguments) = match random.below(9) {
         0..3 => {
             let number = random.pick(&TIDY_DAMAGES);
             let sample = damaged(random, number);
@@ -345,12 +374,15 @@ fn makings(random: &mut Random) -> [Input; 2] {
             change_byte(random, &mut image, sample.arguments.layout);
             (image, sample.arguments)
         }
+        7 => {
+            let sample = Sample::valid(random);
+            (sample.card.image(), sample.arguments)
+        }
         _ => {
             let sample = Sample::wild(random);
             (sample.card.image(), sample.arguments)
         }
     };
-    let image = resized(random, image);
     [ROOMY, random.below(ROOMY)].map(|length| Input::MakeSheet {
         image: image.clone(),
         chip: arguments.chip,

@@ -1,11 +1,12 @@
 //! The smallest input that still differs, found greedily: calls and blocks are dropped, layouts made
-//! plain, rows of bytes cut and bytes lowered, most often to 0, as long as the difference stays.
+//! plain and of the smaller size, rows of bytes cut and bytes lowered, most often to 0, as long as the
+//! difference stays.
 
 use crate::input::Input;
 use second::calls::{Call, Step, block_count};
 use second::crc::{lay_crcs, lay_magic_crc};
 use second::images::without_block;
-use second::layout::Layout;
+use second::layout::{Layout, SMALL, is_of_size};
 use second::reader::Arguments;
 use second::sheet::{COUNT, KINDS, TOTAL};
 
@@ -21,6 +22,8 @@ enum Edit {
     Drop { first: usize, calls: usize },
     /// Takes the Magic Packet block from a layout, and mends the CRCs of the images or not.
     Plain { index: usize, mends: bool },
+    /// States the smaller size, cuts the image to it, and mends its CRCs or not.
+    Small { index: usize, mends: bool },
     /// Lowers an array's length, an entry or how often a step is taken.
     Number { index: usize, lower: Lower },
     /// Drops a block of an image or of a sheet.
@@ -65,8 +68,10 @@ struct Row<'a> {
 enum Sort {
     /// With the arguments that say whose leaf is read.
     Image(Arguments),
-    /// An image of which the Magic Packet block alone is read.
-    Block,
+    /// An image of which the Magic Packet block alone is read, with its stated size.
+    Block(u16),
+    /// An image of which a CRC is asked, with its stated size.
+    Bare(u16),
     Sheet,
     Other,
 }
@@ -80,7 +85,23 @@ impl<'a> Row<'a> {
         match self.sort {
             Sort::Image(arguments) => block_count(self.bytes, arguments),
             Sort::Sheet => self.bytes.first().copied().unwrap_or(0).into(),
-            Sort::Block | Sort::Other => 0,
+            Sort::Block(_) | Sort::Bare(_) | Sort::Other => 0,
+        }
+    }
+
+    /// The size that is stated of an image.
+    fn stated_size(&self) -> Option<u16> {
+        match self.sort {
+            Sort::Image(arguments) => Some(arguments.layout.size),
+            Sort::Block(size) | Sort::Bare(size) => Some(size),
+            Sort::Sheet | Sort::Other => None,
+        }
+    }
+
+    /// Cuts an image of which the smaller size is stated to it.
+    fn cut_to_small(&mut self) {
+        if self.stated_size() == Some(SMALL) {
+            self.bytes.truncate(SMALL.into());
         }
     }
 
@@ -92,23 +113,24 @@ impl<'a> Row<'a> {
                 }
             }
             Sort::Sheet => drop_from_sheet(self.bytes, number),
-            Sort::Block | Sort::Other => {}
+            Sort::Block(_) | Sort::Bare(_) | Sort::Other => {}
         }
     }
 
     /// Whether an image's CRCs can be mended.
     fn has_crcs(&self) -> bool {
-        matches!(self.sort, Sort::Image(_) | Sort::Block)
+        matches!(self.sort, Sort::Image(_) | Sort::Block(_))
     }
 
     fn mend(&mut self) {
-        let Ok(image) = self.bytes.as_mut_slice().try_into() else {
+        let is_whole = |size| is_of_size(self.bytes, size);
+        if !self.stated_size().is_some_and(is_whole) {
             return;
-        };
+        }
         match self.sort {
-            Sort::Image(arguments) => lay_crcs(image, arguments.layout),
-            Sort::Block => lay_magic_crc(image),
-            Sort::Sheet | Sort::Other => {}
+            Sort::Image(arguments) => lay_crcs(self.bytes, arguments.layout),
+            Sort::Block(_) => lay_magic_crc(self.bytes),
+            Sort::Bare(_) | Sort::Sheet | Sort::Other => {}
         }
     }
 }
@@ -157,6 +179,11 @@ fn edits(input: &Input) -> Vec<Edit> {
             edits.extend([true, false].map(|mends| Edit::Plain { index, mends }));
         }
     }
+    for (index, size) in sizes(&mut input).into_iter().enumerate() {
+        if *size != SMALL {
+            edits.extend([true, false].map(|mends| Edit::Small { index, mends }));
+        }
+    }
     let numbers = numbers(&mut input).len();
     for index in 0..numbers {
         edits.extend(LOWER.map(|lower| Edit::Number { index, lower }));
@@ -189,8 +216,17 @@ impl Edit {
             Self::Drop { first, calls } => drop_calls(input, first, calls),
             Self::Plain { index, mends } => {
                 if let Some(layout) = layouts(input).get_mut(index) {
-                    **layout = Layout::PLAIN;
+                    layout.magic = false;
                 }
+                if mends {
+                    rows(input).iter_mut().for_each(Row::mend);
+                }
+            }
+            Self::Small { index, mends } => {
+                if let Some(size) = sizes(input).get_mut(index) {
+                    **size = SMALL;
+                }
+                rows(input).iter_mut().for_each(Row::cut_to_small);
                 if mends {
                     rows(input).iter_mut().for_each(Row::mend);
                 }
@@ -298,19 +334,30 @@ fn layouts(input: &mut Input) -> Vec<&mut Layout> {
             });
             layouts.collect()
         }
-        Input::IdCrc(_) | Input::MagicCrc(_) | Input::ReadMagic(_) | Input::WriteMagic(..) => {
+        Input::IdCrc(..) | Input::MagicCrc(..) | Input::ReadMagic(..) | Input::WriteMagic(..) => {
             Vec::new()
         }
     }
 }
 
+/// The sizes that are stated, in layouts or alone.
+fn sizes(input: &mut Input) -> Vec<&mut u16> {
+    match input {
+        Input::IdCrc(_, size)
+        | Input::MagicCrc(_, size)
+        | Input::ReadMagic(_, size)
+        | Input::WriteMagic(_, _, size) => vec![size],
+        _ => layouts(input).into_iter().map(|it| &mut it.size).collect(),
+    }
+}
+
 fn rows(input: &mut Input) -> Vec<Row<'_>> {
     match input {
-        Input::SromCrc(image, _) | Input::IdCrc(image) | Input::MagicCrc(image) => {
-            vec![Row::new(image, Sort::Other)]
-        }
-        Input::ReadMagic(image) | Input::WriteMagic(_, image) => {
-            vec![Row::new(image, Sort::Block)]
+        Input::SromCrc(image, Layout { size, .. })
+        | Input::IdCrc(image, size)
+        | Input::MagicCrc(image, size) => vec![Row::new(image, Sort::Bare(*size))],
+        Input::ReadMagic(image, size) | Input::WriteMagic(_, image, size) => {
+            vec![Row::new(image, Sort::Block(*size))]
         }
         Input::Read {
             image, arguments, ..
@@ -327,8 +374,13 @@ fn rows(input: &mut Input) -> Vec<Row<'_>> {
             let arguments = Arguments::newest(*chip).laid_out(*layout);
             vec![Row::new(image, Sort::Image(arguments))]
         }
-        Input::Write { sheet, image, .. } => {
-            vec![Row::new(sheet, Sort::Sheet), Row::new(image, Sort::Block)]
+        Input::Write {
+            sheet,
+            layout,
+            image,
+        } => {
+            let block = Sort::Block(layout.size);
+            vec![Row::new(sheet, Sort::Sheet), Row::new(image, block)]
         }
         Input::Walk(steps) => {
             let rows = steps.iter_mut().filter_map(|(step, _)| match step {
@@ -367,8 +419,8 @@ fn rows(input: &mut Input) -> Vec<Row<'_>> {
 mod tests {
     use super::*;
     use crate::rounds::Rounds;
-    use second::crc::IMAGE_LENGTH;
-    use second::images::{MagicBlock, Sample};
+    use second::images::{Card, MagicBlock, Sample, block};
+    use second::layout::{LARGE, LAYOUTS, SIZES};
     use second::magic::read_magic;
     use second::random::Random;
     use second::reader::read_all;
@@ -382,52 +434,94 @@ mod tests {
     /// A difference at one byte above 6: that byte alone is left, and it is 7.
     #[test]
     fn one_byte() {
-        let input = Input::SromCrc(Random::new(1).row(128), Layout::MAGIC);
-        let is_high = |bytes: &[u8]| bytes.get(40).is_some_and(|&byte| byte > 6);
-        let smallest = shrink(input, |input| match input {
-            Input::SromCrc(bytes, _) => is_high(bytes),
-            _ => false,
-        });
-        let mut expected = vec![0; 41];
-        expected[40] = 7;
-        assert_eq!(smallest, Input::SromCrc(expected, Layout::PLAIN));
+        for layout in LAYOUTS {
+            let input = Input::SromCrc(Random::new(1).row(layout.size.into()), layout);
+            let is_high = |bytes: &[u8]| bytes.get(40).is_some_and(|&byte| byte > 6);
+            let smallest = shrink(input, |input| match input {
+                Input::SromCrc(bytes, _) => is_high(bytes),
+                _ => false,
+            });
+            let mut expected = vec![0; 41];
+            expected[40] = 7;
+            assert_eq!(smallest, Input::SromCrc(expected, Layout::PLAIN));
+        }
     }
 
-    /// A difference at a right Magic Packet block: its CRC is mended, so that all else becomes 0.
+    /// A difference at a right Magic Packet block: its CRC is mended, so that all else becomes 0. The
+    /// size becomes the smaller one, unless the difference needs the larger.
     #[test]
     fn mended_block() {
-        let is_right = |input: &Input| match input {
-            Input::ReadMagic(image) => read_magic(image).number == 0,
-            _ => false,
-        };
-        let mut image = Random::new(4).bytes();
-        MagicBlock::valid(&mut Random::new(5)).lay(&mut image);
-        let smallest = shrink(Input::ReadMagic(image.to_vec()), is_right);
-        let mut expected = [0; IMAGE_LENGTH];
-        lay_magic_crc(&mut expected);
-        assert_eq!(smallest, Input::ReadMagic(expected.to_vec()));
+        for (needed, left) in [(None, SMALL), (Some(SMALL), SMALL), (Some(LARGE), LARGE)] {
+            let is_right = |input: &Input| match input {
+                Input::ReadMagic(image, size) => {
+                    read_magic(image, *size).number == 0 && needed.is_none_or(|it| it == *size)
+                }
+                _ => false,
+            };
+            let size = needed.unwrap_or(LARGE);
+            let mut image = Random::new(4).row(size.into());
+            MagicBlock::valid(&mut Random::new(5)).lay(&mut image);
+            let smallest = shrink(Input::ReadMagic(image, size), is_right);
+            let mut expected = vec![0; left.into()];
+            lay_magic_crc(&mut expected);
+            assert_eq!(smallest, Input::ReadMagic(expected, left));
+        }
     }
 
-    /// A difference at accepted images of a layout with a Magic Packet block stays in that layout; one
-    /// at any accepted image becomes plain.
+    /// A difference at accepted images of one layout stays in that layout; one at any accepted image
+    /// becomes plain and, where its leaf has a place there, of the smaller size.
     #[test]
     fn plain_layout() {
-        let sample = Sample::valid_in(&mut Random::new(6), Layout::MAGIC);
-        let input = Input::View {
-            image: sample.card.image().to_vec(),
-            arguments: sample.arguments,
-            entry: 9,
-        };
-        let layout = |input: &Input| match input {
+        let layout_of = |input: &Input| match input {
             Input::View {
                 image, arguments, ..
             } if read_all(image, *arguments).0.number == 0 => Some(arguments.layout),
             _ => None,
         };
-        let smallest = shrink(input.clone(), |input| layout(input).is_some());
-        assert_eq!(layout(&smallest), Some(Layout::PLAIN));
-        let smallest = shrink(input, |input| layout(input) == Some(Layout::MAGIC));
-        assert_eq!(layout(&smallest), Some(Layout::MAGIC));
+        let blocks = vec![block::sia(0, None, 1, 2); 2];
+        let card = Card::tidy(21143, 0x0800, blocks);
+        for layout in LAYOUTS {
+            let card = card.clone().laid_out(&mut Random::new(6), layout);
+            let input = Input::View {
+                image: card.image(),
+                arguments: ARGUMENTS.laid_out(layout),
+                entry: 9,
+            };
+            let smallest = shrink(input.clone(), |input| layout_of(input).is_some());
+            assert_eq!(layout_of(&smallest), Some(Layout::PLAIN));
+            let smallest = shrink(input, |input| layout_of(input) == Some(layout));
+            assert_eq!(layout_of(&smallest), Some(layout));
+            let Input::View { image, .. } = smallest else {
+                panic!("another call: {smallest:?}");
+            };
+            assert_eq!(image.len(), layout.size.into());
+        }
+    }
+
+    /// A difference at a stated size that no ROM has, whatever the image: nothing of it is left.
+    #[test]
+    fn stated_size() {
+        for size in SIZES {
+            let sample = Sample::valid_in(&mut Random::new(7), Layout::new(size, true));
+            let input = Input::Read {
+                image: sample.card.image(),
+                arguments: sample.arguments.laid_out(Layout::new(256, true)),
+                kinds: 9,
+                offsets: 9,
+            };
+            let is_other = |input: &Input| match input {
+                Input::Read { arguments, .. } => arguments.layout.size == 256,
+                _ => false,
+            };
+            let Input::Read {
+                image, arguments, ..
+            } = shrink(input, is_other)
+            else {
+                panic!("another call");
+            };
+            assert_eq!(arguments.layout, Layout::new(256, false));
+            assert!(image.is_empty());
+        }
     }
 
     /// A difference at a look with two links up after a load: both calls are left, and the report
@@ -544,7 +638,7 @@ mod tests {
         let drawn = iter::repeat_with(|| Input::Write {
             sheet: Sheet::valid(&mut random, Layout::MAGIC).bytes(),
             layout: Layout::MAGIC,
-            image: output(&mut random, Layout::MAGIC).to_vec(),
+            image: output(&mut random, Layout::MAGIC),
         });
         let has_block = |input: &Input| match input {
             Input::Write {
@@ -564,7 +658,7 @@ mod tests {
                 panic!("another call");
             };
             assert_eq!((sheet[COUNT], layout), (1, Layout::PLAIN), "{sheet:02x?}");
-            assert_eq!(image, [0; IMAGE_LENGTH]);
+            assert_eq!(image, vec![0; SMALL.into()]);
         }
     }
 

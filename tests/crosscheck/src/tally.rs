@@ -1,6 +1,7 @@
 //! What was called and answered, as tables.
 
 use library::twins::Shown;
+use second::layout::{LAYOUTS, Layout, SIZES};
 use second::reader::NEWEST_LEVEL;
 
 const HIGHEST_REFUSAL: usize = 32;
@@ -40,10 +41,16 @@ const NAMES: [&str; 13] = [
     "make_sheet",
 ];
 
-/// How often each call answered each number, what demand 3's lists showed, and what looks under an
-/// empty connection word showed.
+/// The layouts that calls are counted under, and behind them all whose size no ROM has.
+const LAYOUT_CLASSES: usize = LAYOUTS.len() + 1;
+
+/// How often each call answered each number, and how often in each layout, what demand 3's lists
+/// showed, and what looks under an empty connection word showed.
 pub struct Tally {
     numbers: [[u64; HIGHEST_REFUSAL + 1]; NAMES.len()],
+    /// The calls in each layout, and the one that the next calls count under.
+    layouts: [u64; LAYOUT_CLASSES],
+    layout: usize,
     /// Views that handed back an empty part; they have no number.
     empty_views: u64,
     pub levels: [Level; NEWEST_LEVEL as usize],
@@ -79,6 +86,8 @@ impl Default for Tally {
     fn default() -> Self {
         Self {
             numbers: [[0; HIGHEST_REFUSAL + 1]; NAMES.len()],
+            layouts: [0; LAYOUT_CLASSES],
+            layout: 0,
             empty_views: 0,
             levels: Default::default(),
             fixed: Fixed::default(),
@@ -88,24 +97,45 @@ impl Default for Tally {
 }
 
 impl Tally {
+    /// The layout that the next calls count under.
+    pub fn count_under(&mut self, layout: Layout) {
+        self.layout = layout.index().unwrap_or(LAYOUTS.len());
+    }
+
     pub fn count(&mut self, name: Name, number: u8) {
         self.numbers[name as usize][usize::from(number)] += 1;
+        self.layouts[self.layout] += 1;
     }
 
     pub fn count_view(&mut self, is_empty: bool) {
         match is_empty {
-            true => self.empty_views += 1,
+            true => {
+                self.empty_views += 1;
+                self.layouts[self.layout] += 1;
+            }
             false => self.count(Name::View, 0),
         }
+    }
+
+    /// The sizes that less than a third of the calls state.
+    pub fn rare_sizes(&self) -> Vec<u16> {
+        let is_rare = |&size: &u16| {
+            let of_size = LAYOUTS
+                .iter()
+                .zip(self.layouts)
+                .filter(|(it, _)| it.size == size);
+            3 * of_size.map(|(_, calls)| calls).sum::<u64>() < self.calls()
+        };
+        SIZES.into_iter().filter(is_rare).collect()
     }
 
     pub fn calls(&self) -> u64 {
         self.numbers.iter().flatten().sum::<u64>() + self.empty_views
     }
 
-    /// The numbers that were answered, a row for each, with a column for each call; then the lists
-    /// of demand 3, a row for each older level; then those of them under a fixed type; then the
-    /// looks under 0xFFFF.
+    /// The numbers that were answered, a row for each, with a column for each call; then the calls in
+    /// each layout; then the lists of demand 3, a row for each older level; then those of them under a
+    /// fixed type; then the looks under 0xFFFF.
     pub fn table(&self) -> String {
         let mut table = row("number", NAMES.map(String::from));
         for number in 0..=HIGHEST_REFUSAL {
@@ -120,6 +150,14 @@ impl Tally {
         let mut calls = self.numbers.map(|numbers| numbers.iter().sum::<u64>());
         calls[Name::View as usize] += self.empty_views;
         table += &row("calls", calls.map(cell));
+        let titles = LAYOUTS.map(|Layout { size, magic }| match magic {
+            true => format!("{size} magic"),
+            false => size.to_string(),
+        });
+        let [first, second, third, fourth] = titles;
+        let titles = [first, second, third, fourth, "other".into()];
+        table += &row("\nlayout", titles);
+        table += &row("calls", self.layouts.map(cell));
         let titles = ["lists", "conditions", "removed", "looks", "selected"];
         table += &row("\nolder", titles.map(String::from));
         for (level, seen) in self.levels.iter().enumerate() {

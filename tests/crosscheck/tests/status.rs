@@ -60,3 +60,27 @@ fn lists_under_a_fixed_type() {
     assert!(with_choice + without < lists && looks > with_choice);
     assert_eq!(cells("32").len(), 1);
 }
+
+/// Document 02, request 6, "Let the ROM's size be a parameter": calls are drawn in every layout of both
+/// sizes, each size in at least a third of them, and with sizes that no ROM has.
+#[test]
+fn calls_of_every_layout() {
+    let text = String::from_utf8(run(&["0", "1", "20"]).stdout).expect("the table is text");
+    let (_, behind) = text.split_once("\nlayout").expect("a table of layouts");
+    let rows: Vec<Vec<_>> = behind
+        .lines()
+        .take(2)
+        .map(|row| row.split_whitespace().collect())
+        .collect();
+    assert_eq!(rows[0].join(" "), "128 128 magic 512 512 magic other");
+    let calls: Vec<u64> = rows[1][1..].iter().map(|it| it.parse().unwrap()).collect();
+    let [small, small_magic, large, large_magic, other] = calls[..] else {
+        panic!("an empty cell: {calls:?}");
+    };
+    let all: u64 = calls.iter().sum();
+    assert!(text.contains(&format!("calls {all}, ")), "{text}");
+    for (plain, magic) in [(small, small_magic), (large, large_magic)] {
+        assert!(3 * (plain + magic) >= all, "{calls:?}");
+        assert!(plain > 0 && magic > 0 && other > 0, "{calls:?}");
+    }
+}

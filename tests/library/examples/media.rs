@@ -1,8 +1,8 @@
 //! The media table of an image's first controller: `media IMAGE CHIP [magic]`, with the last word
-//! where the image has a Magic Packet block.
+//! where the image has a Magic Packet block. The file's length is the ROM's size.
 
 use library::{Arguments, Layout, read, view};
-use second::reader::MOST_BLOCKS;
+use second::reader::HIGHEST_COUNT;
 use std::{env, fs, process::exit};
 
 fn main() {
@@ -20,8 +20,9 @@ fn main() {
         eprintln!("media: {name} cannot be read, or {chip} is no chip");
         exit(2);
     };
-    let arguments = Arguments::newest(chip).laid_out(Layout { magic });
-    let (mut kinds, mut offsets) = ([0; MOST_BLOCKS], [0; MOST_BLOCKS]);
+    let size = image.len().try_into().unwrap_or(0);
+    let arguments = Arguments::newest(chip).laid_out(Layout { size, magic });
+    let (mut kinds, mut offsets) = ([0; HIGHEST_COUNT], [0; HIGHEST_COUNT]);
     let answer = read(&image, arguments, &mut kinds, &mut offsets);
     if answer.number != 0 {
         println!("refused {}", answer.number);

@@ -47,16 +47,21 @@ pub fn srom_crc(image: &[u8], layout: Layout) -> Result<u8, Difference> {
 }
 
 /// The number that both answered.
-pub fn id_crc(image: &[u8]) -> Result<u8, Difference> {
-    checksum(|| "srom_id_crc".into(), crate::id_crc, crc::id_crc, image)
+pub fn id_crc(image: &[u8], size: u16) -> Result<u8, Difference> {
+    checksum(
+        || format!("srom_id_crc, size {size}"),
+        |image| crate::id_crc(image, size),
+        |image| crc::id_crc(image, size),
+        image,
+    )
 }
 
 /// The number that both answered.
-pub fn magic_crc(image: &[u8]) -> Result<u8, Difference> {
+pub fn magic_crc(image: &[u8], size: u16) -> Result<u8, Difference> {
     checksum(
-        || "srom_magic_crc".into(),
-        crate::magic_crc,
-        crc::magic_crc,
+        || format!("srom_magic_crc, size {size}"),
+        |image| crate::magic_crc(image, size),
+        |image| crc::magic_crc(image, size),
         image,
     )
 }
@@ -78,23 +83,29 @@ fn checksum(
 }
 
 /// What both read of a Magic Packet block.
-pub fn read_magic(image: &[u8]) -> Result<MagicAnswer, Difference> {
+pub fn read_magic(image: &[u8], size: u16) -> Result<MagicAnswer, Difference> {
     let lent = Lent::new(image);
     judge(
-        || format!("srom_read_magic\nimage   {}", hex(image)),
-        [crate::read_magic(lent.elements()), magic::read_magic(image)],
+        || format!("srom_read_magic, size {size}\nimage   {}", hex(image)),
+        [
+            crate::read_magic(lent.elements(), size),
+            magic::read_magic(image, size),
+        ],
         [lent.fault("image", image)],
     )
 }
 
 /// The number that both answered, and the image after the writing of a Magic Packet block to it.
-pub fn write_magic(magic: Magic, before: &[u8]) -> Result<(u8, Vec<u8>), Difference> {
+pub fn write_magic(magic: Magic, before: &[u8], size: u16) -> Result<(u8, Vec<u8>), Difference> {
     let (mut lent, mut image) = (Lent::new(before), before.to_vec());
     let number = judge(
-        || format!("srom_write_magic {magic:02x?}\nimage   {}", hex(before)),
+        || {
+            let before = hex(before);
+            format!("srom_write_magic {magic:02x?}, size {size}\nimage   {before}")
+        },
         [
-            crate::write_magic(magic, lent.elements_mut()),
-            magic::write_magic(magic, &mut image),
+            crate::write_magic(magic, lent.elements_mut(), size),
+            magic::write_magic(magic, &mut image, size),
         ],
         [lent.fault("image", &image)],
     )?;

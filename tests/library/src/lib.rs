@@ -28,8 +28,8 @@ mod archive {
 
     unsafe extern "C" {
         pub fn srom_crc(image: *const u8, length: usize, layout: Layout) -> Checksum;
-        pub fn srom_id_crc(image: *const u8, length: usize) -> Checksum;
-        pub fn srom_magic_crc(image: *const u8, length: usize) -> Checksum;
+        pub fn srom_id_crc(image: *const u8, length: usize, size: u16) -> Checksum;
+        pub fn srom_magic_crc(image: *const u8, length: usize, size: u16) -> Checksum;
         pub fn srom_read(
             image: *const u8,
             image_length: usize,
@@ -45,8 +45,8 @@ mod archive {
             arguments: Arguments,
             entry: usize,
         ) -> Part;
-        pub fn srom_read_magic(image: *const u8, length: usize) -> MagicAnswer;
-        pub fn srom_write_magic(magic: Magic, image: *mut u8, length: usize) -> u8;
+        pub fn srom_read_magic(image: *const u8, length: usize, size: u16) -> MagicAnswer;
+        pub fn srom_write_magic(magic: Magic, image: *mut u8, length: usize, size: u16) -> u8;
         pub safe fn srom_fresh() -> Walk;
         pub fn srom_load(
             walk: Walk,
@@ -74,26 +74,25 @@ mod archive {
     }
 }
 
-/// The SROM CRC of bytes 0 to 125, to be stored in bytes 126 and 127, or with a Magic Packet block of
-/// bytes 0 to 93, to be stored in bytes 94 and 95; refusal 1 for an image that has not exactly 128
-/// bytes.
+/// The SROM CRC, to be stored in the board's last word, of the bytes before it; refusal 1 for an image
+/// that has not the layout's size, or for a size that no ROM has.
 pub fn srom_crc(image: &[u8], layout: Layout) -> Checksum {
     // SAFETY: the call only reads the `length` bytes at `image`, which the slice lends it.
     unsafe { archive::srom_crc(image.as_ptr(), image.len(), layout) }
 }
 
 /// The ID CRC of words 0 to 7 and byte 17, to be stored in byte 16; refusal 1 for an image that
-/// has not exactly 128 bytes.
-pub fn id_crc(image: &[u8]) -> Checksum {
+/// has not the stated size, or for a size that no ROM has.
+pub fn id_crc(image: &[u8], size: u16) -> Checksum {
     // SAFETY: the call only reads the `length` bytes at `image`, which the slice lends it.
-    unsafe { archive::srom_id_crc(image.as_ptr(), image.len()) }
+    unsafe { archive::srom_id_crc(image.as_ptr(), image.len(), size) }
 }
 
-/// The CRC of a Magic Packet block, of words 48 to 62 and byte 127, to be stored in byte 126; refusal
-/// 1 for an image that has not exactly 128 bytes.
-pub fn magic_crc(image: &[u8]) -> Checksum {
+/// The CRC of a Magic Packet block, of all its words but the last and of its last byte, to be stored
+/// in the byte before that; refusal 1 as for [`id_crc`].
+pub fn magic_crc(image: &[u8], size: u16) -> Checksum {
     // SAFETY: the call only reads the `length` bytes at `image`, which the slice lends it.
-    unsafe { archive::srom_magic_crc(image.as_ptr(), image.len()) }
+    unsafe { archive::srom_magic_crc(image.as_ptr(), image.len(), size) }
 }
 
 /// Reads the leaf of one controller and lists its known blocks in the two arrays, the last block
@@ -127,17 +126,17 @@ pub fn view_part(image: &[u8], arguments: Arguments, entry: usize) -> Part {
     unsafe { archive::srom_view(image.as_ptr(), image.len(), arguments, entry) }
 }
 
-/// What the Magic Packet block of an image says, whatever stands before it.
-pub fn read_magic(image: &[u8]) -> MagicAnswer {
+/// What the Magic Packet block of an image of the stated size says, whatever stands before it.
+pub fn read_magic(image: &[u8], size: u16) -> MagicAnswer {
     // SAFETY: the call only reads the `length` bytes at `image`, which the slice lends it.
-    unsafe { archive::srom_read_magic(image.as_ptr(), image.len()) }
+    unsafe { archive::srom_read_magic(image.as_ptr(), image.len(), size) }
 }
 
-/// Writes the Magic Packet block to bytes 96 to 127 of an image, and answers the number; a refusal
-/// leaves the image as it is.
-pub fn write_magic(magic: Magic, image: &mut [u8]) -> u8 {
+/// Writes the Magic Packet block to the last 32 bytes of an image of the stated size, and answers the
+/// number; a refusal leaves the image as it is.
+pub fn write_magic(magic: Magic, image: &mut [u8], size: u16) -> u8 {
     // SAFETY: the call writes no more than the `length` bytes at `image`, which the slice lends it.
-    unsafe { archive::srom_write_magic(magic, image.as_mut_ptr(), image.len()) }
+    unsafe { archive::srom_write_magic(magic, image.as_mut_ptr(), image.len(), size) }
 }
 
 /// A walk that has read no image.

@@ -4,9 +4,9 @@
 use library::Part;
 use library::lent::hex;
 use second::calls;
-use second::crc::{self, Checksum, IMAGE_LENGTH, MAGIC_CRC_OFFSET};
-use second::images::{Card, Sample, block};
-use second::layout::{LAYOUTS, Layout};
+use second::crc::{self, Checksum};
+use second::images::{Card, Leaf, Sample, block};
+use second::layout::{LARGE, LAYOUTS, Layout, MAGIC_LENGTH, SIZES, SMALL, magic_offset};
 use second::magic::{self, Magic, MagicAnswer};
 use second::random::Random;
 use second::reader::{
@@ -14,8 +14,8 @@ use second::reader::{
 };
 use second::sheet::{self, LONGEST_SHEET, Made};
 use second::walk::{
-    AUTOSENSE, AUTOSENSE_NWAY, AUTOSENSE_ONCE, Autosense, EMPTY_CONNECTION, NONE, Rows, Walk,
-    Walked, Way,
+    AUTOSENSE, AUTOSENSE_NWAY, AUTOSENSE_ONCE, Autosense, EMPTY_CONNECTION, NONE, ROW_LENGTH, Rows,
+    Walk, Walked, Way,
 };
 use std::collections::{BTreeMap, BTreeSet};
 use std::fs;
@@ -67,7 +67,7 @@ fn lines(output: &Output) -> Vec<String> {
 /// What C and C++ make of each struct: name, field or `size`, number.
 fn layout_source() -> String {
     let structs = [
-        ("srom_layout", &["magic"][..]),
+        ("srom_layout", &["size", "magic"][..]),
         ("srom_checksum", &["number", "value"]),
         ("srom_arguments", &["chip", "controller", "level", "layout"]),
         (
@@ -134,7 +134,7 @@ fn layout_expected() -> Vec<String> {
         };
     }
     [
-        layout!("srom_layout", Layout, magic),
+        layout!("srom_layout", Layout, size, magic),
         layout!("srom_checksum", Checksum, number, value),
         layout!("srom_arguments", Arguments, chip, controller, level, layout),
         layout!(
@@ -232,7 +232,8 @@ const REFUSALS: [&str; 31] = [
 #[test]
 fn header_numbers() {
     let mut expected = vec![
-        ("IMAGE_LENGTH".to_owned(), IMAGE_LENGTH),
+        ("SMALL_SIZE".to_owned(), SMALL.into()),
+        ("LARGE_SIZE".to_owned(), LARGE.into()),
         ("LONGEST_SHEET".to_owned(), LONGEST_SHEET),
         ("NEWEST_LEVEL".to_owned(), NEWEST_LEVEL.into()),
         ("NONE".to_owned(), NONE.into()),
@@ -287,10 +288,10 @@ fn header_table(section: &str) -> Vec<Vec<String>> {
     rows.map(cells).collect()
 }
 
-/// The first cell of each row, which says where a field stands.
-fn header_places(section: &str) -> Vec<String> {
+/// A column of the table, which says where each field stands.
+fn header_places(section: &str, column: usize) -> Vec<String> {
     let rows = header_table(section).into_iter();
-    rows.map(|row| row[0].replace(" * N", "N")).collect()
+    rows.map(|row| row[column].replace(" * N", "N")).collect()
 }
 
 /// A field of two bytes.
@@ -303,39 +304,55 @@ fn range(first: usize, size: usize) -> String {
     format!("{first} to {}", first + size - 1)
 }
 
-/// Document 02, request 1: the manual says where the layout's parts stand as the second implementation has them.
+/// Document 02, requests 1 and 6: the manual says where the layout's parts stand as the second implementation has them.
 #[test]
 fn header_layouts() {
     let cells = |name: &str, of: fn(Layout) -> String| {
-        let [without, with] = LAYOUTS.map(of);
-        vec![name.to_owned(), without, with]
+        let columns = LAYOUTS.into_iter().map(of);
+        [name.to_owned()].into_iter().chain(columns).collect()
     };
-    let expected = [
+    let expected: [Vec<String>; 6] = [
         cells("leaves end before", |it| it.leaf_limit().to_string()),
         cells("the maker's bytes", |it| pair(it.leaf_limit())),
         cells("SROM CRC", |it| pair(it.srom_crc_offset())),
         cells("which covers", |it| range(0, it.srom_crc_offset())),
         cells("controllers", |it| range(1, it.most_controllers())),
         cells("the block", |it| match it.magic {
-            true => range(it.board_end(), IMAGE_LENGTH - it.board_end()),
+            true => range(it.board_end(), MAGIC_LENGTH),
             false => "none".to_owned(),
         }),
     ];
     assert_eq!(header_table("Layout"), expected);
 }
 
-/// Document 000, section 4, by the field sizes: the manual's table has a row for each field of the block.
+/// Document 000, section 4, by the field sizes: the manual's table has a row for each field of the block, and a column for
+/// each size.
 #[test]
 fn header_magic_block() {
-    let expected = [
-        range(magic::PASSWORD_OFFSET, 6),
-        range(magic::ADDRESS_OFFSET, 6),
-        pair(magic::COMMAND_OFFSET),
-        range(magic::RESERVED.start, 16),
-        MAGIC_CRC_OFFSET.to_string(),
-        magic::LAST_RESERVED.to_string(),
-    ];
-    assert_eq!(header_places("The Magic Packet block"), expected);
+    for (column, size) in SIZES.into_iter().enumerate() {
+        let start = magic_offset(size);
+        let expected = [
+            range(start + magic::PASSWORD_OFFSET, 6),
+            range(start + magic::ADDRESS_OFFSET, 6),
+            pair(start + magic::COMMAND_OFFSET),
+            range(start + magic::RESERVED.start, 16),
+            (start + magic::CRC_OFFSET).to_string(),
+            (start + magic::LAST_RESERVED).to_string(),
+        ];
+        let places = header_places("The Magic Packet block", column);
+        assert_eq!(places, expected, "{size}");
+    }
+}
+
+/// Document 02, request 6, "Blocks rise to 255 and walk rows with them": each row of the header has a flag for block 254.
+#[test]
+fn header_rows() {
+    let header = fs::read_to_string(root().join("include/srom.h")).unwrap();
+    let (_, rows) = header.split_once("typedef struct srom_rows {").unwrap();
+    let (rows, _) = rows.split_once('}').unwrap();
+    assert_eq!(rows.matches(&format!("[{ROW_LENGTH}];")).count(), 3);
+    assert_eq!(rows.matches("uint8_t ").count(), 3);
+    assert_eq!(ROW_LENGTH, 256);
 }
 
 /// Document 01, 'The sheet': the manual's table has a row for each field, at the byte where the second implementation has it.
@@ -357,7 +374,7 @@ fn header_sheet_layout() {
         format!("{} + 2N", sheet::KINDS),
         format!("{} + 3N", sheet::KINDS),
     ];
-    assert_eq!(header_places("Sheets"), expected);
+    assert_eq!(header_places("Sheets", 0), expected);
 }
 
 /// What tests/fields.c prints of a walk.
@@ -386,18 +403,19 @@ fn fields_expected(image: &[u8], arguments: Arguments) -> Vec<String> {
     let part = reader::view(image, arguments, 0);
     let start = part.as_ptr().addr() - image.as_ptr().addr();
     let mut expected = Vec::new();
-    for image in [image, &image[1..]] {
+    let longer = [image, &[0]].concat();
+    for image in [image, &longer] {
         let crcs = [
             crc::srom_crc(image, layout),
-            crc::id_crc(image),
-            crc::magic_crc(image),
+            crc::id_crc(image, layout.size),
+            crc::magic_crc(image, layout.size),
         ];
         expected.extend(crcs.map(|crc| format!("checksum {} {}", crc.number, crc.value)));
     }
     let values = answer.values().map(|value| value.to_string()).join(" ");
     expected.push(format!("answer {values}"));
     expected.push(format!("part {start} {}", part.len()));
-    let MagicAnswer { number, magic } = magic::read_magic(image);
+    let MagicAnswer { number, magic } = magic::read_magic(image, layout.size);
     let (password, address) = (hex(&magic.password), hex(&magic.address));
     expected.push(format!(
         "magic {number} {password} {address} {}",
@@ -408,14 +426,13 @@ fn fields_expected(image: &[u8], arguments: Arguments) -> Vec<String> {
         address: magic.password,
         command: magic.command.wrapping_add(7),
     };
-    for length in [IMAGE_LENGTH - 1, IMAGE_LENGTH] {
-        let mut copy = image.to_vec();
-        let number = magic::write_magic(other, &mut copy[..length]);
+    for mut copy in [image.to_vec(), longer] {
+        let number = magic::write_magic(other, &mut copy, layout.size);
         expected.push(format!("block {number} {}", hex(&copy)));
     }
     let mut walk = Autosense::default();
     for call in ["load", "look", "look", "clear"] {
-        let report = [u8::from(walk.walk().looks == 1); 128];
+        let report = [u8::from(walk.walk().looks == 1); ROW_LENGTH];
         let number = match call {
             "load" => walk.load(image, arguments),
             "look" => walk.look(&report),
@@ -427,14 +444,17 @@ fn fields_expected(image: &[u8], arguments: Arguments) -> Vec<String> {
     let made = sheet::make(image, chip, layout, &mut buffer);
     expected.push(format!("made {} {}", made.number, made.length));
     let mut copy = image.to_vec();
-    copy[30..90].fill(0xFF);
+    copy.iter_mut()
+        .take(90)
+        .skip(30)
+        .for_each(|byte| *byte = 0xFF);
     let number = sheet::write(&buffer[..made.length], layout, &mut copy);
     expected.push(format!("written {number} {}", hex(&copy)));
     expected
 }
 
 /// The fields of the header's structs are those that the archive fills: each has the second implementation's value after every
-/// call, and more than one value over all of them.
+/// call, and more than one value over all of them, for images of both sizes and of wrong ones.
 fn fields_in(compiler: &str, standard: &str, extension: &str) {
     let source = scratch(&format!("fields.{extension}"));
     let program = scratch(&format!("fields-{extension}"));
@@ -443,10 +463,10 @@ fn fields_in(compiler: &str, standard: &str, extension: &str) {
     let file = scratch(&format!("fields-{extension}.rom"));
     let mut random = Random::new(21143);
     let mut values: BTreeMap<(String, usize), BTreeSet<String>> = BTreeMap::new();
-    for _ in 0..120 {
+    for _ in 0..200 {
         let Sample { card, arguments } = calls::sample(&mut random);
         let image = card.image();
-        fs::write(&file, image).unwrap();
+        fs::write(&file, &image).unwrap();
         let output = run(Command::new(&program)
             .arg(&file)
             .args(arguments.to_string().split(' ')));
@@ -791,7 +811,7 @@ fn probe_shows_a_magic_packet_block() {
         password,
         address,
         command,
-    } = magic::read_magic(&image).magic;
+    } = magic::read_magic(&image, arguments.layout.size).magic;
     let mut expected = vec![format!(
         "address {:012x}, connection type 0x{:04x}",
         answer.address, answer.connection
@@ -841,9 +861,54 @@ fn probe_refuses_a_bad_report() {
     assert_eq!(output.status.code(), Some(1));
 }
 
+/// Document 02, request 6: the file's length is the ROM's size. A leaf behind byte 255 is listed, with and without a Magic
+/// Packet block; of 255 blocks the last is selected, and the rows have its flag.
 #[test]
-fn probe_wants_a_file_of_128_bytes() {
-    let output = probe(&["samples/README.md", "21143", "0"]);
-    assert_eq!(output.status.code(), Some(2));
-    assert!(!output.stderr.is_empty());
+fn probe_reads_a_large_rom() {
+    let file = scratch("probe-large.rom");
+    let name = file.to_str().unwrap();
+    let blocks = vec![block::sia(0, None, 1, 2), block::symbol(3, 0, 0, 0x4000)];
+    let leaf = Leaf::new(400, 21143, 0x0800, blocks);
+    for layout in [Layout::LARGE_PLAIN, Layout::LARGE_MAGIC] {
+        let card = Card::new(2, vec![leaf.clone()]).laid_out(&mut Random::new(1), layout);
+        let image = card.image();
+        fs::write(&file, &image).unwrap();
+        let arguments = Arguments::newest(21143).laid_out(layout);
+        let words = [name, "21143", "0", "magic", "10"];
+        let words = match layout.magic {
+            true => words.to_vec(),
+            false => words.into_iter().filter(|&it| it != "magic").collect(),
+        };
+        let output = probe(&words);
+        let expected: Vec<_> = [(4, 410), (2, 403)]
+            .into_iter()
+            .enumerate()
+            .map(|(entry, (kind, offset))| entry_line(&image, arguments, entry, kind, offset))
+            .collect();
+        assert_eq!(lines(&output)[1..3], expected);
+        assert_eq!(output.status.code(), Some(0));
+    }
+    let image = Card::longest(&mut Random::new(1), Layout::LARGE_PLAIN).image();
+    fs::write(&file, image).unwrap();
+    let links = "0".repeat(254) + "1";
+    let output = probe(&[name, "21041", "0", &links]);
+    let told = "block 254, the first in table order that may be taken and is up; settled";
+    assert!(lines(&output).last().unwrap().ends_with(told));
+    assert_eq!(output.status.code(), Some(0));
+}
+
+#[test]
+fn probe_wants_a_file_of_128_or_512_bytes() {
+    let file = scratch("probe-other.rom");
+    for length in [0, 127, 129, 256, 511, 513, 640, 1024] {
+        fs::write(&file, vec![0; length]).unwrap();
+        let output = probe(&[file.to_str().unwrap(), "21143", "0"]);
+        assert_eq!(output.status.code(), Some(2), "{length}");
+        assert!(!output.stderr.is_empty());
+    }
+    for length in [128, 512] {
+        fs::write(&file, vec![0; length]).unwrap();
+        let output = probe(&[file.to_str().unwrap(), "21143", "0"]);
+        assert_eq!(lines(&output), ["refused 2"], "{length}");
+    }
 }

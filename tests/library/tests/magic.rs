@@ -6,9 +6,9 @@ use families::{Family, Numbers, numbers_table, row, show, tallies};
 use library::compare::{self, agreed};
 use library::lent::hex;
 use library::{Magic, MagicAnswer};
-use second::crc::{IMAGE_LENGTH, lay_crcs};
-use second::images::{Image, MAGIC_DAMAGES, MagicBlock};
-use second::layout::Layout;
+use second::crc::lay_magic_crc;
+use second::images::{MAGIC_DAMAGES, MagicBlock, WRONG_SIZES};
+use second::layout::{SIZES, magic_offset};
 use second::random::Random;
 
 /// The numbers that the block's reader can answer, and its writer.
@@ -23,15 +23,15 @@ struct Tally {
 }
 
 impl Tally {
-    /// Compares a reading. What is accepted, written to another image with the same first 96 bytes,
-    /// gives the image.
-    fn compare_read(&mut self, random: &mut Random, image: &[u8]) {
-        let MagicAnswer { number, magic } = agreed(compare::read_magic(image));
-        self.reads[usize::from(number)] += 1;
+    /// Compares a reading. What is accepted, written to another image with the same bytes before the
+    /// block, gives the image.
+    fn compare_read(&mut self, random: &mut Random, image: &[u8], size: u16) {
+        let MagicAnswer { number, magic } = agreed(compare::read_magic(image, size));
+        self.reads.count(image, size, number);
         if number == 0 {
-            let mut again: Image = random.bytes();
-            again[..96].copy_from_slice(&image[..96]);
-            assert_eq!(library::write_magic(magic, &mut again), 0);
+            let (mut again, board) = (random.row(image.len()), magic_offset(size));
+            again[..board].copy_from_slice(&image[..board]);
+            assert_eq!(library::write_magic(magic, &mut again, size), 0);
             assert_eq!(again, image, "{}", hex(image));
         } else {
             assert_eq!(magic, Magic::default(), "{}", hex(image));
@@ -40,12 +40,13 @@ impl Tally {
 
     /// Compares a writing. What is accepted is read back, and the bytes before the block stay; a
     /// refusal leaves all of them.
-    fn compare_write(&mut self, magic: Magic, before: &[u8]) {
-        let (number, image) = agreed(compare::write_magic(magic, before));
-        self.writes[usize::from(number)] += 1;
+    fn compare_write(&mut self, magic: Magic, before: &[u8], size: u16) {
+        let (number, image) = agreed(compare::write_magic(magic, before, size));
+        self.writes.count(before, size, number);
         if number == 0 {
-            assert_eq!(image[..96], before[..96], "{}", hex(before));
-            let read = library::read_magic(&image);
+            let board = magic_offset(size);
+            assert_eq!(image[..board], before[..board], "{}", hex(before));
+            let read = library::read_magic(&image, size);
             assert_eq!(read, MagicAnswer { number, magic }, "{}", hex(before));
         } else {
             assert_eq!(image, before);
@@ -61,10 +62,11 @@ fn blocks() -> Tally {
             0 | 1 => MagicBlock::valid(&mut random),
             other => MagicBlock::damaged(&mut random, MAGIC_DAMAGES[other - 2]),
         };
-        let mut image: Image = random.bytes();
-        tally.compare_write(block.magic, &image);
+        let size = random.pick(&SIZES);
+        let mut image = random.row(size.into());
+        tally.compare_write(block.magic, &image, size);
         block.lay(&mut image);
-        tally.compare_read(&mut random, &image);
+        tally.compare_read(&mut random, &image, size);
     }
     tally
 }
@@ -73,39 +75,44 @@ fn blocks() -> Tally {
 /// a right block changed to every value, before and after the CRC is mended.
 fn changed_bytes() -> Tally {
     let (mut tally, mut random) = (Tally::default(), Random::new(2));
-    let mut image: Image = random.bytes();
-    MagicBlock::valid(&mut random).lay(&mut image);
-    for offset in 0..IMAGE_LENGTH {
-        for value in 0..=255 {
-            let mut changed = image;
-            changed[offset] = value;
-            tally.compare_read(&mut random, &changed);
-            lay_crcs(&mut changed, Layout::MAGIC);
-            tally.compare_read(&mut random, &changed);
+    for size in SIZES {
+        let mut image = random.row(size.into());
+        MagicBlock::valid(&mut random).lay(&mut image);
+        for offset in 0..image.len() {
+            for value in 0..=255 {
+                let mut changed = image.clone();
+                changed[offset] = value;
+                tally.compare_read(&mut random, &changed, size);
+                lay_magic_crc(&mut changed);
+                tally.compare_read(&mut random, &changed, size);
+            }
         }
     }
     tally
 }
 
-/// "1 image not 128 bytes": every length up to 300, and two lengths that are 128 in their low bits.
+/// "a length other than the stated size, or a stated size other than those two": every length up to
+/// 600 and two that are a size in their low bits, of images whose block is right as far as it is one,
+/// each stated as it is and as sizes that it has not.
 fn lengths() -> Tally {
     let (mut tally, mut random) = (Tally::default(), Random::new(3));
-    for _ in 0..10 {
-        let mut image = random.row(IMAGE_LENGTH + (1 << 16));
-        if let Some(first) = image.first_chunk_mut() {
-            MagicBlock::valid(&mut random).lay(first);
-        }
-        let far = [IMAGE_LENGTH + (1 << 8), image.len()];
-        for length in (0..300).chain(far) {
-            tally.compare_read(&mut random, &image[..length]);
-            tally.compare_write(MagicBlock::valid(&mut random).magic, &image[..length]);
+    for size in SIZES {
+        let mut image = random.row(usize::from(size) + (1 << 16));
+        MagicBlock::valid(&mut random).lay(&mut image[..size.into()]);
+        for length in (0..600).chain([image.len()]) {
+            let stated = WRONG_SIZES.into_iter().chain(SIZES).chain([length as u16]);
+            for stated in stated {
+                tally.compare_read(&mut random, &image[..length], stated);
+                let magic = MagicBlock::valid(&mut random).magic;
+                tally.compare_write(magic, &image[..length], stated);
+            }
         }
     }
     tally
 }
 
 /// "its reader (1, 29, 30 only) and its writer (1 only; it alters bytes 96 to 127 only)": each number
-/// is met a thousand times, and no other. The table of them is shown.
+/// is met a thousand times at each size, and no other. The table of them is shown.
 #[test]
 fn library_reads_and_writes_as_second() {
     let families: [Family<Tally>; 3] = [
@@ -122,17 +129,20 @@ fn library_reads_and_writes_as_second() {
         "read",
         &names,
         reads,
-        &READ_NUMBERS,
+        [&READ_NUMBERS, &READ_NUMBERS, &[1]],
         &mut wrong,
     ));
     show(&numbers_table(
         "write",
         &names,
         writes,
-        &WRITE_NUMBERS,
+        [&WRITE_NUMBERS, &WRITE_NUMBERS, &[1]],
         &mut wrong,
     ));
-    let calls = |tally: &Tally| tally.reads.iter().chain(&tally.writes).sum::<usize>();
+    let calls = |tally: &Tally| {
+        let numbers = tally.reads.0.iter().chain(&tally.writes.0);
+        numbers.flatten().sum::<usize>()
+    };
     let cells = tallies.each_ref().map(calls);
     show(&row(
         "calls",
@@ -143,7 +153,8 @@ fn library_reads_and_writes_as_second() {
 }
 
 /// "By the field sizes, not the figure's offsets, the password is at 96, the address at 102, the
-/// command at 108". The CRC was worked out apart, by a polynomial division.
+/// command at 108", or "a Magic block at 480, whose inner offsets all move by 384". The CRC was worked
+/// out apart, by a polynomial division.
 #[test]
 fn worked_block() {
     let magic = Magic {
@@ -156,8 +167,11 @@ fn worked_block() {
     block[6..12].copy_from_slice(&magic.address);
     block[12..14].copy_from_slice(&[0x62, 0x01]);
     block[30] = 0xF8;
-    let mut image = [0xA5; IMAGE_LENGTH];
-    assert_eq!(library::write_magic(magic, &mut image), 0);
-    assert_eq!(image[96..], block);
-    assert_eq!(image[..96], [0xA5; 96]);
+    for (size, start) in [(128, 96), (512, 480)] {
+        let before = vec![0xA5; size.into()];
+        let mut image = before.clone();
+        assert_eq!(library::write_magic(magic, &mut image, size), 0);
+        assert_eq!(image[start..], block);
+        assert_eq!(image[..start], before[..start]);
+    }
 }

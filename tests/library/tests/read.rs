@@ -5,9 +5,9 @@ mod families;
 use families::{Family, Numbers, numbers_table, row, show, tallies};
 use library::compare::{self, agreed};
 use second::calls::{block_count, near_lengths};
-use second::crc::{IMAGE_LENGTH, lay_crcs};
-use second::images::{Card, DAMAGES, Sample, random_image};
-use second::layout::LAYOUTS;
+use second::crc::lay_crcs;
+use second::images::{Card, DAMAGES, Sample, WRONG_SIZES, random_image};
+use second::layout::{LAYOUTS, Layout, SIZES};
 use second::random::Random;
 use second::reader::{self, Arguments, CHIPS, NEWEST_LEVEL};
 
@@ -24,25 +24,43 @@ const ROOMY: usize = 300;
 /// Known levels and two that are none.
 const LEVELS: [u8; 10] = [0, 1, 2, 3, 4, 5, 6, 7, 8, 255];
 
-/// Leaves with one power block, and with more, are read so often.
-const LEAST_POWER: usize = 1_000;
+/// Of a longer table so many entries are viewed, its first and its last among them.
+const MOST_VIEWS: usize = 12;
 
-/// How often reading answered each number, how often it counted one power block, and more, and how
-/// many calls of the library were compared.
+/// Each of what [`Tally::seen`] counts is met so often.
+const LEAST_SEEN: usize = 1_000;
+
+/// What is counted of leaves that are accepted.
+const SEEN: [&str; 5] = ["power 1", "power 2+", "high", "blocks 92+", "blocks 255"];
+
+/// How often reading answered each number; how often it counted one power block, and more, listed a
+/// block behind byte 255, and counted more blocks than 128 bytes can hold, and the most; and how many
+/// calls of the library were compared.
 #[derive(Default)]
 struct Tally {
     numbers: Numbers,
-    power: [usize; 2],
+    seen: [usize; SEEN.len()],
     calls: usize,
 }
 
 impl Tally {
     /// Compares a reading into arrays of so many elements.
     fn compare_read(&mut self, image: &[u8], arguments: Arguments, lengths: (usize, usize)) {
-        let answer = agreed(compare::read(image, arguments, lengths)).answer;
-        self.numbers[usize::from(answer.number)] += 1;
-        self.power[0] += usize::from(answer.power == 1);
-        self.power[1] += usize::from(answer.power > 1);
+        let reading = agreed(compare::read(image, arguments, lengths));
+        let answer = reading.answer;
+        self.numbers
+            .count(image, arguments.layout.size, answer.number);
+        let seen = [
+            answer.power == 1,
+            answer.power > 1,
+            reading.table().iter().any(|&(_, offset)| offset > 255),
+            usize::from(answer.blocks) > Layout::PLAIN.most_blocks(),
+            answer.blocks == 255,
+        ];
+        self.seen
+            .iter_mut()
+            .zip(seen)
+            .for_each(|(often, is_seen)| *often += usize::from(is_seen));
         self.calls += 1;
     }
 
@@ -55,7 +73,7 @@ impl Tally {
     }
 
     /// Compares readings into roomy arrays and into two pairs with lengths close to the block
-    /// count, and the views of every entry and of one past.
+    /// count, and the views of every entry, or of some of a long table, and of one past.
     fn compare(&mut self, random: &mut Random, image: &[u8], arguments: Arguments) {
         self.compare_read(image, arguments, (ROOMY, ROOMY));
         let count = block_count(image, arguments);
@@ -63,23 +81,33 @@ impl Tally {
         let lengths = near_lengths(random, count);
         self.compare_read(image, arguments, lengths);
         let (_, entries) = reader::read_all(image, arguments);
-        for entry in 0..=entries.len() {
+        let listed = entries.len();
+        if listed <= MOST_VIEWS {
+            (0..=listed).for_each(|entry| self.compare_view(image, arguments, entry));
+            return;
+        }
+        let some = (3..MOST_VIEWS).map(|_| random.below(listed));
+        for entry in some.chain([0, listed - 1, listed]) {
             self.compare_view(image, arguments, entry);
         }
     }
 }
 
 /// "accepts exactly the images": valid cards of every chip and layout, with unknown types among
-/// their blocks, for each controller and one that is none, at every level, for another chip, and in
-/// the other layout.
+/// their blocks or with the most blocks, for some controllers and one that is none, at every level,
+/// for another chip, and in the other layouts.
 fn valid_cards() -> Tally {
     let (mut tally, mut random) = (Tally::default(), Random::new(1));
     for round in 0..2_500 {
         let chip = CHIPS[round % CHIPS.len()];
         let layout = random.pick(&LAYOUTS);
-        let card = Card::valid(&mut random, chip, layout);
+        let card = match chip == 21041 && random.one_in(6) {
+            true => Card::longest(&mut random, layout),
+            false => Card::valid(&mut random, chip, layout),
+        };
         let image = card.image();
-        for controller in 0..=card.count {
+        let step = 1 + usize::from(card.count / 6);
+        for controller in (0..=card.count).rev().step_by(step) {
             for level in LEVELS {
                 let arguments = Arguments {
                     chip,
@@ -109,10 +137,10 @@ fn valid_cards() -> Tally {
 }
 
 /// "Elements after the listed ones": arrays of every length up to two past the block
-/// count, at every level; among the cards the longest leaf of each layout.
+/// count, at every level; among the cards the leaf with the most blocks of each layout.
 fn array_lengths() -> Tally {
     let (mut tally, mut random) = (Tally::default(), Random::new(2));
-    let mut samples: Vec<_> = (0..150).map(|_| Sample::valid(&mut random)).collect();
+    let mut samples: Vec<_> = (0..100).map(|_| Sample::valid(&mut random)).collect();
     samples.extend(LAYOUTS.map(|layout| Sample::longest(&mut random, layout)));
     for sample in samples {
         let image = sample.card.image();
@@ -138,7 +166,7 @@ fn array_lengths() -> Tally {
 /// "a refusal is exact": each field damaged, the CRCs mended, so that the reader comes to it.
 fn damaged_fields() -> Tally {
     let (mut tally, mut random) = (Tally::default(), Random::new(3));
-    for round in 0..68_000 {
+    for round in 0..60_000 {
         let mut sample = Sample::damaged(&mut random, DAMAGES[round % DAMAGES.len()]);
         let image = sample.card.image();
         tally.compare(&mut random, &image, sample.arguments);
@@ -162,15 +190,16 @@ fn two_damaged_fields() -> Tally {
 }
 
 /// Each byte of a valid image changed, before and after the CRCs are mended: to every value in the
-/// first images, to a few values in the others.
+/// ends of the first images, to a few values elsewhere and in the others.
 fn changed_bytes() -> Tally {
     let (mut tally, mut random) = (Tally::default(), Random::new(5));
-    for round in 0..150 {
-        let sample = Sample::valid(&mut random);
+    for round in 0..100 {
+        let sample = Sample::valid_in(&mut random, LAYOUTS[round % LAYOUTS.len()]);
         let image = sample.card.image();
-        for offset in 0..IMAGE_LENGTH {
+        for offset in 0..image.len() {
+            let is_end = offset < 64 || image.len() - offset <= 64;
             let values: Vec<u8> = match round {
-                0..5 => (0..=255).collect(),
+                0..4 if is_end => (0..=255).collect(),
                 _ => {
                     let byte = image[offset];
                     let flipped = byte ^ 1 << random.below(8);
@@ -183,7 +212,7 @@ fn changed_bytes() -> Tally {
                 }
             };
             for value in values {
-                let mut changed = image;
+                let mut changed = image.clone();
                 changed[offset] = value;
                 tally.compare_read(&changed, sample.arguments, (ROOMY, ROOMY));
                 lay_crcs(&mut changed, sample.arguments.layout);
@@ -215,20 +244,30 @@ fn random_bytes() -> Tally {
     tally
 }
 
-/// "1 image not 128 bytes": every length up to 300, of a valid image with bytes after it and of
-/// random bytes, and two lengths that are 128 in their low bits.
+/// "a length other than the stated size, or a stated size other than those two": every length up to
+/// 600, of a valid image with bytes after it and of random bytes, and one that is the size in its low
+/// bits, each with the image's size stated, its own length, the other size and one that no ROM has.
 fn image_lengths() -> Tally {
     let (mut tally, mut random) = (Tally::default(), Random::new(7));
-    for _ in 0..20 {
-        let sample = Sample::valid(&mut random);
-        let mut bytes = random.row(IMAGE_LENGTH + (1 << 16));
+    for round in 0..16 {
+        let sample = Sample::valid_in(&mut random, LAYOUTS[round % LAYOUTS.len()]);
+        let image = sample.card.image();
+        let mut bytes = random.row(image.len() + (1 << 16));
         if random.one_in(2) {
-            bytes[..IMAGE_LENGTH].copy_from_slice(&sample.card.image());
+            bytes[..image.len()].copy_from_slice(&image);
         }
-        for length in (0..=300).chain([IMAGE_LENGTH + (1 << 8), bytes.len()]) {
-            let lengths = random.pick(&[(0, 0), (1, ROOMY), (ROOMY, ROOMY)]);
-            tally.compare_read(&bytes[..length], sample.arguments, lengths);
-            tally.compare_view(&bytes[..length], sample.arguments, 0);
+        for length in (0..=600).chain([bytes.len()]) {
+            let wrong = random.pick(&WRONG_SIZES);
+            for size in SIZES.into_iter().chain([length as u16, wrong]) {
+                let layout = Layout {
+                    size,
+                    ..sample.arguments.layout
+                };
+                let arguments = sample.arguments.laid_out(layout);
+                let lengths = random.pick(&[(0, 0), (1, ROOMY), (ROOMY, ROOMY)]);
+                tally.compare_read(&bytes[..length], arguments, lengths);
+                tally.compare_view(&bytes[..length], arguments, 0);
+            }
         }
     }
     tally
@@ -255,7 +294,8 @@ fn repeated_modes_below_the_newest() {
     }
 }
 
-/// A million calls, in which each refusal is met a thousand times. The table of them is shown.
+/// A million calls, in which each refusal is met a thousand times at each size. The table of them is
+/// shown.
 #[test]
 fn library_reads_as_second() {
     let families: [Family<Tally>; 7] = [
@@ -271,12 +311,13 @@ fn library_reads_as_second() {
     let names = families.map(|(name, _)| name);
     let mut wrong = Vec::new();
     let numbers = tallies.each_ref().map(|tally| &tally.numbers);
-    let mut table = numbers_table("number", &names, numbers, &READ_NUMBERS, &mut wrong);
-    for (place, title) in ["power 1", "power 2+"].into_iter().enumerate() {
-        let cells = tallies.each_ref().map(|tally| tally.power[place]);
+    let can_answer = [&READ_NUMBERS[..], &READ_NUMBERS, &[1]];
+    let mut table = numbers_table("read", &names, numbers, can_answer, &mut wrong);
+    for (place, title) in SEEN.into_iter().enumerate() {
+        let cells = tallies.each_ref().map(|tally| tally.seen[place]);
         let total: usize = cells.iter().sum();
         table += &row(title, &cells, &total.to_string());
-        if total < LEAST_POWER {
+        if total < LEAST_SEEN {
             wrong.push(format!("{title}: only {total} leaves"));
         }
     }

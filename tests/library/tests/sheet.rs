@@ -6,14 +6,14 @@ mod families;
 use families::{Family, Numbers, numbers_table, row, show, tallies};
 use library::compare::{self, agreed};
 use library::lent::{Lent, hex};
-use second::crc::{IMAGE_LENGTH, lay_crcs};
+use second::crc::lay_crcs;
 use second::images::{MAGIC_DAMAGES, MagicBlock, Sample};
-use second::layout::{LAYOUTS, Layout};
+use second::layout::{LARGE, Layout, SHEET_LAYOUTS, SIZES, SMALL};
 use second::random::Random;
 use second::reader::Arguments;
 use second::sheet::{CHIP, LONGEST_SHEET, Made};
 use second::sheets::tidy::{TIDY_DAMAGES, damaged, tidy, untidy};
-use second::sheets::{SHEET_DAMAGES, Sheet, output};
+use second::sheets::{SHEET_DAMAGES, Sheet, output, unserved};
 
 const LEAST_INPUTS: usize = 300_000;
 
@@ -26,6 +26,11 @@ const WRITE_NUMBERS: [usize; 16] = [0, 1, 2, 7, 11, 14, 15, 16, 17, 18, 24, 25, 
 const MAKE_NUMBERS: [usize; 20] = [
     0, 1, 2, 3, 4, 5, 7, 10, 11, 12, 13, 14, 15, 16, 17, 18, 27, 29, 30, 31,
 ];
+
+/// The numbers that the two can answer where another size is stated: "Sheets and their writer keep to
+/// 128 bytes for now".
+const OTHER_WRITE_NUMBERS: [usize; 2] = [1, 24];
+const OTHER_MAKE_NUMBERS: [usize; 1] = [1];
 
 /// More bytes than any sheet of a tidy image has.
 const ROOMY: usize = LONGEST_SHEET + 40;
@@ -50,7 +55,7 @@ impl Tally {
             "refused with {number}, and changed the image\nsheet {}",
             hex(sheet)
         );
-        self.writes[usize::from(number)] += 1;
+        self.writes.count(before, layout.size, number);
         if number == 0 {
             assert_eq!(image[layout.board_end()..], before[layout.board_end()..]);
             let chip = u16::from_le_bytes([sheet[CHIP], sheet[CHIP + 1]]);
@@ -81,9 +86,9 @@ impl Tally {
             "{made:?}, and changed other bytes\nimage {}",
             hex(image)
         );
-        self.makes[usize::from(made.number)] += 1;
+        self.makes.count(image, layout.size, made.number);
         if made.number == 0 {
-            let mut again = [0xA5; IMAGE_LENGTH];
+            let mut again = vec![0xA5; image.len()];
             let kept = layout.board_end()..;
             again[kept.clone()].copy_from_slice(&image[kept]);
             let number = library::write(&buffer[..made.length], layout, &mut again);
@@ -98,7 +103,7 @@ impl Tally {
     }
 
     /// Compares a sheet's writing to an image with a right Magic Packet block, where the layout has
-    /// one, and now and then to one with any or of another length too.
+    /// one, and now and then to one with any or of a size that is not served too.
     fn compare_sheet(&mut self, random: &mut Random, sheet: &[u8], layout: Layout) {
         self.sheets += 1;
         let mut image = output(random, layout);
@@ -106,8 +111,8 @@ impl Tally {
         if random.one_in(16) {
             MagicBlock::any(random).lay(&mut image);
             self.compare_write(sheet, layout, &image);
-            let length = random.pick(&[0, 1, 64, 127, 129, 256, 300]);
-            self.compare_write(sheet, layout, &random.row(length));
+            let (stated, image) = unserved(random, layout.magic);
+            self.compare_write(sheet, stated, &image);
         }
     }
 
@@ -133,12 +138,12 @@ impl Tally {
 fn valid_sheets() -> Tally {
     let (mut tally, mut random) = (Tally::default(), Random::new(1));
     for round in 0..40_000 {
-        let layout = LAYOUTS[round % 2];
+        let layout = SHEET_LAYOUTS[round % 2];
         let sheet = Sheet::valid(&mut random, layout);
         let magic = MagicBlock::of_layout(&mut random, layout);
         let (bytes, expected) = (sheet.bytes(), sheet.card(magic).image());
         tally.compare_sheet(&mut random, &bytes, layout);
-        let mut image = random.bytes();
+        let mut image = random.row(expected.len());
         if let Some(block) = magic {
             block.lay(&mut image);
         }
@@ -159,7 +164,7 @@ fn damaged_sheets() -> Tally {
     let (mut tally, mut random) = (Tally::default(), Random::new(2));
     for round in 0..66_000 {
         let number = SHEET_DAMAGES[round % SHEET_DAMAGES.len()];
-        let layout = random.pick(&LAYOUTS);
+        let layout = random.pick(&SHEET_LAYOUTS);
         let sheet = Sheet::damaged(&mut random, number, layout);
         tally.compare_sheet(&mut random, &sheet, layout);
     }
@@ -171,7 +176,7 @@ fn damaged_sheets() -> Tally {
 fn two_damaged_fields() -> Tally {
     let (mut tally, mut random) = (Tally::default(), Random::new(3));
     while tally.sheets < 20_000 {
-        let layout = random.pick(&LAYOUTS);
+        let layout = random.pick(&SHEET_LAYOUTS);
         let mut sheet = Sheet::valid(&mut random, layout);
         let later = 2 + random.below(SHEET_DAMAGES.len() - 2);
         let earlier = 1 + random.below(later - 1);
@@ -192,7 +197,7 @@ fn two_damaged_fields() -> Tally {
 fn damaged_blocks() -> Tally {
     let (mut tally, mut random) = (Tally::default(), Random::new(10));
     for round in 0..20_000 {
-        let layout = random.pick(&LAYOUTS);
+        let layout = random.pick(&SHEET_LAYOUTS);
         let sheet = match round % 4 {
             0 => {
                 let number = random.pick(&SHEET_DAMAGES);
@@ -200,7 +205,7 @@ fn damaged_blocks() -> Tally {
             }
             _ => Sheet::valid(&mut random, layout).bytes(),
         };
-        let mut image = random.bytes();
+        let mut image = output(&mut random, layout);
         let number = random.pick(&MAGIC_DAMAGES);
         MagicBlock::damaged(&mut random, number).lay(&mut image);
         tally.sheets += 1;
@@ -213,7 +218,7 @@ fn damaged_blocks() -> Tally {
 fn changed_sheet_bytes() -> Tally {
     let (mut tally, mut random) = (Tally::default(), Random::new(4));
     for round in 0..100 {
-        let layout = LAYOUTS[round % 2];
+        let layout = SHEET_LAYOUTS[round % 2];
         let sheet = Sheet::valid(&mut random, layout).bytes();
         for offset in 0..sheet.len() {
             for value in values(&mut random, sheet[offset], round < 2) {
@@ -242,31 +247,58 @@ fn random_sheets() -> Tally {
     let (mut tally, mut random) = (Tally::default(), Random::new(5));
     for round in 0..40_000 {
         let bytes = Sheet::wild(&mut random);
-        tally.compare_sheet(&mut random, &bytes, LAYOUTS[round % 2]);
+        tally.compare_sheet(&mut random, &bytes, SHEET_LAYOUTS[round % 2]);
     }
     tally
 }
 
 /// "24 sheet length or sum, then 1 for its output": every length of a sheet, with and without right
-/// bytes after it, and every length of an image, with those that are 128 in their low bits.
+/// bytes after it, and every length of an image up to 600, with one that is 128 in its low bits, each
+/// as either size.
 fn lengths() -> Tally {
     let (mut tally, mut random) = (Tally::default(), Random::new(6));
     for round in 0..20 {
-        let layout = LAYOUTS[round % 2];
+        let layout = SHEET_LAYOUTS[round % 2];
         let sheet = Sheet::valid(&mut random, layout).bytes();
         let longer = [sheet.as_slice(), &random.row(300)].concat();
         for length in 0..longer.len() {
             tally.compare_sheet(&mut random, &longer[..length], layout);
         }
-        let far = [IMAGE_LENGTH + (1 << 8), IMAGE_LENGTH + (1 << 16)];
+        let far = usize::from(SMALL) + (1 << 16);
         let sample = tidy(&mut random);
-        let mut image = sample.card.image().to_vec();
-        image.resize(far[1], 0);
-        for length in (0..300).chain(far) {
-            tally.compare_write(&sheet, layout, &image[..length]);
-            tally.compare_write(&longer, layout, &image[..length]);
-            tally.compare_image(&mut random, &image[..length], sample.arguments);
+        let mut image = sample.card.image();
+        image.resize(far, 0);
+        for length in (0..600).chain([far]) {
+            for size in SIZES {
+                let image = &image[..length];
+                let layout = Layout { size, ..layout };
+                tally.compare_write(&sheet, layout, image);
+                tally.compare_write(&longer, layout, image);
+                let magic = sample.arguments.layout.magic;
+                let arguments = sample.arguments.laid_out(Layout::new(size, magic));
+                tally.compare_image(&mut random, image, arguments);
+            }
         }
+    }
+    tally
+}
+
+/// "Sheets and their writer keep to 128 bytes for now": right sheets and cards of the larger size, and
+/// of sizes that no ROM has.
+fn large() -> Tally {
+    let (mut tally, mut random) = (Tally::default(), Random::new(11));
+    for round in 0..24_000 {
+        let magic = round % 2 == 0;
+        let sheet = match random.one_in(2) {
+            true => Sheet::damaged(&mut random, 24, Layout::new(SMALL, magic)),
+            false => Sheet::valid(&mut random, Layout::new(SMALL, magic)).bytes(),
+        };
+        tally.sheets += 1;
+        let (layout, image) = unserved(&mut random, magic);
+        tally.compare_write(&sheet, layout, &image);
+        let Sample { card, arguments } = Sample::valid_in(&mut random, Layout::new(LARGE, magic));
+        tally.compare_image(&mut random, &card.image(), arguments);
+        tally.compare_image(&mut random, &image, arguments.laid_out(layout));
     }
     tally
 }
@@ -291,9 +323,9 @@ fn changed_image_bytes() -> Tally {
     for round in 0..60 {
         let Sample { card, arguments } = tidy(&mut random);
         let image = card.image();
-        for offset in 0..IMAGE_LENGTH {
+        for offset in 0..image.len() {
             for value in values(&mut random, image[offset], round < 2) {
-                let mut changed = image;
+                let mut changed = image.clone();
                 changed[offset] = value;
                 tally.compare_image(&mut random, &changed, arguments);
                 lay_crcs(&mut changed, arguments.layout);
@@ -313,7 +345,7 @@ fn changed_image_bytes() -> Tally {
 fn buffer_lengths() -> Tally {
     let (mut tally, mut random) = (Tally::default(), Random::new(9));
     let mut samples: Vec<_> = (0..60).map(|_| tidy(&mut random)).collect();
-    samples.extend(LAYOUTS.map(|layout| Sample::longest(&mut random, layout)));
+    samples.extend(SHEET_LAYOUTS.map(|layout| Sample::longest(&mut random, layout)));
     let mut longest = 0;
     for Sample { card, arguments } in samples {
         let image = card.image();
@@ -336,7 +368,7 @@ fn buffer_lengths() -> Tally {
 /// standard error stream itself, so that a run that passes shows it too.
 #[test]
 fn library_writes_and_makes_as_second() {
-    let families: [Family<Tally>; 10] = [
+    let families: [Family<Tally>; 11] = [
         ("valid", valid_sheets),
         ("damaged", damaged_sheets),
         ("twice", two_damaged_fields),
@@ -344,6 +376,7 @@ fn library_writes_and_makes_as_second() {
         ("bytes", changed_sheet_bytes),
         ("random", random_sheets),
         ("lengths", lengths),
+        ("large", large),
         ("images", damaged_images),
         ("ibytes", changed_image_bytes),
         ("buffers", buffer_lengths),
@@ -353,8 +386,14 @@ fn library_writes_and_makes_as_second() {
     let mut wrong = Vec::new();
     let writes = tallies.each_ref().map(|tally| &tally.writes);
     let makes = tallies.each_ref().map(|tally| &tally.makes);
-    let mut table = numbers_table("write", &names, writes, &WRITE_NUMBERS, &mut wrong);
-    table += &numbers_table("make", &names, makes, &MAKE_NUMBERS, &mut wrong);
+    let can_write = [
+        &WRITE_NUMBERS[..],
+        &OTHER_WRITE_NUMBERS,
+        &OTHER_WRITE_NUMBERS,
+    ];
+    let can_make = [&MAKE_NUMBERS[..], &OTHER_MAKE_NUMBERS, &OTHER_MAKE_NUMBERS];
+    let mut table = numbers_table("write", &names, writes, can_write, &mut wrong);
+    table += &numbers_table("make", &names, makes, can_make, &mut wrong);
     let mut inputs = 0;
     for (what, count) in [
         ("sheets", (|tally| tally.sheets) as fn(&Tally) -> usize),

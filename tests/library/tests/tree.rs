@@ -147,21 +147,89 @@ fn promises_are_guarded() {
     assert!(unnamed.is_empty(), "in no row: {unnamed:?}");
 }
 
-/// What a Magic Packet block moves, and where it stands, is named in `rom` alone: no other proof has the number.
+/// The sizes of a ROM, and what follows from them: where leaves end, where the SROM CRC and the Magic Packet block stand.
+const GEOMETRY: [&str; 11] = [
+    "92", "94", "96", "124", "128", "476", "478", "480", "508", "510", "512",
+];
+
+/// Where a number of these means something else: a file or folder of crates/, the number, and what it is there.
+const OTHER_MEANINGS: [(&str, &str, &str); 15] = [
+    ("format", "128", "the top bit of a block's first byte"),
+    ("block", "128", "the same, and the most bytes of a block"),
+    (
+        "block/proofs/Phy.antt",
+        "510",
+        "the most bytes of 255 words",
+    ),
+    ("sheet/specs", "128", "the top bit of a block's first byte"),
+    ("sheet/proofs/Blocks.antt", "128", "the same"),
+    ("writer/src/entries.rt", "128", "the same"),
+    ("writer/proofs/Bodies.antt", "128", "the same"),
+    ("writer/proofs/Openings.antt", "128", "the same"),
+    (
+        "maker/proofs/Blocks.antt",
+        "128",
+        "the same, and the most bytes of a block",
+    ),
+    ("survey/proofs", "128", "the most bytes of a block"),
+    ("hexadecimal/specs/Group.antt", "124", "the character '|'"),
+    (
+        "format/specs/Cases.antt",
+        "92",
+        "the bytes of case j's second block",
+    ),
+    (
+        "leaf/specs/Cases.antt",
+        "124",
+        "where case j's first block ends",
+    ),
+    (
+        "worked/specs",
+        "92",
+        "document 01's and 02's own words in a case",
+    ),
+    ("worked/specs", "124", "the same"),
+];
+
+/// The two sizes stand in one list of `rom`, and what follows from them beside it: nothing else names one of the numbers,
+/// in code, specifications or proofs. Comments may.
 #[test]
-fn no_proof_but_roms_computes_with_the_geometry() {
-    let mut seen = 0;
-    for path in files(&root().join("crates"), &["antt"]) {
-        let is_proof = path.components().any(|part| part.as_os_str() == "proofs");
-        if !is_proof || path.starts_with(root().join("crates/rom")) {
+fn only_rom_names_the_geometry() {
+    let crates = root().join("crates");
+    let (mut seen, mut found) = (0, Vec::new());
+    let mut met = [false; OTHER_MEANINGS.len()];
+    for path in files(&crates, &["antt", "rt"]) {
+        let file = path.strip_prefix(&crates).unwrap();
+        if file.starts_with("rom") {
             continue;
         }
-        let text = fs::read_to_string(&path).unwrap();
-        for word in text.split(|c: char| !c.is_alphanumeric()) {
-            let is_place = ["92", "94", "96", "124"].contains(&word);
-            assert!(!is_place, "{}: {word}", path.display());
-        }
         seen += 1;
+        let text = fs::read_to_string(&path).unwrap();
+        let mark = if file.extension().is_some_and(|it| it == "rt") {
+            "//"
+        } else {
+            "--"
+        };
+        for (line, number) in text.lines().zip(1..) {
+            let code = line.split(mark).next().unwrap_or("");
+            let words = code.split(|c: char| !c.is_alphanumeric());
+            for word in words.filter(|word| GEOMETRY.contains(word)) {
+                let is_other = |(place, other, _): &(&str, &str, &str)| {
+                    file.starts_with(place) && *other == word
+                };
+                match OTHER_MEANINGS.iter().position(is_other) {
+                    Some(place) => met[place] = true,
+                    None => found.push(format!("{}:{number}: {word}", file.display())),
+                }
+            }
+        }
     }
-    assert!(seen > 200, "only {seen} proofs were read");
+    assert!(seen > 400, "only {seen} files were read");
+    let unmet: Vec<_> = OTHER_MEANINGS
+        .iter()
+        .zip(met)
+        .filter(|(_, met)| !met)
+        .collect();
+    assert!(unmet.is_empty(), "no longer there: {unmet:?}");
+    assert!(found.is_empty(), "{}", found.join("\n"));
 }

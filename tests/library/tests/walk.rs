@@ -7,7 +7,7 @@ use library::twins::{Shown, Twins};
 use second::calls::{self, Call, Habits, Step};
 use second::cases::{CASES_K, REPORTS_K, card_b};
 use second::images::{Card, block};
-use second::layout::{LAYOUTS, Layout};
+use second::layout::{LARGE, LAYOUTS, Layout, SIZES, SMALL};
 use second::random::Random;
 use second::reader::{self, Arguments, NEWEST_LEVEL};
 use second::walk::{AUTOSENSE, EMPTY_CONNECTION, NONE, ROW_LENGTH, Rows, Walk, fast};
@@ -20,7 +20,7 @@ const LEAST_LISTS: usize = 200_000;
 const LEAST_OLDER_LISTS: usize = 100_000;
 
 /// What demand 3 speaks of is met so often at each older level, in each layout.
-const LEAST_SEEN: usize = 500;
+const LEAST_SEEN: usize = 300;
 
 /// The numbers that a load can answer: the reader's, 12 apart, and 21.
 const LOAD_NUMBERS: [usize; 22] = [
@@ -28,52 +28,59 @@ const LOAD_NUMBERS: [usize; 22] = [
 ];
 const LOOK_NUMBERS: [usize; 5] = [0, 19, 20, 32, 23];
 
-/// How often load and look answered each number, and how many clears and lists were compared.
+/// How often load and look answered each number, at each size, and how many clears and lists were
+/// compared.
 struct Tally {
-    loads: [usize; HIGHEST_REFUSAL + 1],
-    looks: [usize; HIGHEST_REFUSAL + 1],
+    loads: [[usize; HIGHEST_REFUSAL + 1]; SIZES.len()],
+    looks: [[usize; HIGHEST_REFUSAL + 1]; SIZES.len()],
     clears: usize,
     lists: usize,
 }
 
 impl Tally {
     const EMPTY: Self = Self {
-        loads: [0; HIGHEST_REFUSAL + 1],
-        looks: [0; HIGHEST_REFUSAL + 1],
+        loads: [[0; HIGHEST_REFUSAL + 1]; SIZES.len()],
+        looks: [[0; HIGHEST_REFUSAL + 1]; SIZES.len()],
         clears: 0,
         lists: 0,
     };
 
-    fn count(&mut self, call: &Call, number: u8) {
+    /// Counts a call at the size of its image, or of the image that was tried last.
+    fn count(&mut self, call: &Call, size: u16, number: u8) {
+        let is_large = usize::from(size == LARGE);
         match call {
-            Call::Load => self.loads[usize::from(number)] += 1,
-            Call::Look(_) => self.looks[usize::from(number)] += 1,
+            Call::Load => self.loads[is_large][usize::from(number)] += 1,
+            Call::Look(_) => self.looks[is_large][usize::from(number)] += 1,
             Call::Clear => self.clears += 1,
         }
     }
 
     fn add(&mut self, other: &Self) {
-        for number in 0..=HIGHEST_REFUSAL {
-            self.loads[number] += other.loads[number];
-            self.looks[number] += other.looks[number];
-        }
+        let sums = self.loads.iter_mut().chain(&mut self.looks).flatten();
+        let terms = other.loads.iter().chain(&other.looks).flatten();
+        sums.zip(terms).for_each(|(sum, often)| *sum += often);
         self.clears += other.clears;
         self.lists += other.lists;
     }
 }
 
-/// Lists on two images.
+/// Lists on two images, which may be of two sizes.
 fn random_lists(seed: u64, lists: usize) -> Tally {
     let (mut tally, mut random) = (Tally::EMPTY, Random::new(seed));
     while tally.lists < lists {
         let mut pair = agreed(Pair::fresh());
+        let mut size = SMALL;
         for step in calls::steps(&mut random) {
             let number = agreed(pair.step(&step));
-            match step {
-                Step::Load(..) => tally.loads[usize::from(number)] += 1,
-                Step::Look(_) => tally.looks[usize::from(number)] += 1,
-                Step::Clear => tally.clears += 1,
-            }
+            let call = match step {
+                Step::Load(_, arguments) => {
+                    size = arguments.layout.size;
+                    Call::Load
+                }
+                Step::Look(report) => Call::Look(report),
+                Step::Clear => Call::Clear,
+            };
+            tally.count(&call, size, number);
         }
         tally.lists += 1;
     }
@@ -99,16 +106,15 @@ fn spent_looks() -> Tally {
         ),
         (Card::tidy(21143, 0x0001, vec![sia(0), sia(1)]), Some(1)),
         (Card::tidy(21041, 0x0400, vec![vec![0], vec![1]]), Some(1)),
-        (Card::longest(&mut random, Layout::PLAIN), None),
-        (Card::longest(&mut random, Layout::MAGIC), None),
     ];
-    for (card, switches) in cards {
+    let longest = LAYOUTS.map(|layout| (Card::longest(&mut random, layout), None));
+    for (card, switches) in cards.into_iter().chain(longest) {
         let image = card.image();
         let arguments = Arguments::newest(card.leaves[0].chip).laid_out(card.layout());
         let mut pair = agreed(Pair::fresh());
         let mut call = |pair: &mut Pair, call: &Call| {
             let number = agreed(pair.call(call, &image, arguments));
-            tally.count(call, number);
+            tally.count(call, arguments.layout.size, number);
             number
         };
         assert_eq!(call(&mut pair, &Call::Load), 0);
@@ -146,8 +152,8 @@ fn spent_looks() -> Tally {
 }
 
 /// "the autosense walk takes document 01's steps", and "a refusal is exact": two hundred thousand
-/// lists, in which each refusal of load and look is met a thousand times. The table of them goes to
-/// the standard error stream itself, so that a run that passes shows it too.
+/// lists, in which each refusal of load and look is met a thousand times at each size. The table of
+/// them goes to the standard error stream itself, so that a run that passes shows it too.
 #[test]
 fn library_walks_as_second() {
     let mut total = Tally::EMPTY;
@@ -158,17 +164,20 @@ fn library_walks_as_second() {
             total.add(&thread.join().expect("compares equal"));
         }
     });
-    let mut table = format!("{:<8}{:>10}{:>10}\n", "number", "load", "look");
+    let titles = ["load", "look"].map(|call| SIZES.map(|size| format!("{call} {size}")));
+    let mut table = row("number", titles.as_flattened());
     for number in 0..=HIGHEST_REFUSAL {
-        let (loads, looks) = (total.loads[number], total.looks[number]);
-        if loads + looks > 0 {
-            table += &format!("{number:<8}{loads:>10}{looks:>10}\n");
+        let cells = [total.loads, total.looks].map(|calls| calls.map(|often| often[number]));
+        if cells.as_flattened().iter().any(|&often| often > 0) {
+            table += &row(&number.to_string(), cells.as_flattened());
         }
     }
     table += &format!("{} lists, {} clears\n", total.lists, total.clears);
     print(&table);
-    assert_answered("load", &total.loads, &LOAD_NUMBERS);
-    assert_answered("look", &total.looks, &LOOK_NUMBERS);
+    for (loads, looks) in total.loads.iter().zip(&total.looks) {
+        assert_answered("load", loads, &LOAD_NUMBERS);
+        assert_answered("look", looks, &LOOK_NUMBERS);
+    }
     assert!(total.lists >= LEAST_LISTS, "only {} lists", total.lists);
 }
 
@@ -290,7 +299,7 @@ fn fixed_looks_select_one_block() {
 fn any_walk(random: &mut Random) -> Walk {
     let mut number = || {
         let any = random.byte();
-        random.pick(&[0, 1, 3, 90, 127, 128, 254, NONE, any])
+        random.pick(&[0, 1, 3, 90, 127, 0x80, 254, NONE, any])
     };
     let (blocks, default_number, selected) = (number(), number(), number());
     let mut row = || [(); ROW_LENGTH].map(|()| random.pick(&[0, 0, 1, 1, 2, 255]));
@@ -367,7 +376,8 @@ fn older_levels(layout: Layout, images: usize) -> (Tally, [Levels; NEWEST_LEVEL 
             // promised.
             let mut run = |list: &[Call]| {
                 tally.lists += 1;
-                let mut shown = agreed(older.run(list, |call, number| tally.count(call, number)));
+                let count = |call: &Call, number| tally.count(call, layout.size, number);
+                let mut shown = agreed(older.run(list, count));
                 let difference = shown.difference.take();
                 let differs = difference.is_some();
                 if older.is_promised(&shown) {
@@ -427,16 +437,16 @@ fn older_levels(layout: Layout, images: usize) -> (Tally, [Levels; NEWEST_LEVEL 
 /// Demand 3: under its conditions both walks are alike after each call of every list, whatever the
 /// older level; with a removed default, or a removed entry up, differences are found at each level
 /// that removes entries. Levels 5 and 6 remove none, since types 5 and 6 have none. "the older
-/// reader's promise covers both" layouts, and "older and newer walks must match" under 0xFFFF too.
-/// "Under a fixed type one condition replaces demand 3's two": with a choice that the older level
-/// lists and with none they are alike, and with none both refuse every look at a loaded walk with
-/// 32. With a removed choice they differ exactly if the newest accepts a look, or the older refuses
-/// one with 32.
+/// reader's promise covers both" layouts, here of either size, and "older and newer walks must match"
+/// under 0xFFFF too. "Under a fixed type one condition replaces demand 3's two": with a choice that
+/// the older level lists and with none they are alike, and with none both refuse every look at a
+/// loaded walk with 32. With a removed choice they differ exactly if the newest accepts a look, or the
+/// older refuses one with 32.
 #[test]
 fn older_walks_as_newest() {
     let seen = thread::scope(|scope| {
         LAYOUTS
-            .map(|layout| scope.spawn(move || older_levels(layout, 27_000)))
+            .map(|layout| scope.spawn(move || older_levels(layout, 16_000)))
             .map(|thread| thread.join().expect("the levels agree"))
     });
     for (layout, (tally, levels)) in LAYOUTS.into_iter().zip(seen) {

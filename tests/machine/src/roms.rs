@@ -6,8 +6,8 @@ use crate::checks::{About, Checks};
 use crate::dumped;
 use crate::emulator::{Machine, slot, station};
 use card::{Run, root, shell};
-use second::crc::{IMAGE_LENGTH, lay_crcs};
-use second::layout::Layout;
+use second::crc::lay_crcs;
+use second::layout::{Layout, SMALL};
 use second::random::Random;
 use std::fs;
 use std::path::Path;
@@ -46,7 +46,7 @@ pub fn check(checks: &mut Checks) {
         // The emulator keeps words with the high byte first.
         let words = rom.chunks(2).flat_map(|word| [word[1], word[0]]);
         let kept: Vec<_> = words.collect();
-        let places = state.windows(IMAGE_LENGTH).filter(|it| *it == kept);
+        let places = state.windows(usize::from(SMALL)).filter(|it| *it == kept);
         about.same("what the emulator holds", places.count(), 1);
         dump_again(&mut about, &mut machine, card, rom);
     }
@@ -97,7 +97,8 @@ fn first_dump(
     about.same("dumped", found, dumped(&slot));
     about.same("configured as before", machine.file(&config), before);
     let rom = machine.file(&format!("rom-{card}"));
-    let mut sealed = rom.as_slice().try_into().unwrap_or([0; IMAGE_LENGTH]);
+    let mut sealed = rom.clone();
+    sealed.resize(SMALL.into(), 0);
     sealed[20..26].copy_from_slice(&address);
     lay_crcs(&mut sealed, Layout::PLAIN);
     about.same("its address and both CRCs", rom.as_slice(), &sealed);

@@ -1,8 +1,8 @@
 //! Lists of calls to walk with: loads, looks with reports of every sort, and clears.
 
 use crate::images::damage::{code_byte, command_offset, kind};
-use crate::images::{Card, DAMAGES, Leaf, Sample};
-use crate::layout::{LAYOUTS, Layout};
+use crate::images::{Card, DAMAGES, Leaf, Sample, WRONG_SIZES};
+use crate::layout::{LARGE, LAYOUTS, Layout};
 use crate::random::Random;
 use crate::reader::{
     self, ACTIVE_INVALID, Arguments, DEFAULT, HIGHEST_COUNT, MEDIA_CODE, connections,
@@ -92,7 +92,7 @@ impl Habits {
             5 if self.blocks > 0 => {
                 let any = random.below(self.blocks);
                 let place = random.pick(&[0, self.blocks - 1, any]);
-                report[place] = random.pick(&[2, 3, 128, 254, 255]);
+                report[place] = random.pick(&[2, 3, 0x80, 254, 255]);
             }
             _ => {}
         }
@@ -124,8 +124,8 @@ pub fn steps(random: &mut Random) -> Vec<Step> {
         let arguments = samples[index].arguments;
         let mut image = images[index].to_vec();
         if random.one_in(50) {
-            let length = random.pick(&[0, 127, 129, 256, 384]);
-            image.resize(length, 0);
+            let length = random.pick(&WRONG_SIZES[..WRONG_SIZES.len() - 1]);
+            image.resize(length.into(), 0);
         }
         if let Some(blocks) = walk.blocks() {
             habits.blocks = blocks;
@@ -188,12 +188,12 @@ fn at_some_level(random: &mut Random) -> Sample {
 /// The arguments of a list's loads, and a card for them that is mostly accepted, autosensed or
 /// fixed.
 pub fn sample(random: &mut Random) -> Sample {
-    let mut sample = match random.below(16) {
-        0 => {
+    let mut sample = match random.below(20) {
+        0 | 1 => {
             let number = random.pick(&DAMAGES);
             return Sample::damaged(random, number);
         }
-        1 => {
+        2 => {
             let layout = random.pick(&LAYOUTS);
             Sample::longest(random, layout)
         }
@@ -243,8 +243,9 @@ fn fix(random: &mut Random, card: &mut Card) {
 /// Those of the connection types whose medium a block of a leaf has, for a leaf that the newest
 /// reader accepts.
 fn with_choice(leaf: &Leaf, connections: &[u16]) -> Vec<u16> {
-    let image = Card::tidy(leaf.chip, EMPTY_CONNECTION, leaf.blocks.clone()).image();
-    let (_, blocks) = reader::leaf(&image, Arguments::newest(leaf.chip), usize::MAX)
+    let card = Card::tidy(leaf.chip, EMPTY_CONNECTION, leaf.blocks.clone()).sized(LARGE);
+    let newest = Arguments::newest(leaf.chip).laid_out(card.layout());
+    let (_, blocks) = reader::leaf(&card.image(), newest, usize::MAX)
         .expect("the newest reader accepts the leaf");
     let mut types = connections.to_vec();
     types.retain(|&connection| blocks.iter().any(|it| has_fixed_medium(it, connection)));
@@ -322,13 +323,15 @@ mod tests {
     use crate::reader::{CHIPS, NEWEST_LEVEL};
 
     /// "From the state, before any from the input": the lists meet each refusal of load and look
-    /// but 12 and 23, and mostly acceptance.
+    /// but 12 and 23 at either size, and mostly acceptance.
     #[test]
     fn every_refusal() {
         let mut random = Random::new(1);
-        let (mut loads, mut looks) = ([0; 33], [0; 33]);
-        for _ in 0..11_000 {
+        let (mut loads, mut looks) = ([[0; 33]; 2], [[0; 33]; 2]);
+        for _ in 0..22_000 {
             let sample = sample(&mut random);
+            let is_large = usize::from(sample.card.layout().size == LARGE);
+            let (loads, looks) = (&mut loads[is_large], &mut looks[is_large]);
             let image = sample.card.image();
             let blocks = block_count(&image, sample.arguments);
             let habits = Habits::new(&mut random, blocks);
@@ -342,10 +345,12 @@ mod tests {
             }
         }
         let met = |often: [usize; 33]| (0..33).filter(move |&number| often[number] > 10);
-        let numbers = (2..=11).chain(13..=18).chain([21, 29, 30, 31]);
-        assert!(met(loads).eq([0].into_iter().chain(numbers)));
-        assert!(met(looks).eq([0, 19, 20, 32]));
-        assert!(looks[0] > 50_000, "{looks:?}");
+        for (loads, looks) in loads.into_iter().zip(looks) {
+            let numbers = (0..=11).chain(13..=18).chain([21, 29, 30, 31]);
+            assert!(met(loads).eq(numbers), "{loads:?}");
+            assert!(met(looks).eq([0, 19, 20, 32]), "{looks:?}");
+            assert!(looks[0] > 40_000, "{looks:?}");
+        }
     }
 
     /// Document 01's types that are autosensed, and by document 02, request 4, 0xFFFF: of each

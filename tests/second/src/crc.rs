@@ -1,13 +1,10 @@
 //! The CRCs of an image, bit by bit (document 01, "SROM CRC" and "ID CRC"; document 02, request 1,
-//! for the Magic Packet block's).
+//! for the Magic Packet block's, and request 6, for the ROM's size).
 
 pub mod fast;
 
-use crate::layout::{Layout, MAGIC_OFFSET};
-use std::ops::Range;
-
-/// An image is 1024 bits.
-pub const IMAGE_LENGTH: usize = 128;
+use crate::layout::{Layout, is_of_size, magic_block, magic_block_mut};
+use crate::magic::CRC_OFFSET;
 
 /// Where the ID CRC is stored: the low byte of word 8.
 pub const ID_CRC_OFFSET: usize = 16;
@@ -15,16 +12,14 @@ pub const ID_CRC_OFFSET: usize = 16;
 /// The high byte of word 8, the last byte that the ID CRC covers.
 pub const ID_LAST_OFFSET: usize = 17;
 
-/// Where the Magic Packet block's CRC is stored: the low byte of word 63.
-pub const MAGIC_CRC_OFFSET: usize = 126;
+/// How many words the ID CRC covers, from the image's first, and then the high byte of the next.
+const ID_WORDS: usize = 8;
 
-/// The words that the ID CRC covers, and then the high byte of word 8.
-const ID_WORDS: Range<usize> = 0..8;
+/// How many words the Magic Packet block's CRC covers, from the block's first, and then the high byte
+/// of the next.
+const MAGIC_WORDS: usize = 15;
 
-/// The words that the Magic Packet block's CRC covers, 48 to 62, and then the high byte of word 63.
-const MAGIC_WORDS: Range<usize> = MAGIC_OFFSET / 2..63;
-
-/// Refusal 1: the image has not exactly 128 bytes.
+/// Refusal 1: the image has not the stated size, or that is no ROM's.
 pub const WRONG_IMAGE_LENGTH: u8 = 1;
 
 const POLYNOMIAL_32: u32 = 0x04C1_1DB7;
@@ -52,32 +47,34 @@ impl Checksum {
 
 /// The SROM CRC: the low 16 bits of the CRC-32 of the bytes before its place.
 pub fn srom_crc(image: &[u8], layout: Layout) -> Checksum {
-    if image.len() != IMAGE_LENGTH {
+    if !is_of_size(image, layout.size) {
         return Checksum::REFUSED;
     }
     Checksum::accepted(crc32(&image[..layout.srom_crc_offset()]) as u16)
 }
 
-/// The ID CRC: words 0 to 7 and then byte 17.
-pub fn id_crc(image: &[u8]) -> Checksum {
-    crc8(image, ID_WORDS)
-}
-
-/// The Magic Packet block's CRC: words 48 to 62 and then byte 127.
-pub fn magic_crc(image: &[u8]) -> Checksum {
-    crc8(image, MAGIC_WORDS)
-}
-
-/// The CRC-8 of these words, and then of the high byte of the next.
-fn crc8(image: &[u8], words: Range<usize>) -> Checksum {
-    if image.len() != IMAGE_LENGTH {
+/// The ID CRC of an image that should have so many bytes: words 0 to 7 and then byte 17.
+pub fn id_crc(image: &[u8], size: u16) -> Checksum {
+    if !is_of_size(image, size) {
         return Checksum::REFUSED;
     }
-    let next = word(image, words.end);
-    let register = words.fold(u8::MAX, |register, number| {
-        feed_bits(register, word(image, number), 16)
+    Checksum::accepted(crc8(image, ID_WORDS))
+}
+
+/// The Magic Packet block's CRC: all its words but the last, and then its last byte.
+pub fn magic_crc(image: &[u8], size: u16) -> Checksum {
+    if !is_of_size(image, size) {
+        return Checksum::REFUSED;
+    }
+    Checksum::accepted(crc8(magic_block(image), MAGIC_WORDS))
+}
+
+/// The CRC-8 of so many words, and then of the high byte of the next.
+fn crc8(bytes: &[u8], words: usize) -> u16 {
+    let register = (0..words).fold(u8::MAX, |register, number| {
+        feed_bits(register, word(bytes, number), 16)
     });
-    Checksum::accepted(feed_bits(register, next >> 8, 8).into())
+    feed_bits(register, word(bytes, words) >> 8, 8).into()
 }
 
 /// All 32 bits of the CRC whose low half is the SROM CRC. Each byte enters from its lowest bit.
@@ -96,8 +93,8 @@ pub fn crc32(bytes: &[u8]) -> u32 {
     !register.reverse_bits()
 }
 
-/// Lays all CRCs of the layout into an image.
-pub fn lay_crcs(image: &mut [u8; IMAGE_LENGTH], layout: Layout) {
+/// Lays all CRCs of the layout into an image of its size.
+pub fn lay_crcs(image: &mut [u8], layout: Layout) {
     lay_board_crcs(image, layout);
     if layout.magic {
         lay_magic_crc(image);
@@ -105,25 +102,26 @@ pub fn lay_crcs(image: &mut [u8; IMAGE_LENGTH], layout: Layout) {
 }
 
 /// Lays the ID CRC and then the SROM CRC, which covers it, into an image.
-pub fn lay_board_crcs(image: &mut [u8; IMAGE_LENGTH], layout: Layout) {
-    image[ID_CRC_OFFSET] = id_crc(image).value as u8;
+pub fn lay_board_crcs(image: &mut [u8], layout: Layout) {
+    image[ID_CRC_OFFSET] = id_crc(image, layout.size).value as u8;
     lay_srom_crc(image, layout);
 }
 
 /// Lays the SROM CRC into an image.
-pub fn lay_srom_crc(image: &mut [u8; IMAGE_LENGTH], layout: Layout) {
+pub fn lay_srom_crc(image: &mut [u8], layout: Layout) {
     let stored = srom_crc(image, layout).value.to_le_bytes();
     image[layout.srom_crc_offset()..layout.board_end()].copy_from_slice(&stored);
 }
 
-/// Lays the Magic Packet block's CRC into an image.
-pub fn lay_magic_crc(image: &mut [u8; IMAGE_LENGTH]) {
-    image[MAGIC_CRC_OFFSET] = magic_crc(image).value as u8;
+/// Lays the Magic Packet block's CRC into an image that ends with one.
+pub fn lay_magic_crc(image: &mut [u8]) {
+    let block = magic_block_mut(image);
+    block[CRC_OFFSET] = crc8(block, MAGIC_WORDS) as u8;
 }
 
 /// The word of that number: the byte at twice the number is its low half.
-fn word(image: &[u8], number: usize) -> u16 {
-    u16::from_le_bytes([image[2 * number], image[2 * number + 1]])
+fn word(bytes: &[u8], number: usize) -> u16 {
+    u16::from_le_bytes([bytes[2 * number], bytes[2 * number + 1]])
 }
 
 /// The CRC-8 register after the low `width` bits of `data`, the top one first.
@@ -141,7 +139,7 @@ fn feed_bits(mut register: u8, data: u16, width: u32) -> u8 {
 #[cfg(test)]
 mod tests {
     use super::*;
-    use crate::layout::LAYOUTS;
+    use crate::layout::{LAYOUTS, SIZES};
     use crate::random::Random;
 
     /// "32-bit register, all ones at first ... reversed and complemented": the check value that is
@@ -172,40 +170,50 @@ mod tests {
     /// "So byte 1 comes before byte 0": a word is fed as its high byte and then its low byte.
     #[test]
     fn high_byte_first() {
-        let image: [u8; IMAGE_LENGTH] = Random::new(1).bytes();
-        let order = [1, 0, 3, 2, 5, 4, 7, 6, 9, 8, 11, 10, 13, 12, 15, 14, 17];
-        assert_eq!(id_crc(&image), fed(&image, order));
+        for size in SIZES {
+            let image = Random::new(1).row(size.into());
+            let order = [1, 0, 3, 2, 5, 4, 7, 6, 9, 8, 11, 10, 13, 12, 15, 14, 17];
+            assert_eq!(id_crc(&image, size), fed(&image, order));
+        }
     }
 
-    /// "over words 48 to 62 and byte 127": byte 97 comes before byte 96, and byte 127 last.
+    /// "over words 48 to 62 and byte 127": byte 97 comes before byte 96, and byte 127 last; at 512
+    /// bytes the "inner offsets all move by 384".
     #[test]
     fn magic_words() {
-        let image: [u8; IMAGE_LENGTH] = Random::new(6).bytes();
-        let order = (48..=62).flat_map(|number| [2 * number + 1, 2 * number]);
-        assert_eq!(magic_crc(&image), fed(&image, order.chain([127])));
+        for (size, moved) in SIZES.into_iter().zip([0, 384]) {
+            let image = Random::new(6).row(size.into());
+            let order = (48..=62).flat_map(|number| [2 * number + 1, 2 * number]);
+            let order = order.chain([127]).map(|offset| offset + moved);
+            assert_eq!(magic_crc(&image, size), fed(&image, order));
+        }
     }
 
     /// The bytes that a CRC covers: one changed bit of any of them changes it, and no other does.
     #[test]
     fn covered_bytes() {
-        type Rule = fn(&[u8]) -> Checksum;
-        let rules: [(Rule, Vec<usize>); 4] = [
-            (|image| srom_crc(image, Layout::PLAIN), (0..126).collect()),
-            (|image| srom_crc(image, Layout::MAGIC), (0..94).collect()),
-            (id_crc, (0..16).chain([17]).collect()),
-            (magic_crc, (96..126).chain([127]).collect()),
-        ];
-        let image: [u8; IMAGE_LENGTH] = Random::new(7).bytes();
-        for (number, (crc, covered)) in rules.into_iter().enumerate() {
-            for bit in 0..8 * IMAGE_LENGTH {
-                let mut changed = image;
-                changed[bit / 8] ^= 1 << (bit % 8);
-                let differs = crc(&changed) != crc(&image);
-                assert_eq!(
-                    differs,
-                    covered.contains(&(bit / 8)),
-                    "rule {number}, bit {bit}"
-                );
+        type Rule = fn(&[u8], u16) -> Checksum;
+        let plain: Rule = |image, size| srom_crc(image, Layout::new(size, false));
+        let before_block: Rule = |image, size| srom_crc(image, Layout::new(size, true));
+        for (size, moved) in SIZES.into_iter().zip([0, 384]) {
+            let rules: [(Rule, Vec<usize>); 4] = [
+                (plain, (0..126 + moved).collect()),
+                (before_block, (0..94 + moved).collect()),
+                (id_crc, (0..16).chain([17]).collect()),
+                (
+                    magic_crc,
+                    (96 + moved..126 + moved).chain([127 + moved]).collect(),
+                ),
+            ];
+            let image = Random::new(7).row(size.into());
+            for (number, (crc, covered)) in rules.into_iter().enumerate() {
+                for bit in 0..8 * image.len() {
+                    let mut changed = image.clone();
+                    changed[bit / 8] ^= 1 << (bit % 8);
+                    let differs = crc(&changed, size) != crc(&image, size);
+                    let is_covered = covered.contains(&(bit / 8));
+                    assert_eq!(differs, is_covered, "{size}: rule {number}, bit {bit}");
+                }
             }
         }
     }
@@ -216,37 +224,45 @@ mod tests {
     #[test]
     fn register_ends_at_zero() {
         let mut random = Random::new(2);
-        for _ in 0..1_000 {
-            let mut image = random.bytes();
-            lay_crcs(&mut image, Layout::MAGIC);
-            for words in [0..9, 48..64] {
-                let register = words.fold(u8::MAX, |register, number| {
-                    feed_bits(register, word(&image, number), 16)
-                });
-                assert_eq!(register, 0, "{image:02x?}");
+        for (size, moved) in SIZES.into_iter().zip([0, 384 / 2]) {
+            for _ in 0..1_000 {
+                let mut image = random.row(size.into());
+                lay_crcs(&mut image, Layout::new(size, true));
+                for words in [0..9, 48 + moved..64 + moved] {
+                    let register = words.fold(u8::MAX, |register, number| {
+                        feed_bits(register, word(&image, number), 16)
+                    });
+                    assert_eq!(register, 0, "{image:02x?}");
+                }
             }
         }
     }
 
-    /// "126 and 127 are the SROM CRC", of which "the low 16 are stored", or "the SROM CRC at 94": the
-    /// low byte comes first, and laying the CRCs changes no byte but theirs.
+    /// "126 and 127 are the SROM CRC", of which "the low 16 are stored", or "the SROM CRC at 94", and
+    /// at 512 bytes 384 later: the low byte comes first, and laying the CRCs changes no byte but
+    /// theirs.
     #[test]
     fn laid_crcs() {
         let mut random = Random::new(3);
-        let places: [&[usize]; 2] = [&[16, 126, 127], &[16, 94, 95, 126]];
+        let places: [&[usize]; 4] = [
+            &[16, 126, 127],
+            &[16, 94, 95, 126],
+            &[16, 510, 511],
+            &[16, 478, 479, 510],
+        ];
         for (layout, places) in LAYOUTS.into_iter().zip(places) {
-            let mut changed = [false; IMAGE_LENGTH];
+            let length = usize::from(layout.size);
+            let mut changed = vec![false; length];
             for _ in 0..1_000 {
-                let before: [u8; IMAGE_LENGTH] = random.bytes();
-                let mut image = before;
+                let before = random.row(length);
+                let mut image = before.clone();
                 lay_crcs(&mut image, layout);
-                (0..IMAGE_LENGTH)
-                    .for_each(|offset| changed[offset] |= image[offset] != before[offset]);
+                (0..length).for_each(|offset| changed[offset] |= image[offset] != before[offset]);
                 let [low, high] = [image[places[1]], image[places[2]]].map(u16::from);
                 let stored = Checksum::accepted(low + 256 * high);
                 assert_eq!(srom_crc(&image, layout), stored, "{image:02x?}");
             }
-            let changed = (0..IMAGE_LENGTH).filter(|&offset| changed[offset]);
+            let changed = (0..length).filter(|&offset| changed[offset]);
             assert!(changed.eq(places.iter().copied()), "{layout:?}");
         }
     }
@@ -255,33 +271,48 @@ mod tests {
     #[test]
     fn fast_equals_bitwise() {
         let mut random = Random::new(4);
-        for _ in 0..10_000 {
-            let image: [u8; IMAGE_LENGTH] = random.bytes();
+        for round in 0..10_000 {
+            let size = SIZES[round % 2];
+            let image = random.row(size.into());
             for layout in LAYOUTS {
                 let srom_crc = srom_crc(&image, layout);
                 assert_eq!(fast::srom_crc(&image, layout), srom_crc, "{image:02x?}");
             }
-            assert_eq!(fast::id_crc(&image), id_crc(&image), "{image:02x?}");
-            assert_eq!(fast::magic_crc(&image), magic_crc(&image), "{image:02x?}");
+            for stated in SIZES {
+                let crcs = (id_crc(&image, stated), magic_crc(&image, stated));
+                let fast_crcs = (
+                    fast::id_crc(&image, stated),
+                    fast::magic_crc(&image, stated),
+                );
+                assert_eq!(fast_crcs, crcs, "{image:02x?}");
+                assert_eq!(crcs.0.number == 0, stated == size);
+            }
         }
     }
 
-    /// "1 image not 128 bytes"; "a refusal's other answer fields are 0".
+    /// "Refusal 1 means a length other than the stated size, or a stated size other than those two";
+    /// "a refusal's other answer fields are 0".
     #[test]
     fn other_lengths_are_refused() {
         let refused = Checksum {
             number: 1,
             value: 0,
         };
-        let bytes: [u8; 300] = Random::new(5).bytes();
-        for length in (0..=bytes.len()).filter(|&length| length != 128) {
+        let bytes = Random::new(5).row(600);
+        for length in 0..=bytes.len() {
             let image = &bytes[..length];
-            for call in [id_crc, magic_crc, fast::id_crc, fast::magic_crc] {
-                assert_eq!(call(image), refused, "length {length}");
-            }
-            for layout in LAYOUTS {
-                for call in [srom_crc, fast::srom_crc] {
-                    assert_eq!(call(image, layout), refused, "length {length}");
+            for stated in [length as u16, 0, 127, 128, 256, 511, 512, 513, 65_535] {
+                if length == usize::from(stated) && (length == 128 || length == 512) {
+                    continue;
+                }
+                for call in [id_crc, magic_crc, fast::id_crc, fast::magic_crc] {
+                    assert_eq!(call(image, stated), refused, "{length} as {stated}");
+                }
+                for magic in [false, true] {
+                    for call in [srom_crc, fast::srom_crc] {
+                        let answered = call(image, Layout::new(stated, magic));
+                        assert_eq!(answered, refused, "{length} as {stated}");
+                    }
                 }
             }
         }

@@ -5,25 +5,44 @@ pub mod block;
 pub(crate) mod damage;
 mod magic;
 
-use crate::crc::{ID_CRC_OFFSET, IMAGE_LENGTH, lay_board_crcs, lay_crcs, lay_srom_crc};
-use crate::layout::{LAYOUTS, Layout};
+use crate::crc::{ID_CRC_OFFSET, lay_board_crcs, lay_crcs, lay_srom_crc};
+use crate::layout::{LAYOUTS, Layout, SIZES, SMALL, magic_block_mut};
 use crate::magic::{LAST_RESERVED, RESERVED};
 use crate::random::Random;
 use crate::reader::{
-    ADDRESS_OFFSET, Arguments, CHIPS, CONTROLLERS_OFFSET, COUNT_OFFSET, NEWEST_LEVEL,
-    VERSION_OFFSET, connections, controller_offset, first_leaf, header_size, leaf, read_all,
+    ADDRESS_OFFSET, Arguments, CHIPS, CONTROLLERS_OFFSET, COUNT_OFFSET, HIGHEST_COUNT,
+    NEWEST_LEVEL, VERSION_OFFSET, connections, controller_offset, first_leaf, header_size, leaf,
+    read_all,
 };
 use block::Deck;
 
 pub use crate::sheet::TIDY_LEAF;
 pub use magic::{MAGIC_DAMAGES, MagicBlock};
 
-pub type Image = [u8; IMAGE_LENGTH];
+pub type Image = Vec<u8>;
 
 /// The refusals that one damaged field of an image or of its arguments can cause, in the reader's
-/// order: all but those for the image's length and for the arrays.
-pub const DAMAGES: [u8; 19] = [
-    2, 3, 4, 29, 30, 5, 6, 7, 8, 9, 10, 11, 13, 14, 15, 16, 17, 18, 31,
+/// order: all but that for the arrays.
+pub const DAMAGES: [u8; 20] = [
+    1, 2, 3, 4, 29, 30, 5, 6, 7, 8, 9, 10, 11, 13, 14, 15, 16, 17, 18, 31,
+];
+
+/// Those of [`DAMAGES`] that a card of this layout can meet: without a Magic Packet block none of its.
+pub fn damages(layout: Layout) -> impl Iterator<Item = u8> {
+    let is_met = move |number: &u8| layout.magic || !MAGIC_DAMAGES.contains(number);
+    DAMAGES.into_iter().filter(is_met)
+}
+
+/// Sizes to state beside those of ROMs: none, another power of two, those about a ROM's, the most.
+pub const WRONG_SIZES: [u16; 8] = [
+    0,
+    SIZES[0] - 1,
+    SIZES[0] + 1,
+    SIZES[0] * 2,
+    SIZES[1] - 1,
+    SIZES[1] + 1,
+    SIZES[1] * 2,
+    u16::MAX,
 ];
 
 /// What the header says of one controller.
@@ -82,8 +101,10 @@ impl Leaf {
 /// limit.
 #[derive(Debug, Clone)]
 pub struct Card {
-    /// The bytes that no other field claims, the ID block's among them.
+    /// The bytes that no other field claims, the ID block's among them: as many as the ROM has.
     pub private: Image,
+    /// How many bytes the image has too few or too many, zeros then behind the ROM's.
+    pub length_fault: isize,
     pub version: u8,
     pub count: u8,
     pub address: u64,
@@ -99,14 +120,15 @@ pub struct Card {
 }
 
 impl Card {
-    /// A card whose controllers have the leaves in turn, and zeros elsewhere.
+    /// A card of the smaller size whose controllers have the leaves in turn, and zeros elsewhere.
     pub fn new(controllers: usize, leaves: Vec<Leaf>) -> Self {
         let controller = |index: usize| Controller {
             device: index as u8,
             leaf_offset: leaves[index % leaves.len()].offset as u16,
         };
         Self {
-            private: [0; IMAGE_LENGTH],
+            private: vec![0; SMALL.into()],
+            length_fault: 0,
             version: 4,
             count: controllers as u8,
             address: 0x0800_2B00_0000,
@@ -125,16 +147,28 @@ impl Card {
         Self::new(1, vec![Leaf::new(TIDY_LEAF, chip, connection, blocks)])
     }
 
-    pub fn layout(&self) -> Layout {
-        Layout {
-            magic: self.magic.is_some(),
+    /// The same card with a ROM of another size.
+    pub fn sized(mut self, size: u16) -> Self {
+        self.private.resize(size.into(), 0);
+        self
+    }
+
+    /// The same card in a layout, with any right Magic Packet block where it has one.
+    pub fn laid_out(self, random: &mut Random, layout: Layout) -> Self {
+        Self {
+            magic: MagicBlock::of_layout(random, layout),
+            ..self.sized(layout.size)
         }
+    }
+
+    pub fn layout(&self) -> Layout {
+        Layout::new(self.private.len() as u16, self.magic.is_some())
     }
 
     /// The image, with its CRCs mended but for their faults.
     pub fn image(&self) -> Image {
         let layout = self.layout();
-        let mut image = self.private;
+        let mut image = self.private.clone();
         image[VERSION_OFFSET] = self.version;
         image[COUNT_OFFSET] = self.count;
         image[ADDRESS_OFFSET..CONTROLLERS_OFFSET].copy_from_slice(&self.address.to_be_bytes()[2..]);
@@ -164,19 +198,21 @@ impl Card {
         if let Some(block) = &self.magic {
             block.lay(&mut image);
         }
+        image.resize(image.len().saturating_add_signed(self.length_fault), 0);
         image
     }
 
     /// A random card of one chip that the newest reader accepts for every controller.
     pub fn valid(random: &mut Random, chip: u16, layout: Layout) -> Self {
-        let most = (layout.leaf_limit() - header_size(chip) - first_leaf(0)) / 3;
-        let controllers = match random.below(10) {
-            0..5 => 1,
-            5..9 => 2 + random.below(3),
-            _ => 1 + random.below(most),
+        let most = layout.most_beside(header_size(chip));
+        let controllers = match random.below(20) {
+            0..10 => 1,
+            10..18 => 2 + random.below(3),
+            18 => 1 + random.below(most),
+            _ => most,
         };
         let leaves = leaves(random, chip, controllers, layout);
-        let mut card = Self::new(controllers, leaves);
+        let mut card = Self::new(controllers, leaves).sized(layout.size);
         for controller in &mut card.controllers {
             controller.device = random.byte();
             if random.one_in(4) {
@@ -186,7 +222,7 @@ impl Card {
         card.version = random.pick(&[3, 4]);
         card.address = address(random, controllers);
         if random.one_in(2) {
-            card.private = random.bytes();
+            card.private = random.row(layout.size.into());
             card.maker = random.bytes();
         }
         card.magic = MagicBlock::of_layout(random, layout);
@@ -199,14 +235,10 @@ impl Card {
         Self::tidy(21041, 0x0800, (0..count).map(&mut media).collect())
     }
 
-    /// The longest leaf: one-byte blocks from its first place to its last.
+    /// The leaf with the most blocks: one byte each, from the first place on.
     pub fn longest(random: &mut Random, layout: Layout) -> Self {
-        let places = layout.leaf_limit() - TIDY_LEAF - header_size(21041);
-        let leaf = Self::one_byte_blocks(random, places);
-        Self {
-            magic: MagicBlock::of_layout(random, layout),
-            ..leaf
-        }
+        let card = Self::one_byte_blocks(random, layout.most_blocks());
+        card.laid_out(random, layout)
     }
 
     /// A card whose header is right and whose leaf holds any bytes, with the starts of blocks among
@@ -234,7 +266,7 @@ impl Card {
         let last = layout.leaf_limit() - header_size(chip);
         let offset = first + random.below(last - first + 1);
         let mut bytes = Vec::new();
-        while bytes.len() < IMAGE_LENGTH {
+        while bytes.len() < layout.size.into() {
             match random.below(6) {
                 0 => bytes.extend(random.pick(&STARTS)),
                 1 => bytes.push(random.byte()),
@@ -246,10 +278,12 @@ impl Card {
         bytes.splice(..start.len(), start.iter().copied());
         let connection = connection(random, chip);
         let mut leaf = Leaf::new(offset, chip, connection, vec![bytes]);
-        leaf.count = random.below(8) as u8;
-        let mut card = Self::new(controllers, vec![leaf]);
+        leaf.count = match random.below(8) {
+            0 => random.byte(),
+            _ => random.below(8) as u8,
+        };
+        let mut card = Self::new(controllers, vec![leaf]).laid_out(random, layout);
         card.address = address(random, controllers);
-        card.magic = MagicBlock::of_layout(random, layout);
         card
     }
 }
@@ -257,7 +291,7 @@ impl Card {
 /// Random bytes with the CRCs of a layout, and mostly with a version, a controller count and zeros
 /// in the reserved bytes of its Magic Packet block.
 pub fn random_image(random: &mut Random, layout: Layout) -> Image {
-    let mut image = random.bytes();
+    let mut image = random.row(layout.size.into());
     if !random.one_in(8) {
         image[VERSION_OFFSET] = random.pick(&[3, 4]);
     }
@@ -267,8 +301,9 @@ pub fn random_image(random: &mut Random, layout: Layout) -> Image {
         image[controller_offset(count)] = 0;
     }
     if layout.magic && !random.one_in(8) {
-        image[RESERVED].fill(0);
-        image[LAST_RESERVED] = 0;
+        let block = magic_block_mut(&mut image);
+        block[RESERVED].fill(0);
+        block[LAST_RESERVED] = 0;
     }
     lay_crcs(&mut image, layout);
     image
@@ -277,7 +312,7 @@ pub fn random_image(random: &mut Random, layout: Layout) -> Image {
 /// The image without one block of the leaf that the arguments name, its CRCs mended; none where
 /// the reader refuses the image or there is no such block.
 pub fn without_block(image: &[u8], arguments: Arguments, number: usize) -> Option<Image> {
-    let mut image: Image = image.try_into().ok()?;
+    let mut image = image.to_vec();
     let (header, blocks) = leaf(&image, arguments, usize::MAX).ok()?;
     let block = blocks.get(number)?;
     let limit = arguments.layout.leaf_limit();
@@ -318,10 +353,10 @@ impl Sample {
         }
     }
 
-    /// A card of any layout with a power block that the newest reader accepts, and such a reader.
-    pub fn powered(random: &mut Random) -> Self {
+    /// A card of one layout with a power block that the newest reader accepts, and such a reader.
+    pub fn powered_in(random: &mut Random, layout: Layout) -> Self {
         loop {
-            let sample = Self::valid(random);
+            let sample = Self::valid_in(random, layout);
             let (answer, _) = read_all(&sample.card.image(), sample.arguments);
             if answer.power > 0 {
                 return sample;
@@ -338,7 +373,7 @@ impl Sample {
         }
     }
 
-    /// The card with the longest leaf of a layout, and the newest reader of it.
+    /// The card whose leaf has the most blocks of a layout, and the newest reader of it.
     pub fn longest(random: &mut Random, layout: Layout) -> Self {
         Self {
             card: Card::longest(random, layout),
@@ -349,8 +384,16 @@ impl Sample {
     /// A valid sample in which one field is damaged so that a reader of its level refuses it with
     /// this number, one of [`DAMAGES`].
     pub fn damaged(random: &mut Random, number: u8) -> Self {
+        let layout = random.pick(&LAYOUTS);
+        // Only a layout with a Magic Packet block can have it damaged.
+        let magic = layout.magic || MAGIC_DAMAGES.contains(&number);
+        Self::damaged_in(random, number, Layout { magic, ..layout })
+    }
+
+    /// The same for one layout.
+    pub fn damaged_in(random: &mut Random, number: u8, layout: Layout) -> Self {
         loop {
-            let mut sample = Self::valid(random);
+            let mut sample = Self::valid_in(random, layout);
             if random.one_in(3) {
                 sample.arguments.level = level(random);
             }
@@ -361,11 +404,11 @@ impl Sample {
     }
 }
 
-/// One shared leaf, or own leaves for up to four controllers, anywhere in the places there are.
+/// One shared leaf, or own leaves for up to eight controllers, anywhere in the places there are.
 fn leaves(random: &mut Random, chip: u16, controllers: usize, layout: Layout) -> Vec<Leaf> {
     let (first, header) = (first_leaf(controllers), header_size(chip));
     let places = layout.leaf_limit() - first;
-    let most = controllers.min(4).min(places / header);
+    let most = controllers.min(8).min(places / header);
     let number = if random.one_in(2) { 1 } else { most };
     let share = places / number;
     let leaf = |index| {
@@ -386,14 +429,22 @@ fn leaves(random: &mut Random, chip: u16, controllers: usize, layout: Layout) ->
 }
 
 /// Random blocks that may stand together and fill no more than the room: a few, as many as are
-/// drawn before one does not fit, or so many that no place is left.
+/// drawn before one does not fit, or so many that no place is left; and never more than a count can
+/// name. Now and then the first of them are the smallest that there are.
 pub(crate) fn blocks(random: &mut Random, chip: u16, room: usize) -> Vec<Vec<u8>> {
     let mut deck = Deck::new(random, chip);
     let few = random.below(6);
     let fills = random.one_in(3);
     let mut left = room;
     let mut blocks = Vec::new();
-    while fills || blocks.len() < few {
+    let rarity = if chip == 21041 { 4 } else { 16 };
+    if fills && random.one_in(rarity) {
+        let any = random.below(HIGHEST_COUNT + 1);
+        let most = random.pick(&[any, HIGHEST_COUNT]);
+        blocks.extend(block::smallest(random, chip, left).take(most));
+        left -= blocks.iter().map(Vec::len).sum::<usize>();
+    }
+    while (fills || blocks.len() < few) && blocks.len() < HIGHEST_COUNT {
         let block = deck.draw(random);
         if block.len() > left {
             break;
@@ -402,7 +453,10 @@ pub(crate) fn blocks(random: &mut Random, chip: u16, room: usize) -> Vec<Vec<u8>
         blocks.push(block);
     }
     if fills && random.one_in(2) {
-        blocks.extend(block::filling(random, chip, left));
+        let more = block::filling(random, chip, left);
+        if blocks.len() + more.len() <= HIGHEST_COUNT {
+            blocks.extend(more);
+        }
     }
     blocks
 }
@@ -428,21 +482,23 @@ pub(crate) fn address(random: &mut Random, controllers: usize) -> u64 {
 #[cfg(test)]
 mod tests {
     use super::*;
-    use crate::reader::{Answer, MEDIA_21041, MOST_BLOCKS, NO_DEFAULT, read};
+    use crate::layout::LARGE;
+    use crate::reader::{Answer, MEDIA_21041, NO_DEFAULT, read};
 
     fn answer(sample: &Sample) -> Answer {
         read_all(&sample.card.image(), sample.arguments).0
     }
 
     /// "Reading accepts exactly the images" that the format permits: so every valid card, for each
-    /// of its controllers, at each level; and in either layout each kind of block occurs in the
+    /// of its controllers, at each level; and in each layout each kind of block occurs in the
     /// table.
     #[test]
     fn valid_cards_are_accepted() {
         let mut random = Random::new(1);
-        let mut met = [[0; 7]; 2];
-        for _ in 0..12_000 {
-            let mut sample = Sample::valid(&mut random);
+        let mut met = [[0; 8]; 4];
+        for round in 0..24_000 {
+            let index = round % LAYOUTS.len();
+            let mut sample = Sample::valid_in(&mut random, LAYOUTS[index]);
             let newest = answer(&sample);
             assert_eq!(newest.number, 0, "{sample:02x?}");
             let layout = sample.arguments.layout;
@@ -455,8 +511,9 @@ mod tests {
                 newest.power.into(),
                 usize::from(newest.power > 1),
                 sample.card.leaves.iter().any(ends_last).into(),
+                usize::from(sample.card.controllers.len() > 4),
             ];
-            for (met, often) in met[usize::from(layout.magic)].iter_mut().zip(often) {
+            for (met, often) in met[index].iter_mut().zip(often) {
                 *met += often;
             }
             for controller in 0..sample.card.count {
@@ -473,23 +530,84 @@ mod tests {
             "power blocks",
             "leaves with two power blocks",
             "last places",
+            "cards with many controllers",
         ];
         for (layout, often) in LAYOUTS.into_iter().zip(met) {
             for (name, often) in names.into_iter().zip(often) {
-                assert!(often > 400, "{layout:?}: only {often} {name}");
+                assert!(often > 300, "{layout:?}: only {often} {name}");
             }
         }
     }
 
-    /// "its cause met and no earlier cause": each damage is refused with its own number.
+    /// "Blocks rise to 255", "the controller count is at most 32 in both layouts": cards of the larger
+    /// size have leaves and blocks behind byte 255, leaves that several controllers share, leaves of
+    /// more blocks than 128 bytes can hold up to 255, and 32 controllers.
+    #[test]
+    fn large_cards() {
+        let mut random = Random::new(6);
+        let mut met = [0; 5];
+        for _ in 0..8_000 {
+            let magic = random.one_in(2);
+            let sample = Sample::valid_in(&mut random, Layout::new(LARGE, magic));
+            let (answer, entries) = read_all(&sample.card.image(), sample.arguments);
+            assert_eq!(answer.number, 0, "{sample:02x?}");
+            let offsets = sample.card.controllers.iter().map(|it| it.leaf_offset);
+            let mut offsets: Vec<_> = offsets.collect();
+            let all = offsets.len();
+            offsets.sort();
+            offsets.dedup();
+            let has = [
+                offsets.iter().any(|&offset| offset > 255) && offsets.len() < all,
+                entries.iter().any(|&(_, offset)| offset > 255),
+                usize::from(answer.blocks) > Layout::PLAIN.most_blocks(),
+                answer.blocks == 255,
+                all == 32,
+            ];
+            met.iter_mut()
+                .zip(has)
+                .for_each(|(met, has)| *met += usize::from(has));
+        }
+        assert!(met.iter().all(|&often| often > 20), "{met:?}");
+    }
+
+    /// "its cause met and no earlier cause": each damage is refused with its own number, in each
+    /// layout.
     #[test]
     fn damages_are_refused() {
         let mut random = Random::new(2);
-        for number in DAMAGES {
-            for _ in 0..500 {
-                let sample = Sample::damaged(&mut random, number);
-                assert_eq!(answer(&sample).number, number, "{sample:02x?}");
+        for layout in LAYOUTS {
+            for number in damages(layout) {
+                for _ in 0..250 {
+                    let sample = Sample::damaged_in(&mut random, number, layout);
+                    assert_eq!(answer(&sample).number, number, "{sample:02x?}");
+                }
             }
+        }
+    }
+
+    /// "a length other than the stated size, or a stated size other than those two": damage 1 meets
+    /// either and both, with the other size's images and statements among them.
+    #[test]
+    fn damaged_sizes() {
+        let mut random = Random::new(7);
+        for layout in LAYOUTS {
+            let mut met = [0; 5];
+            for _ in 0..1_000 {
+                let sample = Sample::damaged_in(&mut random, 1, layout);
+                let (length, stated) = (sample.card.image().len(), sample.arguments.layout.size);
+                let is_served = SIZES.contains(&stated);
+                let has = [
+                    is_served && SIZES.map(usize::from).contains(&length),
+                    is_served && stated == layout.size,
+                    !is_served && length == stated.into(),
+                    !is_served && length == layout.size.into(),
+                    stated == 256 && length == 256,
+                ];
+                met.iter_mut()
+                    .zip(has)
+                    .for_each(|(met, has)| *met += usize::from(has));
+            }
+            assert!(met.iter().all(|&often| often > 10), "{layout:?}: {met:?}");
         }
     }
 
@@ -506,7 +624,7 @@ mod tests {
                     continue;
                 }
                 let mut met = 0;
-                while met < 30 {
+                while met < 40 {
                     let mut sample = Sample::damaged(&mut random, later);
                     if sample.damage(&mut random, first) {
                         assert_eq!(answer(&sample).number, first, "{later}: {sample:02x?}");
@@ -531,7 +649,7 @@ mod tests {
             let magic = MagicBlock::of_layout(&mut random, layout);
             let arguments = Arguments::newest(21143).laid_out(layout);
             let image = |blocks: &[Vec<u8>]| {
-                let mut card = Card::tidy(21143, 0x0800, blocks.to_vec());
+                let mut card = Card::tidy(21143, 0x0800, blocks.to_vec()).sized(layout.size);
                 card.private[..18].copy_from_slice(&private);
                 card.magic = magic;
                 card.image()
@@ -543,18 +661,19 @@ mod tests {
                 assert_eq!(lost, Some(image(&others)));
             }
             assert_eq!(without_block(&image(&blocks), arguments, 3), None);
-            assert_eq!(without_block(&[0; 128], arguments, 0), None);
+            let nothing = vec![0; layout.size.into()];
+            assert_eq!(without_block(&nothing, arguments, 0), None);
         }
     }
 
-    /// "at most 91 blocks": the longest leaf is accepted, every place listed from the last. With a
-    /// Magic Packet block "leaves end before 92".
+    /// "at most 91 blocks": the leaf with the most is accepted, every place listed from the last. With
+    /// a Magic Packet block "leaves end before 92". At 512 bytes "Blocks rise to 255".
     #[test]
     fn longest_leaf() {
-        for (layout, last) in LAYOUTS.into_iter().zip([123, 91]) {
+        for (layout, last) in LAYOUTS.into_iter().zip([123, 91, 32 + 255, 32 + 255]) {
             let mut sample = Sample::longest(&mut Random::new(4), layout);
             sample.arguments.level = 0;
-            let (mut kinds, mut offsets) = ([0; MOST_BLOCKS], [0; MOST_BLOCKS]);
+            let (mut kinds, mut offsets) = ([0; HIGHEST_COUNT], [0; HIGHEST_COUNT]);
             let image = sample.card.image();
             let answer = read(&image, sample.arguments, &mut kinds, &mut offsets);
             let listed = usize::from(answer.listed);

@@ -43,16 +43,22 @@ impl Random {
 
     /// A row of so many random bytes.
     pub fn row(&mut self, length: usize) -> Vec<u8> {
-        (0..length).map(|_| self.byte()).collect()
+        let mut row = vec![0; length];
+        self.fill(&mut row);
+        row
     }
 
     /// So many random bytes.
     pub fn bytes<const LENGTH: usize>(&mut self) -> [u8; LENGTH] {
         let mut bytes = [0; LENGTH];
+        self.fill(&mut bytes);
+        bytes
+    }
+
+    fn fill(&mut self, bytes: &mut [u8]) {
         for chunk in bytes.chunks_mut(8) {
             chunk.copy_from_slice(&self.bits().to_le_bytes()[..chunk.len()]);
         }
-        bytes
     }
 }
 

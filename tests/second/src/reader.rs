@@ -1,11 +1,11 @@
 //! Reading an image: the header, the blocks of one leaf, the table and the block view (document 01,
 //! from "The image" to "Levels and the table"; document 02, request 1, for the layout with a Magic
-//! Packet block, and request 3, for the power blocks).
+//! Packet block, request 3, for the power blocks, and request 6, for the ROM's size).
 
 pub mod fast;
 
-use crate::crc::{self, ID_CRC_OFFSET, IMAGE_LENGTH};
-use crate::layout::Layout;
+use crate::crc::{self, ID_CRC_OFFSET};
+use crate::layout::{Layout, is_of_size};
 use crate::magic;
 use std::fmt;
 
@@ -29,9 +29,6 @@ pub const RESET: u16 = 5;
 
 /// The extended type of a sequence for power states, which shuts the PHY down.
 pub const POWER: u16 = 6;
-
-/// The most blocks that an accepted leaf can hold: one byte each, from the first place to the last.
-pub const MOST_BLOCKS: usize = 91;
 
 /// The most blocks that a count can name: arrays of so many elements are never too short.
 pub const HIGHEST_COUNT: usize = 255;
@@ -71,8 +68,8 @@ const CONNECTIONS_21140: [u16; 19] = [
 /// 10Base5, which the 21142 and the later chips have beside the 21140's connection types.
 const AUI: u16 = 0x0002;
 
-/// Whose leaf is read, for which chip, how many extended types the reader knows, and how the image
-/// is laid out. The library's C interface has the same layout.
+/// Whose leaf is read, for which chip, how many extended types the reader knows, and what size and
+/// layout the image should have. The library's C interface has the same layout.
 #[repr(C)]
 #[derive(Debug, Clone, Copy, PartialEq, Eq)]
 pub struct Arguments {
@@ -83,7 +80,7 @@ pub struct Arguments {
 }
 
 impl Arguments {
-    /// The newest reader, for the first controller of an image without a Magic Packet block.
+    /// The newest reader, for the first controller of the smaller ROM without a Magic Packet block.
     pub const fn newest(chip: u16) -> Self {
         Self::at_level(chip, NEWEST_LEVEL)
     }
@@ -102,17 +99,38 @@ impl Arguments {
     pub const fn laid_out(self, layout: Layout) -> Self {
         Self { layout, ..self }
     }
+
+    /// As a record of the test programs holds them: chip and stated size are words, low byte first.
+    pub fn bytes(self) -> [u8; 7] {
+        let [low, high] = self.chip.to_le_bytes();
+        let [size_low, size_high] = self.layout.size.to_le_bytes();
+        let magic = self.layout.magic.into();
+        [
+            low,
+            high,
+            self.controller,
+            self.level,
+            size_low,
+            size_high,
+            magic,
+        ]
+    }
 }
 
-/// Chip, controller, level and whether there is a Magic Packet block (0 or 1), as the words of a
-/// command.
+/// Chip, controller, level, stated size and whether there is a Magic Packet block (0 or 1), as the
+/// words of a command.
 impl fmt::Display for Arguments {
     fn fmt(&self, to: &mut fmt::Formatter<'_>) -> fmt::Result {
-        let magic = u8::from(self.layout.magic);
+        let Self {
+            chip,
+            controller,
+            level,
+            layout: Layout { size, magic },
+        } = self;
         write!(
             to,
-            "{} {} {} {magic}",
-            self.chip, self.controller, self.level
+            "{chip} {controller} {level} {size} {}",
+            u8::from(*magic)
         )
     }
 }
@@ -341,12 +359,12 @@ pub fn header_size(chip: u16) -> usize {
 
 /// Where the header speaks of a controller: its device number, and then its leaf's offset. After the
 /// last one stands the reserved byte.
-pub fn controller_offset(controller: usize) -> usize {
+pub const fn controller_offset(controller: usize) -> usize {
     CONTROLLERS_OFFSET + CONTROLLER_SIZE * controller
 }
 
 /// The first place where a leaf may start: after the controllers and the reserved byte.
-pub fn first_leaf(controllers: usize) -> usize {
+pub const fn first_leaf(controllers: usize) -> usize {
     controller_offset(controllers) + 1
 }
 
@@ -374,15 +392,15 @@ pub(crate) fn leaf(
 
 /// Causes 1 to 4, and then those of the Magic Packet block, 29 and 30, where there is one.
 fn frame(image: &[u8], layout: Layout) -> Result<(), Refusal> {
-    refuse_if(image.len() != IMAGE_LENGTH, Refusal::ImageLength)?;
+    refuse_if(!is_of_size(image, layout.size), Refusal::ImageLength)?;
     refuse_if(!is_version(image), Refusal::Version)?;
     let srom_crc = crc::srom_crc(image, layout).value;
     let stored = word(image, layout.srom_crc_offset());
     refuse_if(srom_crc != stored, Refusal::SromCrc)?;
-    let id_crc = crc::id_crc(image).value;
+    let id_crc = crc::id_crc(image, layout.size).value;
     refuse_if(id_crc != image[ID_CRC_OFFSET].into(), Refusal::IdCrc)?;
     if layout.magic {
-        magic::judge(image, crc::magic_crc(image))?;
+        magic::judge(image, crc::magic_crc(image, layout.size))?;
     }
     Ok(())
 }

@@ -1,14 +1,15 @@
 //! The sheet, its writer and its maker (document 01, "The sheet"; document 02, request 1, for the
-//! layout with a Magic Packet block), with a plain record between the sheet's bytes and the image's.
+//! layout with a Magic Packet block, and request 6, by which sheets keep to the smaller ROM), with a
+//! plain record between the sheet's bytes and the image's.
 
 pub mod fast;
 
-use crate::crc::{ID_LAST_OFFSET, IMAGE_LENGTH, lay_board_crcs};
-use crate::layout::Layout;
+use crate::crc::{ID_LAST_OFFSET, lay_board_crcs};
+use crate::layout::{Layout, SMALL, is_of_size};
 use crate::reader::{
     ADDRESS_OFFSET, Arguments, CHIPS, COMPACT, CONTROLLERS_OFFSET, COUNT_OFFSET, EXT, EXTENDED,
-    MEDIA_21041, MOST_BLOCKS, Refusal, VERSION_OFFSET, field, first_block, header_size, kind, leaf,
-    refuse_if, word,
+    MEDIA_21041, Refusal, VERSION_OFFSET, field, first_block, header_size, kind, leaf, refuse_if,
+    word,
 };
 
 /// Where the writer puts the leaf, and where a tidy image has it.
@@ -27,11 +28,11 @@ pub const CONTROL: usize = 31;
 pub const MAKER: usize = 32;
 pub const KINDS: usize = 34;
 
-/// The longest body of an extended block: its length byte counts the type too.
-pub const LONGEST_BODY: usize = 126;
+/// The longest body of an extended block: its length, of seven bits, counts the type too.
+pub const LONGEST_BODY: usize = !EXTENDED as usize - 1;
 
 /// The longest sheet of an accepted image: as many blocks as a leaf can hold, of one byte each.
-pub const LONGEST_SHEET: usize = KINDS + 3 * MOST_BLOCKS + MOST_BLOCKS;
+pub const LONGEST_SHEET: usize = KINDS + 4 * Layout::PLAIN.most_blocks();
 
 /// What the sheet maker answers: number 0 and the sheet's length, or the refusal's number and 0.
 /// The library's C interface has the same layout.
@@ -87,9 +88,15 @@ pub fn make(image: &[u8], chip: u16, layout: Layout, buffer: &mut [u8]) -> Made 
     }
 }
 
-fn try_write(sheet: &[u8], layout: Layout, output: &[u8]) -> Result<[u8; IMAGE_LENGTH], Refusal> {
+/// Whether sheets are of such images: "Sheets and their writer keep to 128 bytes for now" (document
+/// 02, request 6).
+pub(crate) fn is_served(image: &[u8], layout: Layout) -> bool {
+    layout.size == SMALL && is_of_size(image, layout.size)
+}
+
+fn try_write(sheet: &[u8], layout: Layout, output: &[u8]) -> Result<Vec<u8>, Refusal> {
     let record = Record::of_sheet(sheet).ok_or(Refusal::SheetLengthOrSum)?;
-    let mut image = output.try_into().map_err(|_| Refusal::ImageLength)?;
+    refuse_if(!is_served(output, layout), Refusal::ImageLength)?;
     refuse_if(!CHIPS.contains(&record.chip), Refusal::Chip)?;
     refuse_if(record.has_wrong_form(), Refusal::KindOrBody)?;
     let leaf_bytes = record.leaf();
@@ -97,6 +104,7 @@ fn try_write(sheet: &[u8], layout: Layout, output: &[u8]) -> Result<[u8; IMAGE_L
         TIDY_LEAF + leaf_bytes.len() > layout.leaf_limit(),
         Refusal::LeafPastLimit,
     )?;
+    let mut image = output.to_vec();
     record.lay(&leaf_bytes, layout, &mut image);
     let newest = Arguments::newest(record.chip).laid_out(layout);
     leaf(&image, newest, usize::MAX)?;
@@ -109,6 +117,7 @@ fn try_make(
     layout: Layout,
     buffer_length: usize,
 ) -> Result<Vec<u8>, Refusal> {
+    refuse_if(!is_served(image, layout), Refusal::ImageLength)?;
     let newest = Arguments::newest(chip).laid_out(layout);
     let (header, blocks) = leaf(image, newest, usize::MAX)?;
     let start = header.first_block - header_size(chip);
@@ -204,7 +213,7 @@ impl Record {
 
     /// "The writer makes n = 1, the leaf at 30, both CRCs, and zeros elsewhere", which is the board's
     /// part of the image.
-    fn lay(&self, leaf: &[u8], layout: Layout, image: &mut [u8; IMAGE_LENGTH]) {
+    fn lay(&self, leaf: &[u8], layout: Layout, image: &mut [u8]) {
         image[..layout.board_end()].fill(0);
         image[..16].copy_from_slice(&self.id[..16]);
         image[ID_LAST_OFFSET] = self.id[16];

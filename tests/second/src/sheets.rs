@@ -4,13 +4,15 @@
 mod damage;
 pub mod tidy;
 
-use crate::images::{self, Card, Controller, Image, Leaf, MagicBlock, TIDY_LEAF, block};
-use crate::layout::Layout;
+use crate::images::{
+    self, Card, Controller, Image, Leaf, MagicBlock, TIDY_LEAF, WRONG_SIZES, block,
+};
+use crate::layout::{LARGE, Layout, SMALL};
 use crate::random::Random;
 use crate::reader::{CHIPS, COMPACT, header_size};
 
 /// The refusals that one damaged field of a sheet can cause, in the writer's order: all but the one
-/// for the image's length.
+/// for the output's size.
 pub const SHEET_DAMAGES: [u8; 12] = [24, 7, 25, 26, 2, 11, 14, 15, 16, 17, 18, 31];
 
 /// All that a sheet says. The counts, sizes and sums are laid as the blocks have them.
@@ -85,8 +87,8 @@ impl Sheet {
         card
     }
 
-    /// A random sheet of any chip that the writer accepts in a layout, once in a while the one with
-    /// the most blocks.
+    /// A random sheet of any chip that the writer accepts in a layout that sheets are of, once in a
+    /// while the one with the most blocks.
     pub fn valid(random: &mut Random, layout: Layout) -> Self {
         let chip = random.pick(&CHIPS);
         let room = layout.leaf_limit() - TIDY_LEAF - header_size(chip);
@@ -182,11 +184,28 @@ impl Sheet {
 
 /// An image to write a sheet to: any bytes, and a right Magic Packet block where the layout has one.
 pub fn output(random: &mut Random, layout: Layout) -> Image {
-    let mut image = random.bytes();
+    let mut image = random.row(layout.size.into());
     if let Some(block) = MagicBlock::of_layout(random, layout) {
         block.lay(&mut image);
     }
     image
+}
+
+/// An output that no sheet is written to, with what is stated of it: another length, another stated
+/// size, or both, often the larger ROM as it should be.
+pub fn unserved(random: &mut Random, magic: bool) -> (Layout, Image) {
+    if random.one_in(3) {
+        let layout = Layout::new(LARGE, magic);
+        return (layout, output(random, layout));
+    }
+    loop {
+        let sizes = [random.pick(&WRONG_SIZES), SMALL, LARGE];
+        let (stated, length) = (random.pick(&sizes), random.pick(&sizes));
+        if (stated, length) != (SMALL, SMALL) {
+            let length = usize::from(length).min(2 * usize::from(LARGE));
+            return (Layout::new(stated, magic), random.row(length));
+        }
+    }
 }
 
 /// Kind and body of a whole block.
@@ -200,7 +219,7 @@ fn body(block: &[u8], chip: u16) -> (u16, Vec<u8>) {
 mod tests {
     use super::*;
     use crate::images::MAGIC_DAMAGES;
-    use crate::layout::LAYOUTS;
+    use crate::layout::SHEET_LAYOUTS;
     use crate::sheet::write;
 
     /// "Writing a sheet": each valid sheet is accepted, with the image that the builder of images
@@ -208,12 +227,12 @@ mod tests {
     #[test]
     fn valid_sheets_are_accepted() {
         let mut random = Random::new(1);
-        for layout in LAYOUTS {
+        for layout in SHEET_LAYOUTS {
             let mut last_places = 0;
             for _ in 0..10_000 {
                 let sheet = Sheet::valid(&mut random, layout);
                 let magic = MagicBlock::of_layout(&mut random, layout);
-                let mut image = random.bytes();
+                let mut image = random.row(layout.size.into());
                 if let Some(block) = magic {
                     block.lay(&mut image);
                 }
@@ -228,6 +247,27 @@ mod tests {
         }
     }
 
+    /// "Sheets and their writer keep to 128 bytes", "24 sheet length or sum, then 1": an output that is
+    /// not served is refused with 1 whatever else is wrong, but for 24.
+    #[test]
+    fn outputs_that_are_not_served() {
+        let mut random = Random::new(5);
+        for number in [0].into_iter().chain(SHEET_DAMAGES) {
+            for round in 0..400 {
+                let layout = SHEET_LAYOUTS[round % 2];
+                let sheet = match number {
+                    0 => Sheet::valid(&mut random, layout).bytes(),
+                    _ => Sheet::damaged(&mut random, number, layout),
+                };
+                let (stated, before) = unserved(&mut random, layout.magic);
+                let mut image = before.clone();
+                let expected = if number == 24 { 24 } else { 1 };
+                assert_eq!(write(&sheet, stated, &mut image), expected, "{stated:?}");
+                assert_eq!(image, before, "{stated:?}");
+            }
+        }
+    }
+
     /// "its cause met and no earlier cause ... image unchanged": each damage is refused with its
     /// own number.
     #[test]
@@ -235,10 +275,10 @@ mod tests {
         let mut random = Random::new(2);
         for number in SHEET_DAMAGES {
             for round in 0..1_000 {
-                let layout = LAYOUTS[round % 2];
+                let layout = SHEET_LAYOUTS[round % 2];
                 let sheet = Sheet::damaged(&mut random, number, layout);
                 let before = output(&mut random, layout);
-                let mut image = before;
+                let mut image = before.clone();
                 assert_eq!(write(&sheet, layout, &mut image), number, "{sheet:02x?}");
                 assert_eq!(image, before, "{sheet:02x?}");
             }
@@ -255,7 +295,7 @@ mod tests {
                 if first >= 14 && first != 25 && first != 26 && later < 18 {
                     continue;
                 }
-                for layout in LAYOUTS {
+                for layout in SHEET_LAYOUTS {
                     meets_first(&mut random, first, later, layout);
                 }
             }
@@ -291,14 +331,14 @@ mod tests {
                         0 => Sheet::valid(&mut random, Layout::MAGIC).bytes(),
                         _ => Sheet::damaged(&mut random, number, Layout::MAGIC),
                     };
-                    let mut output = random.bytes();
+                    let mut output = output(&mut random, Layout::MAGIC);
                     MagicBlock::damaged(&mut random, block).lay(&mut output);
                     let expected = if before.contains(&number) {
                         number
                     } else {
                         block
                     };
-                    let mut image = output;
+                    let mut image = output.clone();
                     let answered = write(&sheet, Layout::MAGIC, &mut image);
                     assert_eq!(answered, expected, "{block} and {number}: {sheet:02x?}");
                     assert_eq!(image, output);

@@ -65,28 +65,37 @@ pub fn number(word: &str) -> usize {
     }
 }
 
-/// The bytes of a list: numbers with `∷` between them, `replicate n x` and `++`; `n / 256` and `n % 256` are the bytes of a
-/// word.
+/// The bytes of a list, as [`numbers`] has them.
 pub fn bytes(list: &str) -> Vec<u8> {
-    let mut bytes = Vec::new();
+    let byte = |number: usize| number.try_into().unwrap();
+    numbers(list).into_iter().map(byte).collect()
+}
+
+/// The numbers of a list: numbers with `∷` between them, `replicate n x` and `++`; a number may be a sum or a difference, and `n
+/// / 256` and `n % 256` are the bytes of a word.
+pub fn numbers(list: &str) -> Vec<usize> {
+    let mut numbers = Vec::new();
     let words = list.replace(['(', ')', ';'], " ");
-    let mut words = words.split_whitespace();
+    let mut words = words.split_whitespace().peekable();
     while let Some(word) = words.next() {
         let mut next = || number(words.next().unwrap());
         match word {
             "∷" | "[]" | "++" => {}
             "replicate" => {
-                let count = next();
-                let value = next();
-                bytes.extend(vec![value; count]);
+                let mut count = next();
+                if words.next_if_eq(&"-").is_some() {
+                    count -= number(words.next().unwrap());
+                }
+                let value = number(words.next().unwrap());
+                numbers.extend(vec![value; count]);
             }
-            "/" => *bytes.last_mut().unwrap() /= next(),
-            "%" => *bytes.last_mut().unwrap() %= next(),
-            _ => bytes.push(number(word)),
+            "/" => *numbers.last_mut().unwrap() /= next(),
+            "%" => *numbers.last_mut().unwrap() %= next(),
+            "+" => *numbers.last_mut().unwrap() += next(),
+            _ => numbers.push(number(word)),
         }
     }
-    let byte = |number: usize| number.try_into().unwrap();
-    bytes.into_iter().map(byte).collect()
+    numbers
 }
 
 /// A list, with each of these names in it, and the arguments behind it, replaced by what the text defines under it in one
@@ -94,7 +103,8 @@ pub fn bytes(list: &str) -> Vec<u8> {
 pub fn opened(list: &str, text: &str, names: &[&str]) -> String {
     names.iter().fold(list.to_string(), |list, name| {
         let (parameters, body) = definition(text, name);
-        let list = list.replace('(', " ( ").replace(')', " ) ");
+        let spaced = |text: &str| text.replace('(', " ( ").replace(')', " ) ");
+        let (list, body) = (spaced(&list), spaced(body));
         let mut words = list.split_whitespace();
         let mut opened = Vec::new();
         while let Some(word) = words.next() {
@@ -105,7 +115,7 @@ pub fn opened(list: &str, text: &str, names: &[&str]) -> String {
             let given: Vec<_> = words.by_ref().take(parameters.len()).collect();
             let place = |word: &str| parameters.iter().position(|it| *it == word);
             opened.extend(
-                body.split(' ')
+                body.split_whitespace()
                     .map(|it| place(it).map_or(it, |at| given[at])),
             );
         }

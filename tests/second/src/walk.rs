@@ -1,5 +1,6 @@
 //! The autosense walk (document 01, "The walk"; document 02, request 4, for the empty connection
-//! word, and request 5, for fixed connections), which keeps the table as a list of entries.
+//! word, request 5, for fixed connections, and request 6, for the rows' length), which keeps the
+//! table as a list of entries.
 
 pub mod fast;
 
@@ -8,8 +9,8 @@ use crate::reader::{Arguments, Block, Refusal, leaf, refuse_if};
 /// The selected block, or the default, where there is none.
 pub const NONE: u8 = 255;
 
-/// The length of a walk's rows: a flag for each block that a leaf can hold, and more.
-pub const ROW_LENGTH: usize = 128;
+/// The length of a walk's rows: a flag for each block that a leaf can hold, and one more.
+pub const ROW_LENGTH: usize = 256;
 
 /// The connection types that are autosensed. The last says that nothing was selected.
 pub const AUTOSENSE: u16 = 0x0800;

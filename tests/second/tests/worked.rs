@@ -1,17 +1,19 @@
-//! What crates/worked, crates/magic and crates/leaf compute with is the second implementation's:
-//! each sheet of specs/Sheets.antt is written to its image, and made of it again; each Magic Packet
-//! block of specs/Cases.antt is read as it says, boards before one are refused as they say, case k
-//! and cards under fixed types are walked as they say, the blocks of leaves start where they say,
-//! and leaves with power blocks are read as they say.
+//! What crates/worked, crates/worked_large, crates/magic and crates/leaf compute with is the second
+//! implementation's: each sheet of specs/Sheets.antt is written to its image, and made of it again;
+//! each Magic Packet block of specs/Cases.antt is read as it says, at either size, boards before one
+//! are refused as they say, case k, cards under fixed types and cards of 512 bytes are read and walked
+//! as they say, the blocks of leaves start where they say, and leaves with power blocks are read as
+//! they say.
 
 use second::cases::{REPORTS_K, card_b, cases};
-use second::crc::{IMAGE_LENGTH, lay_crcs, lay_srom_crc};
-use second::images::{Card, Image, MagicBlock, TIDY_LEAF};
-use second::layout::{LAYOUTS, Layout, MAGIC_OFFSET};
-use second::magic::read_magic;
+use second::crc::{id_crc, lay_crcs, lay_srom_crc, magic_crc, srom_crc};
+use second::images::{Card, Image, Leaf, MagicBlock, TIDY_LEAF};
+use second::layout::{LAYOUTS, Layout, SIZES, SMALL, magic_block, magic_block_mut, magic_offset};
+use second::magic::{Magic, read_magic, write_magic};
+use second::random::Random;
 use second::reader::{Arguments, read_all, starts};
 use second::sheet;
-use second::specification::{self, arguments, bytes, number, opened, text};
+use second::specification::{self, arguments, bytes, number, numbers, opened, text};
 use second::walk::{Autosense, NONE};
 
 /// The names of crates/magic/specs/Cases.antt that lists use, each before those that it is made of.
@@ -53,24 +55,18 @@ fn sheets_are_as_second_has_them() {
     for case in &cases {
         let chip = case.split_once(';').unwrap().0.parse().unwrap();
         let (sheet, image) = (bytes(field(case, "sheet")), bytes(field(case, "image")));
-        both_ways(chip, Layout::PLAIN, &sheet, &image, [0; IMAGE_LENGTH]);
+        both_ways(chip, Layout::PLAIN, &sheet, &image, vec![0; SMALL.into()]);
     }
     let (_, magic) = text.split_once("caseMagic = record {\n").unwrap();
     let image = block(field(magic, "image"));
-    let mut output = [0; IMAGE_LENGTH];
-    output[MAGIC_OFFSET..].copy_from_slice(&image[MAGIC_OFFSET..]);
+    let mut output = vec![0; SMALL.into()];
+    magic_block_mut(&mut output).copy_from_slice(magic_block(&image));
     let sheet = bytes(field(cases[0], "sheet"));
     both_ways(21143, Layout::MAGIC, &sheet, &image, output);
 }
 
 /// The sheet, written over an output, is the image, and the image is made that sheet.
-fn both_ways(
-    chip: u16,
-    layout: Layout,
-    sheet: &[u8],
-    image: &[u8],
-    mut output: [u8; IMAGE_LENGTH],
-) {
+fn both_ways(chip: u16, layout: Layout, sheet: &[u8], image: &[u8], mut output: Image) {
     assert_eq!(sheet::write(sheet, layout, &mut output), 0, "{chip}");
     assert_eq!(output[..], *image, "{chip}");
     let mut buffer = vec![0; sheet.len()];
@@ -84,10 +80,10 @@ fn blocks_are_as_second_has_them() {
     let text = text("magic/specs/Cases.antt");
     let cases = specification::cases(&text, "magicCases");
     assert_eq!(cases.len(), 10, "accepted blocks, and 29, 30 and 1");
-    for (kind, words) in cases {
-        let image = [vec![0; MAGIC_OFFSET], block(words[0])].concat();
-        let answer = read_magic(&image);
-        if kind == "refusedWith" {
+    for ((kind, words), size) in cases.iter().flat_map(|case| SIZES.map(|size| (case, size))) {
+        let image = [vec![0; magic_offset(size)], block(words[0])].concat();
+        let answer = read_magic(&image, size);
+        if *kind == "refusedWith" {
             assert_eq!(usize::from(answer.number), number(words[1]), "{words:?}");
             continue;
         }
@@ -106,10 +102,10 @@ fn boards_are_refused_as_second_refuses_them() {
     assert_eq!(boards.len(), 9, "2, 4, 29, 30, 5 and what passes them");
     let arguments = Arguments::newest(21143).laid_out(Layout::MAGIC);
     for (_, words) in boards {
-        let mut image = cases()[0].image;
+        let mut image = cases()[0].image.clone();
         image[number(words[0])] = number(words[1]) as u8;
         lay_srom_crc(&mut image, Layout::MAGIC);
-        image[MAGIC_OFFSET..].copy_from_slice(&block(words[2]));
+        magic_block_mut(&mut image).copy_from_slice(&block(words[2]));
         let (answer, _) = read_all(&image, arguments);
         assert_eq!(usize::from(answer.number), number(words[3]), "{words:?}");
     }
@@ -125,7 +121,7 @@ fn case_k_is_walked_as_second_walks_it() {
         for (_, words) in &walks {
             let card = Card {
                 magic: layout.magic.then(MagicBlock::default),
-                ..card_b(number(words[1]) as u16)
+                ..card_b(number(words[1]) as u16).sized(layout.size)
             };
             let arguments = Arguments::at_level(21143, 6).laid_out(layout);
             let mut walk = Autosense::default();
@@ -186,6 +182,152 @@ fn cards_under_fixed_types_are_walked_as_second_walks_them() {
             }
         }
         assert_eq!(found.join(" ∷ ") + " ∷ []", seen, "{case}");
+    }
+}
+
+/// The records of a list of crates/worked_large, each as one line: those that it has, and those that a name with arguments
+/// stands for.
+fn records(text: &str, list: &str) -> Vec<String> {
+    let (_, behind) = text.split_once(&format!("\n{list} =")).unwrap();
+    let (list, _) = behind.split_once("\n\n").unwrap();
+    let line = |text: &str| text.split_whitespace().collect::<Vec<_>>().join(" ");
+    let list = line(list);
+    if let Some((_, record)) = list.split_once("record {") {
+        return vec![record.to_owned()];
+    }
+    let elements = list.split('∷').map(str::trim).filter(|it| *it != "[]");
+    let record = |element| {
+        let given = arguments(element);
+        let (_, behind) = text.split_once(&format!("\n{} l ", given[0])).unwrap();
+        let (parameters, behind) = behind.split_once(" = record {\n").unwrap();
+        let (body, _) = behind.split_once("\n}").unwrap();
+        let parameters: Vec<_> = ["l"].into_iter().chain(parameters.split(' ')).collect();
+        let value = |word: &str| match parameters.iter().position(|it| *it == word) {
+            Some(place) => given[1 + place].to_owned(),
+            None => word.to_owned(),
+        };
+        let field = |field: &str| {
+            let (name, it) = field.split_once(" = ")?;
+            let it = it.replace('(', "( ").replace(')', " )");
+            let words: Vec<_> = it.split_whitespace().map(value).collect();
+            Some(format!("{} = {};", name.trim(), words.join(" ")))
+        };
+        body.split(';').filter_map(field).collect()
+    };
+    elements.map(record).collect()
+}
+
+#[test]
+fn large_cards_are_read_and_walked_as_second_does() {
+    let text = text("worked_large/specs/Cases.antt");
+    let lists = ["plainCards", "magicCards", "twentyOneCards", "longestCards"];
+    let cards: Vec<_> = lists.iter().flat_map(|list| records(&text, list)).collect();
+    assert_eq!(cards.len(), 9, "three of each layout, two, and the longest");
+    for card in cards {
+        let field = |name: &str| {
+            let (_, behind) = card.split_once(&format!("{name} = ")).unwrap();
+            behind.split_once(';').unwrap().0.trim()
+        };
+        let layout = match field("layout") {
+            "withMagic" => Layout::MAGIC,
+            "large withoutMagic" => Layout::LARGE_PLAIN,
+            "large withMagic" => Layout::LARGE_MAGIC,
+            other => panic!("{other} is no layout"),
+        };
+        let (controllers, start) = (number(field("controllers")), number(field("start")));
+        let reading = arguments(field("reading"));
+        let (chip, level) = (number(reading[1]) as u16, number(reading[2]) as u8);
+        let leaf = bytes(&opened(reading[3], &text, &["leafTo"]));
+        let empty = Leaf::new(start, chip, 0x0800, vec![]);
+        let mut image = Card::new(controllers, vec![empty])
+            .laid_out(&mut Random::new(1), layout)
+            .image();
+        let places = image[start..layout.leaf_limit()].iter_mut();
+        places.zip(leaf).for_each(|(place, byte)| *place = byte);
+        lay_crcs(&mut image, layout);
+        let reader = Arguments {
+            chip,
+            controller: controllers as u8 - 1,
+            level,
+            layout,
+        };
+        let (answer, entries) = read_all(&image, reader);
+        if reading[0] == "leaves.refused" {
+            assert_eq!(usize::from(answer.number), number(reading[4]), "{card}");
+            continue;
+        }
+        let counts = [answer.number, answer.listed, answer.resets, answer.skipped];
+        let expected = reading[4..7].iter().map(|word| number(word));
+        assert!(
+            counts
+                .into_iter()
+                .map(usize::from)
+                .eq([0].into_iter().chain(expected)),
+            "{card}"
+        );
+        let (kinds, offsets): (Vec<_>, Vec<_>) = entries.into_iter().unzip();
+        assert_eq!(kinds, listed(reading[7]), "{card}");
+        assert_eq!(offsets, listed(reading[8]), "{card}");
+        let mut walk = Autosense::default();
+        let mut seen = Vec::new();
+        let calls = arguments(field("calls"));
+        for (place, call) in calls.iter().enumerate() {
+            let number = match *call {
+                "load" => walk.load(&image, reader),
+                "look" => walk.look(&bytes(calls[place + 1])),
+                _ => continue,
+            };
+            seen.push(stands(number, &walk));
+        }
+        assert_eq!(seen.join(" ∷ ") + " ∷ []", field("seen"), "{card}");
+    }
+}
+
+/// The elements of a table's column: those of a list, or `valuesFrom (λ i. n - i) first count`.
+fn listed(column: &str) -> Vec<u16> {
+    let elements: Vec<usize> = match column
+        .replace(['(', ')'], "")
+        .strip_prefix("valuesFrom λ i. ")
+    {
+        None => numbers(column),
+        Some(rest) => {
+            let words: Vec<_> = rest.split_whitespace().collect();
+            assert_eq!(words[1..3], ["-", "i"], "{column}");
+            let [from, first, count] = [0, 3, 4].map(|place| number(words[place]));
+            (first..first + count).map(|index| from - index).collect()
+        }
+    };
+    elements.into_iter().map(|it| it as u16).collect()
+}
+
+/// "Refusal 1 means a length other than the stated size, or a stated size other than those two": what the claim says of six
+/// calls is what the second implementation answers.
+#[test]
+fn stated_sizes_are_refused_as_second_refuses_them() {
+    let claims = text("worked_large/specs/Claims.antt");
+    let whole = |layout| {
+        let card = Card::tidy(21143, 0x0800, vec![]);
+        card.laid_out(&mut Random::new(1), layout).image()
+    };
+    for (stated, size, image) in [
+        ("smallSize", 128, whole(Layout::LARGE_MAGIC)),
+        ("largeSize", 512, whole(Layout::MAGIC)),
+        ("256 (replicate 256 0)", 256, vec![0; 256]),
+    ] {
+        let claim = format!("(refusals {stated}");
+        let is_claim = |line: &&str| line.contains(&claim) && line.ends_with("≡ replicate 6 1)");
+        assert_eq!(claims.lines().filter(is_claim).count(), 1, "{claim}");
+        let layout = Layout::new(size, true);
+        let newest = Arguments::newest(21143).laid_out(layout);
+        let answered = [
+            read_all(&image, newest).0.number,
+            srom_crc(&image, layout).number,
+            id_crc(&image, size).number,
+            magic_crc(&image, size).number,
+            read_magic(&image, size).number,
+            write_magic(Magic::default(), &mut image.clone(), size),
+        ];
+        assert_eq!(answered, [1; 6], "{claim}");
     }
 }
 

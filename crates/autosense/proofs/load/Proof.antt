@@ -1,6 +1,6 @@
--- The reader's answer decides, and an accepted leaf has at most 91 blocks, which the rows hold. Assumes nothing.
+-- The reader's answer decides, and the rows hold as many blocks as a leaf can have. Assumes nothing.
 use Rattle.reader.proofs.Readings.{accepted-judged, reading-blocks}
-use Rattle.walk.proofs.Loads.{reading-few-blocks, load-loaded, load-refused, load-done}
+use Rattle.walk.proofs.Loads.{load-loaded, load-refused, load-done}
 use borrow.Author.Needs.{needs}
 use Rattle.autosense.proofs.load.Statement.{statement}
 use Rattle.autosense.proofs.load.Tie as tie
@@ -24,7 +24,7 @@ rows-of-requires c κs =
     let read = c .before .before .before .assess in
     let a = c .before .before .before .before .before .before .args in
     let k = accepted-judged (a .image .now) (a .arguments) (read .result) (read .ensures) (c .before .if2 .left) in
-    rw (c .rest-from .ensures) (reading-blocks k, reading-few-blocks k)
+    rw (c .rest-from .ensures) (reading-blocks k)
 
 returns-3 : tie.Need-returns-3
 returns-3 c =

@@ -28,7 +28,7 @@ no-flags-requires-3 c κs = search needs
 
 loop-holds : tie.Need-loop-holds Inv-loop μ-loop
 loop-holds c = (
-  rows-start _ _ _ _ _ (c .before .before .before .before .pre .0) (c .before .before .no-flags .ensures)
+  rows-start _ _ _ _ _ (c .before .before .before .before .pre) (c .before .before .no-flags .ensures)
       (c .before .no-flags2 .ensures) (c .no-flags3 .ensures),
   search needs,
 )
@@ -94,7 +94,7 @@ loop-again c =
 returns : tie.Need-returns Inv-loop μ-loop
 returns c =
     let entry = c .before .before .before .before .before .before in
-    rows-done _ _ _ _ _ (c .before .loop .inv .0) (entry .args .blocks .now) refl (entry .pre .1) (c .loop-test .left)
+    rows-done _ _ _ _ _ (c .before .loop .inv .0) (entry .args .blocks .now) refl (omega arith) (c .loop-test .left)
 
 pub rows-of-spec : {M : Type 1} → statement M
 rows-of-spec =

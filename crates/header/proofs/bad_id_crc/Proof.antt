@@ -1,5 +1,4 @@
 -- The CRC call answers the CRC, since the length is right. Assumes nothing.
-use Rattle.rom.specs.Geometry.{withoutMagic}
 use Rattle.crc.specs.Crc.{idCrc}
 use Rattle.crc.specs.Answer.{idAnswer}
 use Rattle.crc.proofs.Answers.{answered}
@@ -23,7 +22,7 @@ returns c =
     let image = e .args .image .now in
     rw (
       c .before .before .byte-at .ensures,
-      answered withoutMagic image (idCrc image) (c .before .id-crc .result) (e .pre) (c .before .id-crc .ensures),
+      answered (e .args .size) image (idCrc image) (c .before .id-crc .result) (e .pre) (c .before .id-crc .ensures),
     )
 
 pub bad-id-crc-spec : {M : Type 1} → statement M

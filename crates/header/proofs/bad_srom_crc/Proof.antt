@@ -24,7 +24,7 @@ returns c =
     rw (
       c .before .before .word-at .ensures,
       c .before .before .before .checked-length .ensures,
-      answered layout image (sromCrc layout image) (c .before .srom-crc .result) (e .pre) (c .before .srom-crc .ensures),
+      answered (layout .size) image (sromCrc layout image) (c .before .srom-crc .result) (e .pre) (c .before .srom-crc .ensures),
     )
 
 pub bad-srom-crc-spec : {M : Type 1} → statement M

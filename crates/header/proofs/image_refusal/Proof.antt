@@ -1,16 +1,14 @@
 -- The causes in their order, each as its test found it. Assumes nothing.
 use mathlib.Core.Path.{sym, _∙_}
-use Rattle.rom.specs.Geometry.{withoutMagic}
-use Rattle.rom.proofs.Layouts.{one-length}
 use Rattle.rom.proofs.Reached.{reached, stop, skip, among, past, end}
 use Rattle.header.specs.Image.{magicCauses, imageCauses}
-use Rattle.header.proofs.Headers.{measured, not-measured, magic-numbered}
+use Rattle.header.proofs.Headers.{magic-numbered}
 use borrow.Author.Needs.{needs}
 use Rattle.header.proofs.image_refusal.Statement.{statement}
 use Rattle.header.proofs.image_refusal.Tie as tie
 
-image-length-requires : tie.Need-image-length-requires
-image-length-requires c κs = search needs
+is-wrong-length-requires : tie.Need-is-wrong-length-requires
+is-wrong-length-requires c κs = search needs
 
 returns : tie.Need-returns
 unfolding imageCauses
@@ -18,7 +16,7 @@ returns c =
     let e = c .before .before .before in
     let image = e .args .image .now in
     reached
-    (stop (not-measured image _ (c .before .image-length .ensures) (c .if1 .taken)))
+    (stop (sym (c .before .is-wrong-length .ensures) ∙ c .if1 .taken))
 
 bad-version-requires : tie.Need-bad-version-requires
 bad-version-requires c κs = search needs
@@ -29,46 +27,48 @@ returns-2 c =
     let e = c .before .before .before .before .before in
     let image = e .args .image .now in
     reached
-    (skip (measured image _ (c .before .before .before .image-length .ensures) (c .before .before .if1 .left))
+    (skip (sym (c .before .before .before .is-wrong-length .ensures) ∙ c .before .before .if1 .left)
     (stop (sym (c .before .bad-version .ensures) ∙ c .if2 .taken)))
 
 bad-srom-crc-requires : tie.Need-bad-srom-crc-requires
-bad-srom-crc-requires c κs = search needs
+bad-srom-crc-requires c κs =
+    let is-wrong-length = c .before .before .before in sym (is-wrong-length .is-wrong-length .ensures) ∙ c .before .before .if1 .left
 
 returns-3 : tie.Need-returns-3
 unfolding imageCauses
 returns-3 c =
     let bad-version = c .before .before .before in
-    let image-length = bad-version .before .before in
-    let e = image-length .before .before in
+    let is-wrong-length = bad-version .before .before in
+    let e = is-wrong-length .before .before in
     let image = e .args .image .now in
     reached
-    (skip (measured image _ (image-length .image-length .ensures) (bad-version .before .if1 .left))
+    (skip (sym (is-wrong-length .is-wrong-length .ensures) ∙ bad-version .before .if1 .left)
     (skip (sym (bad-version .bad-version .ensures) ∙ c .before .before .if2 .left)
     (stop (sym (c .before .bad-srom-crc .ensures) ∙ c .if3 .taken))))
 
 bad-id-crc-requires : tie.Need-bad-id-crc-requires
 bad-id-crc-requires c κs =
-    let image-length = c .before .before .before .before .before in
-    let start = image-length .before .before in
-    c .before .before .before .before .if1 .left ∙ image-length .image-length .ensures ∙ one-length (start .args .layout) withoutMagic
+    let is-wrong-length = c .before .before .before .before .before in
+    sym (is-wrong-length .is-wrong-length .ensures) ∙ c .before .before .before .before .if1 .left
 
 returns-4 : tie.Need-returns-4
 unfolding imageCauses
 returns-4 c =
     let bad-srom-crc = c .before .before .before in
     let bad-version = bad-srom-crc .before .before in
-    let image-length = bad-version .before .before in
-    let e = image-length .before .before in
+    let is-wrong-length = bad-version .before .before in
+    let e = is-wrong-length .before .before in
     let image = e .args .image .now in
     reached
-    (skip (measured image _ (image-length .image-length .ensures) (bad-version .before .if1 .left))
+    (skip (sym (is-wrong-length .is-wrong-length .ensures) ∙ bad-version .before .if1 .left)
     (skip (sym (bad-version .bad-version .ensures) ∙ bad-srom-crc .before .if2 .left)
     (skip (sym (bad-srom-crc .bad-srom-crc .ensures) ∙ c .before .before .if3 .left)
     (stop (sym (c .before .bad-id-crc .ensures) ∙ c .if4 .taken)))))
 
 magic-refusal-requires : tie.Need-magic-refusal-requires
-magic-refusal-requires c κs = search needs
+magic-refusal-requires c κs =
+    let is-wrong-length = c .before .before .before .before .before .before .before in
+    sym (is-wrong-length .is-wrong-length .ensures) ∙ c .before .before .before .before .before .before .if1 .left
 
 returns-5 : tie.Need-returns-5
 unfolding imageCauses
@@ -76,11 +76,11 @@ returns-5 c =
     let bad-id-crc = c .before .before .before in
     let bad-srom-crc = bad-id-crc .before .before in
     let bad-version = bad-srom-crc .before .before in
-    let image-length = bad-version .before .before in
-    let e = image-length .before .before in
+    let is-wrong-length = bad-version .before .before in
+    let e = is-wrong-length .before .before in
     let image = e .args .image .now in
     reached
-    (skip (measured image _ (image-length .image-length .ensures) (bad-version .before .if1 .left))
+    (skip (sym (is-wrong-length .is-wrong-length .ensures) ∙ bad-version .before .if1 .left)
     (skip (sym (bad-version .bad-version .ensures) ∙ bad-srom-crc .before .if2 .left)
     (skip (sym (bad-srom-crc .bad-srom-crc .ensures) ∙ bad-id-crc .before .if3 .left)
     (skip (sym (bad-id-crc .bad-id-crc .ensures) ∙ c .before .before .if4 .left)
@@ -96,11 +96,11 @@ returns-6 c =
     let bad-id-crc = magic-refusal .before .before in
     let bad-srom-crc = bad-id-crc .before .before in
     let bad-version = bad-srom-crc .before .before in
-    let image-length = bad-version .before .before in
-    let e = image-length .before .before in
+    let is-wrong-length = bad-version .before .before in
+    let e = is-wrong-length .before .before in
     let image = e .args .image .now in
     reached
-    (skip (measured image _ (image-length .image-length .ensures) (bad-version .before .if1 .left))
+    (skip (sym (is-wrong-length .is-wrong-length .ensures) ∙ bad-version .before .if1 .left)
     (skip (sym (bad-version .bad-version .ensures) ∙ bad-srom-crc .before .if2 .left)
     (skip (sym (bad-srom-crc .bad-srom-crc .ensures) ∙ bad-id-crc .before .if3 .left)
     (skip (sym (bad-id-crc .bad-id-crc .ensures) ∙ magic-refusal .before .if4 .left)
@@ -115,11 +115,11 @@ returns-7 c =
     let bad-id-crc = magic-refusal .before .before in
     let bad-srom-crc = bad-id-crc .before .before in
     let bad-version = bad-srom-crc .before .before in
-    let image-length = bad-version .before .before in
-    let e = image-length .before .before in
+    let is-wrong-length = bad-version .before .before in
+    let e = is-wrong-length .before .before in
     let image = e .args .image .now in
     reached
-    (skip (measured image _ (image-length .image-length .ensures) (bad-version .before .if1 .left))
+    (skip (sym (is-wrong-length .is-wrong-length .ensures) ∙ bad-version .before .if1 .left)
     (skip (sym (bad-version .bad-version .ensures) ∙ bad-srom-crc .before .if2 .left)
     (skip (sym (bad-srom-crc .bad-srom-crc .ensures) ∙ bad-id-crc .before .if3 .left)
     (skip (sym (bad-id-crc .bad-id-crc .ensures) ∙ magic-refusal .before .if4 .left)
@@ -131,7 +131,7 @@ pub image-refusal-spec : {M : Type 1} → statement M
 image-refusal-spec =
     tie.close
     (tie.spec
-    image-length-requires
+    is-wrong-length-requires
     returns
     bad-version-requires
     returns-2

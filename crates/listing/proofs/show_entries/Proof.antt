@@ -5,10 +5,10 @@ use Rattle.listing.proofs.show_entries.Statement.{statement}
 use Rattle.listing.proofs.show_entries.Tie as tie
 
 abbrev Inv-loop : tie.InvT-loop
-Inv-loop image arguments offsets listed blocks e₀ e = Unit
+Inv-loop image arguments offsets listed number₀ e₀ number e = Unit
 
 abbrev μ-loop : tie.MeasureT-loop
-μ-loop image arguments offsets listed blocks e₀ e = listed - e
+μ-loop image arguments offsets listed number₀ e₀ number e = listed - e
 
 cast-listed : tie.Need-cast-listed Inv-loop μ-loop
 cast-listed c = search needs
@@ -16,14 +16,14 @@ cast-listed c = search needs
 loop-holds : tie.Need-loop-holds Inv-loop μ-loop
 loop-holds c = search needs
 
-mul-number-at : tie.Need-mul-number-at Inv-loop μ-loop
-mul-number-at c = search needs
+mul-number-before : tie.Need-mul-number-before Inv-loop μ-loop
+mul-number-before c = search needs
 
-shared-slice-read-number-at : tie.Need-shared-slice-read-number-at Inv-loop μ-loop
-shared-slice-read-number-at c = search needs
+shared-slice-read-number-before : tie.Need-shared-slice-read-number-before Inv-loop μ-loop
+shared-slice-read-number-before c = search needs
 
-number-at-requires : tie.Need-number-at-requires Inv-loop μ-loop
-number-at-requires c κs = search needs
+number-before-requires : tie.Need-number-before-requires Inv-loop μ-loop
+number-before-requires c κs = search needs
 
 show-entry-requires : tie.Need-show-entry-requires Inv-loop μ-loop
 show-entry-requires c κs = search needs
@@ -48,9 +48,9 @@ show-entries-spec =
     μ-loop
     cast-listed
     loop-holds
-    mul-number-at
-    shared-slice-read-number-at
-    number-at-requires
+    mul-number-before
+    shared-slice-read-number-before
+    number-before-requires
     show-entry-requires
     add-e
     loop-less

@@ -1,18 +1,21 @@
 -- The CRC call answers the CRC, since the length is right. Assumes nothing.
-use Rattle.rom.specs.Geometry.{withMagic}
+use lib.Dec.{lit<}
 use Rattle.crc.specs.Crc.{magicCrc}
 use Rattle.crc.specs.Answer.{magicAnswer}
 use Rattle.crc.proofs.Answers.{answered}
-use Rattle.magic.specs.Block.{badCrc}
+use Rattle.magic.specs.Block.{badCrc, blockCrcAt}
+use Rattle.magic.proofs.Reading.{long-enough, placed, inside}
 use borrow.Author.Needs.{needs}
 use Rattle.magic.proofs.bad_crc.Statement.{statement}
 use Rattle.magic.proofs.bad_crc.Tie as tie
 
-place-of-requires : tie.Need-place-of-requires
-place-of-requires c κs = search needs
+place-in-requires : tie.Need-place-in-requires
+place-in-requires c κs = let e = c .before in long-enough (e .args .size) (e .args .image .now) (e .pre)
 
-byte-at-requires : tie.Need-byte-at-requires
-byte-at-requires c κs = search needs
+byte-in-requires : tie.Need-byte-in-requires
+byte-in-requires c κs =
+    let e = c .before .before in
+    inside (e .args .size) (e .args .image .now) (e .pre) blockCrcAt (c .place-in .ensures) (lit< tt)
 
 cast-result : tie.Need-cast-result
 cast-result c = search needs
@@ -24,13 +27,14 @@ returns : tie.Need-returns
 unfolding badCrc magicAnswer
 returns c =
     let e = c .before .before .before .before .before in
+    let size = e .args .size in
     let image = e .args .image .now in
     rw (
-      c .before .before .byte-at .ensures,
-      c .before .before .before .place-of .ensures,
-      answered withMagic image (magicCrc image) (c .before .magic-crc .result) (e .pre) (c .before .magic-crc .ensures),
+      c .before .before .byte-in .ensures,
+      placed size image (e .pre) blockCrcAt (c .before .before .before .place-in .ensures),
+      answered size image (magicCrc size image) (c .before .magic-crc .result) (e .pre) (c .before .magic-crc .ensures),
     )
 
 pub bad-crc-spec : {M : Type 1} → statement M
 bad-crc-spec =
-    tie.close (tie.spec place-of-requires byte-at-requires cast-result magic-crc-requires returns)
+    tie.close (tie.spec place-in-requires byte-in-requires cast-result magic-crc-requires returns)

@@ -1,7 +1,6 @@
 -- A block stands in the image, so its places are small. Assumes nothing.
 use native.Mathlib.Omega.{arith}
-use Rattle.rom.specs.Geometry.{withMagic}
-use Rattle.rom.proofs.Layouts.{geometry}
+use Rattle.rom.proofs.Layouts.{sized}
 use borrow.Author.Needs.{needs}
 use Rattle.magic.proofs.place_of.Statement.{statement}
 use Rattle.magic.proofs.place_of.Tie as tie
@@ -10,7 +9,7 @@ magic-at-requires : tie.Need-magic-at-requires
 magic-at-requires c κs = search needs
 
 add-result : tie.Need-add-result
-add-result c = let m = geometry withMagic in omega arith
+add-result c = let m = sized (c .before .args .size) in omega arith
 
 returns : tie.Need-returns
 returns c = search needs

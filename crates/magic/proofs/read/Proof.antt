@@ -1,10 +1,8 @@
 -- The first refusal, or the fields of a whole image. Assumes nothing.
 use native.Mathlib.Omega.{arith}
 use mathlib.Core.Path.{sym, _∙_}
-use Rattle.rom.specs.Geometry.{withMagic}
-use Rattle.rom.proofs.Layouts.{geometry}
-use Rattle.magic.specs.Block.{magicIn}
-use Rattle.magic.proofs.Reading.{read-long, answer-refused, answer-read}
+use Rattle.magic.specs.Block.{magicIn, passwordAt, wakeAddressAt, commandAt}
+use Rattle.magic.proofs.Reading.{read-right, long-enough, placed, answer-refused, answer-read}
 use borrow.Author.Needs.{needs}
 use Rattle.magic.proofs.read.Statement.{statement}
 use Rattle.magic.proofs.read.Tie as tie
@@ -17,52 +15,69 @@ no-magic-requires c κs = search needs
 
 returns : tie.Need-returns
 returns c =
-    rw (c .no-magic .ensures) (answer-refused (c .before .before .before .before .args .image .now) _ (c .before .before .judge .ensures)
-    (c .before .if1 .taken))
+    let judge = c .before .before in
+    let a = judge .before .before .args in
+    rw (c .no-magic .ensures) (answer-refused (a .size) (a .image .now) _ (judge .judge .ensures) (c .before .if1 .taken))
 
-place-of-requires : tie.Need-place-of-requires
-place-of-requires c κs = search needs
+place-in-requires : tie.Need-place-in-requires
+place-in-requires c κs =
+    let judge = c .before in
+    let a = judge .before .before .args in
+    long-enough (a .size) (a .image .now) (read-right _ _ (sym (judge .judge .ensures) ∙ c .if1 .left))
 
 six-at-requires : tie.Need-six-at-requires
 six-at-requires c κs =
-    let m = geometry withMagic in
-    let l = read-long (c .before .before .before .before .args .image .now)
-    (sym (c .before .before .judge .ensures) ∙ c .before .if1 .left) in
+    let judge = c .before .before in
+    let a = judge .before .before .args in
+    let l = long-enough (a .size) (a .image .now) (read-right _ _ (sym (judge .judge .ensures) ∙ c .before .if1 .left)) in
     omega arith
 
-place-of-requires-2 : tie.Need-place-of-requires-2
-place-of-requires-2 c κs = search needs
+place-in-requires-2 : tie.Need-place-in-requires-2
+place-in-requires-2 c κs =
+    let judge = c .before .before .before in
+    let a = judge .before .before .args in
+    long-enough (a .size) (a .image .now) (read-right _ _ (sym (judge .judge .ensures) ∙ c .before .before .if1 .left))
 
 six-at-requires-2 : tie.Need-six-at-requires-2
 six-at-requires-2 c κs =
-    let judge = c .before .before .before .before in
-    let start = judge .before .before in
-    let m = geometry withMagic in
-    let l = read-long (start .args .image .now) (sym (judge .judge .ensures) ∙ c .before .before .before .if1 .left) in
+    let test = c .before .before .before in
+    let judge = test .before in
+    let a = judge .before .before .args in
+    let l = long-enough (a .size) (a .image .now) (read-right _ _ (sym (judge .judge .ensures) ∙ test .if1 .left)) in
     omega arith
 
-place-of-requires-3 : tie.Need-place-of-requires-3
-place-of-requires-3 c κs = search needs
+place-in-requires-3 : tie.Need-place-in-requires-3
+place-in-requires-3 c κs =
+    let test = c .before .before .before .before in
+    let judge = test .before in
+    let a = judge .before .before .args in
+    long-enough (a .size) (a .image .now) (read-right _ _ (sym (judge .judge .ensures) ∙ test .if1 .left))
 
-word-at-requires : tie.Need-word-at-requires
-word-at-requires c κs = search needs
+word-in-requires : tie.Need-word-in-requires
+word-in-requires c κs =
+    let test = c .before .before .before .before .before in
+    let judge = test .before in
+    let a = judge .before .before .args in
+    let l = long-enough (a .size) (a .image .now) (read-right _ _ (sym (judge .judge .ensures) ∙ test .if1 .left)) in
+    omega arith
 
 returns-2 : tie.Need-returns-2
 unfolding magicIn
 returns-2 c =
-    let place-of = c .before .before .before in
-    let six-at = place-of .before in
-    let place-of′ = six-at .before in
-    let judge = place-of′ .before .before in
-    let start = judge .before .before in
+    let address = c .before .before .before in
+    let password = address .before .before in
+    let judge = password .before .before in
+    let a = judge .before .before .args in
+    let image = a .image .now in
+    let right = read-right (a .size) image (sym (judge .judge .ensures) ∙ password .before .if1 .left) in
     rw (
-      c .word-at .ensures,
-      c .before .place-of3 .ensures,
+      c .word-in .ensures,
+      placed (a .size) image right commandAt (c .before .place-in3 .ensures),
       c .before .before .six-at2 .ensures,
-      place-of .place-of2 .ensures,
-      six-at .six-at .ensures,
-      place-of′ .place-of .ensures,
-    ) (answer-read (start .args .image .now) _ (judge .judge .ensures) (place-of′ .before .if1 .left))
+      placed (a .size) image right wakeAddressAt (address .place-in2 .ensures),
+      address .before .six-at .ensures,
+      placed (a .size) image right passwordAt (password .place-in .ensures),
+    ) (answer-read (a .size) image _ (judge .judge .ensures) (password .before .if1 .left))
 
 pub read-spec : {M : Type 1} → statement M
 read-spec =
@@ -71,10 +86,10 @@ read-spec =
     judge-requires
     no-magic-requires
     returns
-    place-of-requires
+    place-in-requires
     six-at-requires
-    place-of-requires-2
+    place-in-requires-2
     six-at-requires-2
-    place-of-requires-3
-    word-at-requires
+    place-in-requires-3
+    word-in-requires
     returns-2)

@@ -4,34 +4,20 @@ use mathlib.Core.Path.{refl}
 use borrow.Author.Tests.{not-true, not-false}
 use Rattle.sheet.specs.Image.{newest}
 use Rattle.maker.proofs.Sheets.{read-blocks}
-use Rattle.maker.proofs.Making.{refused-done, make-refused, is-read, end-fits, make-untidy, make-short, make-room}
+use Rattle.maker.proofs.Making.{refused-done, make-other, make-refused, is-read, end-fits, make-untidy, make-short, make-room}
 use Rattle.maker.proofs.Making.{make-done}
 use borrow.Author.Needs.{needs}
 use Rattle.maker.proofs.make.Statement.{statement}
 use Rattle.maker.proofs.make.Tie as tie
 
-assess-requires : tie.Need-assess-requires
-assess-requires c κs = search needs
-
 refused-requires : tie.Need-refused-requires
 refused-requires c κs = search needs
 
 returns : tie.Need-returns
-unfolding newest
-returns c =
-    refused-done _ _ _ _ (c .refused .ensures) (c .before .if1 .taken)
-    (make-refused _ _ _ _ (c .before .before .before .before .assess .ensures) _ (c .before .if1 .taken))
+returns c = refused-done _ _ _ _ (c .refused .ensures) (λ e. omega arith) (make-other _ _ _ _ (c .before .if1 .taken))
 
-rest-from-requires : tie.Need-rest-from-requires
-rest-from-requires c κs = search needs
-
-measure-requires : tie.Need-measure-requires
-unfolding newest
-measure-requires c κs =
-    read-blocks _ _ (is-read _ _ _ _ (c .before .before .before .before .assess .ensures) (c .before .if1 .left)) _ (c .rest-from .ensures)
-
-is-tidy-requires : tie.Need-is-tidy-requires
-is-tidy-requires c κs = search needs
+assess-requires : tie.Need-assess-requires
+assess-requires c κs = search needs
 
 refused-requires-2 : tie.Need-refused-requires-2
 refused-requires-2 c κs = search needs
@@ -39,13 +25,36 @@ refused-requires-2 c κs = search needs
 returns-2 : tie.Need-returns-2
 unfolding newest
 returns-2 c =
+    refused-done _ _ _ _ (c .refused2 .ensures) (c .before .if2 .taken)
+    (make-refused _ (c .before .before .before .before .before .if1 .left) _ _ _
+    (c .before .before .before .before .assess .ensures) _ (c .before .if2 .taken))
+
+rest-from-requires : tie.Need-rest-from-requires
+rest-from-requires c κs = search needs
+
+measure-requires : tie.Need-measure-requires
+unfolding newest
+measure-requires c κs =
+    read-blocks _ _ (is-read _ (c .before .before .before .before .before .if1 .left) _ _ _
+    (c .before .before .before .before .assess .ensures) (c .before .if2 .left)) _ (c .rest-from .ensures)
+
+is-tidy-requires : tie.Need-is-tidy-requires
+is-tidy-requires c κs = search needs
+
+refused-requires-3 : tie.Need-refused-requires-3
+refused-requires-3 c κs = search needs
+
+returns-3 : tie.Need-returns-3
+unfolding newest
+returns-3 c =
     let measure = c .before .before .before in
     let rest-from = measure .before in
     let assess = rest-from .before .before .before .before in
-    refused-done _ _ _ _ (c .refused2 .ensures) (λ e. omega arith)
-    (make-untidy _ _ _ _ (assess .assess .ensures) (rest-from .before .if1 .left) _ (rest-from .rest-from .ensures) _
+    refused-done _ _ _ _ (c .refused3 .ensures) (λ e. omega arith)
+    (make-untidy _ (assess .before .if1 .left) _ _ _ (assess .assess .ensures) (rest-from .before .if2 .left) _
+    (rest-from .rest-from .ensures) _
     (measure .measure .ensures .0) _
-    (c .before .before .is-tidy .ensures) (not-true _ (c .before .if2 .taken)))
+    (c .before .before .is-tidy .ensures) (not-true _ (c .before .if3 .taken)))
 
 cast-length : tie.Need-cast-length
 cast-length c = search needs
@@ -59,20 +68,21 @@ add-length c = search needs
 add-length-2 : tie.Need-add-length-2
 add-length-2 c = search needs
 
-refused-requires-3 : tie.Need-refused-requires-3
-refused-requires-3 c κs = search needs
+refused-requires-4 : tie.Need-refused-requires-4
+refused-requires-4 c κs = search needs
 
-returns-3 : tie.Need-returns-3
+returns-4 : tie.Need-returns-4
 unfolding newest
-returns-3 c =
+returns-4 c =
     let is-tidy = c .before .before .before .before .before in
     let measure = is-tidy .before in
     let rest-from = measure .before in
     let assess = rest-from .before .before .before .before in
-    refused-done _ _ _ _ (c .refused3 .ensures) (λ e. omega arith)
-    (make-short _ _ _ _ (assess .assess .ensures) (rest-from .before .if1 .left) _ (rest-from .rest-from .ensures) _
+    refused-done _ _ _ _ (c .refused4 .ensures) (λ e. omega arith)
+    (make-short _ (assess .before .if1 .left) _ _ _ (assess .assess .ensures) (rest-from .before .if2 .left) _
+    (rest-from .rest-from .ensures) _
     (measure .measure .ensures .0) _
-    (is-tidy .is-tidy .ensures) (not-false _ (c .before .before .before .before .if2 .left)) (c .before .if3 .taken))
+    (is-tidy .is-tidy .ensures) (not-false _ (c .before .before .before .before .if3 .left)) (c .before .if4 .taken))
 
 cast-put-sheet : tie.Need-cast-put-sheet
 unfolding newest
@@ -81,7 +91,8 @@ cast-put-sheet c =
     let rest-from = measure .before in
     let assess = rest-from .before .before .before .before in
     let m = measure .measure in
-    let h = end-fits _ _ _ _ (assess .assess .ensures) (rest-from .before .if1 .left) _ (rest-from .rest-from .ensures) _
+    let h = end-fits _ (assess .before .if1 .left) _ _ _ (assess .assess .ensures) (rest-from .before .if2 .left) _
+    (rest-from .rest-from .ensures) _
     (measure .measure .ensures .0) (m .ensures .1 .0) in
     omega (arith, m .ensures .1 .1)
 
@@ -92,45 +103,49 @@ put-sheet-requires c κs =
     let measure = is-tidy .before in
     let rest-from = measure .before in
     let assess = rest-from .before .before .before .before in
-    make-room _ _ _ _ (assess .assess .ensures) (rest-from .before .if1 .left) _ (rest-from .rest-from .ensures) _
+    make-room _ (assess .before .if1 .left) _ _ _ (assess .assess .ensures) (rest-from .before .if2 .left) _
+    (rest-from .rest-from .ensures) _
     (measure .measure .ensures .0) _
-    (is-tidy .is-tidy .ensures) (not-false _ (c .before .before .before .before .before .if2 .left)) (c .before .before .if3 .left) _ refl
+    (is-tidy .is-tidy .ensures) (not-false _ (c .before .before .before .before .before .if3 .left)) (c .before .before .if4 .left) _ refl
 
 same-length : tie.Need-same-length
 same-length c = search needs
 
-returns-4 : tie.Need-returns-4
+returns-5 : tie.Need-returns-5
 unfolding newest
-returns-4 c =
+returns-5 c =
     let is-tidy = c .before .before .before .before .before .before .before .before .before in
     let measure = is-tidy .before in
     let rest-from = measure .before in
     let assess = rest-from .before .before .before .before in
-    make-done _ _ _ _ (assess .assess .ensures) (rest-from .before .if1 .left) _ (rest-from .rest-from .ensures) _
+    make-done _ (assess .before .if1 .left) _ _ _ (assess .assess .ensures) (rest-from .before .if2 .left) _
+    (rest-from .rest-from .ensures) _
     (measure .measure .ensures .0) _
-    (is-tidy .is-tidy .ensures) (not-false _ (c .before .before .before .before .before .before .before .before .if2 .left))
-    (c .before .before .before .before .before .if3 .left) _ refl
+    (is-tidy .is-tidy .ensures) (not-false _ (c .before .before .before .before .before .before .before .before .if3 .left))
+    (c .before .before .before .before .before .if4 .left) _ refl
     (c .before .before .put-sheet .ensures)
 
 pub make-spec : {M : Type 1} → statement M
 make-spec =
     tie.close
     (tie.spec
-    assess-requires
     refused-requires
     returns
+    assess-requires
+    refused-requires-2
+    returns-2
     rest-from-requires
     measure-requires
     is-tidy-requires
-    refused-requires-2
-    returns-2
+    refused-requires-3
+    returns-3
     cast-length
     mul-length
     add-length
     add-length-2
-    refused-requires-3
-    returns-3
+    refused-requires-4
+    returns-4
     cast-put-sheet
     put-sheet-requires
     same-length
-    returns-4)
+    returns-5)

@@ -5,10 +5,10 @@ use Rattle.picture.proofs.draw_keys.Statement.{statement}
 use Rattle.picture.proofs.draw_keys.Tie as tie
 
 abbrev Inv-loop : tie.InvT-loop
-Inv-loop file fields field₀ field = Unit
+Inv-loop file page fields field₀ field = Unit
 
 abbrev μ-loop : tie.MeasureT-loop
-μ-loop file fields field₀ field = fields - field
+μ-loop file page fields field₀ field = fields - field
 
 fields-of-requires : tie.Need-fields-of-requires Inv-loop μ-loop
 fields-of-requires c κs = search needs
@@ -34,4 +34,13 @@ returns c = search needs
 pub draw-keys-spec : {M : Type 1} → statement M
 draw-keys-spec =
     tie.close
-    (tie.spec Inv-loop μ-loop fields-of-requires loop-holds draw-key-requires add-field loop-less loop-again returns)
+    (tie.spec
+    Inv-loop
+    μ-loop
+    fields-of-requires
+    loop-holds
+    draw-key-requires
+    add-field
+    loop-less
+    loop-again
+    returns)

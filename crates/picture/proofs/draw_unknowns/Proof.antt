@@ -5,10 +5,16 @@ use Rattle.picture.proofs.draw_unknowns.Statement.{statement}
 use Rattle.picture.proofs.draw_unknowns.Tie as tie
 
 abbrev Inv-loop : tie.InvT-loop
-Inv-loop file image arguments blocks drawn₀ k₀ drawn k = Unit
+Inv-loop file image arguments blocks first drawn₀ k₀ drawn k = Unit
 
 abbrev μ-loop : tie.MeasureT-loop
-μ-loop file image arguments blocks drawn₀ k₀ drawn k = blocks - k
+μ-loop file image arguments blocks first drawn₀ k₀ drawn k = blocks - k
+
+page-of-requires : tie.Need-page-of-requires Inv-loop μ-loop
+page-of-requires c κs = search needs
+
+cast-first : tie.Need-cast-first Inv-loop μ-loop
+cast-first c = search needs
 
 loop-holds : tie.Need-loop-holds Inv-loop μ-loop
 loop-holds c = search needs
@@ -49,6 +55,8 @@ draw-unknowns-spec =
     (tie.spec
     Inv-loop
     μ-loop
+    page-of-requires
+    cast-first
     loop-holds
     block-place-requires
     is-known-requires

@@ -5,10 +5,10 @@ use Rattle.report.proofs.show_magic_reserved.Statement.{statement}
 use Rattle.report.proofs.show_magic_reserved.Tie as tie
 
 abbrev Inv-loop : tie.InvT-loop
-Inv-loop image field₀ field = Unit
+Inv-loop image size field₀ field = Unit
 
 abbrev μ-loop : tie.MeasureT-loop
-μ-loop image field₀ field = 32 - field
+μ-loop image size field₀ field = 32 - field
 
 loop-holds : tie.Need-loop-holds Inv-loop μ-loop
 loop-holds c = search needs

@@ -1,7 +1,7 @@
 -- Frame, ID CRC, leaf and SROM CRC are the board. Assumes nothing.
 use native.Mathlib.Omega.{arith}
 use lib.ListN.{length-take, length-drop}
-use Rattle.rom.proofs.Layouts.{geometry, image-length}
+use Rattle.rom.proofs.Layouts.{geometry, small-length}
 use Rattle.writer.proofs.Sheets.{has-head, leaf-roomy}
 use Rattle.writer.proofs.Images.{board-is}
 use borrow.Author.Needs.{needs}
@@ -9,7 +9,7 @@ use Rattle.writer.proofs.board.Statement.{statement}
 use Rattle.writer.proofs.board.Tie as tie
 
 frame-requires : tie.Need-frame-requires
-frame-requires c κs = has-head _ (c .before .pre .is)
+frame-requires c κs = (has-head _ (c .before .pre .is), c .before .pre .small)
 
 identify-requires : tie.Need-identify-requires
 identify-requires c κs = search needs
@@ -27,7 +27,7 @@ put-leaf-requires : tie.Need-put-leaf-requires
 put-leaf-requires c κs =
     let e = c .before .before .before .before in
     let g = geometry (e .args .layout) in
-    let n = image-length (e .args .layout) in
+    let n = small-length (e .args .layout .size) (e .pre .small) in
     leaf-roomy (e .args .layout) (e .args .sheet .now) (e .pre) _ (simp (length-take, length-drop) (omega arith))
 
 seal-requires : tie.Need-seal-requires

@@ -1,6 +1,7 @@
 -- The board, and what the output has behind it. Assumes nothing.
 use native.Mathlib.Omega.{arith}
-use Rattle.rom.proofs.Layouts.{geometry}
+use Rattle.rom.proofs.Layouts.{geometry, right-length}
+use Rattle.sheet.proofs.Returns.{small-output}
 use Rattle.writer.proofs.Images.{built-is}
 use borrow.Author.Needs.{needs}
 use Rattle.writer.proofs.build.Statement.{statement}
@@ -18,12 +19,16 @@ slice-aggregate-put-bytes c = search needs
 sub-put-bytes : tie.Need-sub-put-bytes
 sub-put-bytes c =
     let start = c .before .before .before .before .before in
-    let g = geometry (start .args .layout) in omega (arith, start .pre .1)
+    let g = geometry (start .args .layout) in
+    let n = small-output (start .args .layout) _ (start .pre .1) .1 in
+    omega (arith, right-length (start .args .layout .size) _ n)
 
 part-put-bytes-start : tie.Need-part-put-bytes-start
 part-put-bytes-start c =
     let start = c .before .before .before .before .before in
-    let g = geometry (start .args .layout) in omega (arith, start .pre .1)
+    let g = geometry (start .args .layout) in
+    let n = small-output (start .args .layout) _ (start .pre .1) .1 in
+    omega (arith, right-length (start .args .layout .size) _ n)
 
 part-put-bytes-end : tie.Need-part-put-bytes-end
 part-put-bytes-end c = search needs

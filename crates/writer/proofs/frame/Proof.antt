@@ -30,7 +30,8 @@ returns c =
     let leaves-end = c .before .before .before in
     let front = leaves-end .before .before in
     let start = front .before .before in
-    frame-is (start .args .sheet .now) (start .pre) (start .args .layout) _ (front .front .ensures) (leaves-end .leaves-end .ensures)
+    frame-is (start .args .sheet .now) (start .pre .0) (start .args .layout) (start .pre .1) _
+    (front .front .ensures) (leaves-end .leaves-end .ensures)
     (c .before .put-bytes .ensures)
 
 pub frame-spec : {M : Type 1} → statement M

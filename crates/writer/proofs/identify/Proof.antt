@@ -1,10 +1,12 @@
 -- The CRC that is answered goes to byte 16. Assumes nothing.
 use native.Mathlib.Omega.{arith}
 use Prim.Native.Nat.{ℕ}
-use mathlib.Core.Path.{ap}
-use lib.ListN.{set}
-use Rattle.rom.specs.Geometry.{withoutMagic}
-use Rattle.rom.proofs.Layouts.{image-length}
+use mathlib.Core.Path.{_≡_, refl, ap}
+use mathlib.Core.Bool.{false}
+use mathlib.Core.List.{List}
+use lib.ListN.{length, set}
+use Rattle.rom.specs.Geometry.{smallSize, wrongLength}
+use Rattle.rom.proofs.Layouts.{small-right, not-other}
 use Rattle.crc.specs.Crc.{idCrc}
 use Rattle.crc.specs.Answer.{idAnswer}
 use Rattle.crc.proofs.Answers.{answered}
@@ -20,12 +22,14 @@ slice-aggregate-id-crc c = search needs
 id-crc-requires : tie.Need-id-crc-requires
 id-crc-requires c κs = search needs
 
+whole : (image : List ℕ) → length image ≡ smallSize → wrongLength smallSize (length image) ≡ false
+whole image e = small-right smallSize (length image) (not-other smallSize refl) e
+
 cast-whole : tie.Need-cast-whole
 unfolding idAnswer idCrc
 cast-whole c =
     let image = c .before .before .args .t1 in
-    let n = image-length withoutMagic in
-    let e = answered withoutMagic image (idCrc image) _ (omega arith) (c .id-crc .ensures) in
+    let e = answered smallSize image (idCrc image) _ (whole image (omega arith)) (c .id-crc .ensures) in
     let l = crc8-lt 8 0 image in
     omega arith
 
@@ -36,8 +40,7 @@ returns : tie.Need-returns
 unfolding withIdCrc idAnswer
 returns c =
     let image = c .before .before .args .t1 in
-    let n = image-length withoutMagic in
-    ap (λ (v : ℕ). set image 16 v) (answered withoutMagic image (idCrc image) _ (omega arith) (c .id-crc .ensures))
+    ap (λ (v : ℕ). set image 16 v) (answered smallSize image (idCrc image) _ (whole image (omega arith)) (c .id-crc .ensures))
 
 pub identify-spec : {M : Type 1} → statement M
 identify-spec =

@@ -4,7 +4,7 @@ use Prim.Native.Nat.{ℕ}
 use mathlib.Core.Path.{ap₂, _∙_}
 use Rattle.rom.specs.Geometry.{checkedLength}
 use Rattle.rom.specs.Store.{wordBytes, laid}
-use Rattle.rom.proofs.Layouts.{geometry, image-length}
+use Rattle.rom.proofs.Layouts.{geometry, small-length, small-right}
 use Rattle.rom.proofs.Put.{laid-word}
 use Rattle.crc.specs.Crc.{sromCrc}
 use Rattle.crc.specs.Answer.{sromAnswer}
@@ -35,11 +35,12 @@ returns c =
     let e = c .before .before .before .before .before .before in
     let image = e .args .t1 in
     let l = e .args .layout in
-    let n = image-length l in
+    let n = small-length (l .size) (e .pre) in
     let g = geometry l in
     c .before .put-word .ensures
     ∙ ap₂ (λ (i v : ℕ). laid image i (wordBytes v)) (c .before .before .checked-length .ensures)
-    (answered l image (sromCrc l image) _ (omega arith) (c .before .before .before .before .srom-crc .ensures))
+    (answered (l .size) image (sromCrc l image) _ (small-right (l .size) _ (e .pre) (omega arith))
+    (c .before .before .before .before .srom-crc .ensures))
     ∙ laid-word image (checkedLength l) _ (omega arith)
 
 pub seal-spec : {M : Type 1} → statement M

@@ -2,7 +2,8 @@
 use native.Mathlib.Omega.{arith}
 use mathlib.Core.Path.{sym, _∙_}
 use borrow.Author.Tests.{not-true, not-false}
-use Rattle.rom.proofs.Layouts.{image-length}
+use Rattle.rom.proofs.Layouts.{right-length, small-length}
+use Rattle.sheet.proofs.Returns.{small-output}
 use Rattle.rom.proofs.Put.{laid-whole}
 use Rattle.sheet.specs.Sheet.{sheetFrom}
 use Rattle.sheet.specs.Image.{newest}
@@ -18,13 +19,13 @@ returns : tie.Need-returns
 returns c =
     kept _ _ _ 24 (write-24 _ _ _ (sym (c .before .is-sheet .ensures) ∙ not-true _ (c .if1 .taken))) (omega arith)
 
-image-length-requires : tie.Need-image-length-requires
-image-length-requires c κs = search needs
+is-wrong-output-requires : tie.Need-is-wrong-output-requires
+is-wrong-output-requires c κs = search needs
 
 returns-2 : tie.Need-returns-2
 returns-2 c =
     kept _ _ _ 1 (write-1 _ _ _ (sym (c .before .before .before .is-sheet .ensures) ∙ not-false _ (c .before .before .if1 .left))
-    (λ e. c .if2 .taken (e ∙ sym (c .before .image-length .ensures)))) (omega arith)
+    (sym (c .before .is-wrong-output .ensures) ∙ c .if2 .taken)) (omega arith)
 
 record-refusal-requires : tie.Need-record-refusal-requires
 record-refusal-requires c κs =
@@ -35,7 +36,7 @@ returns-3 c =
     let measured = c .before .before .before in
     let is-sheet = measured .before .before in
     kept _ _ _ _ (write-record _ _ _ (sym (is-sheet .is-sheet .ensures) ∙ not-false _ (measured .before .if1 .left))
-    (c .before .before .if2 .left ∙ measured .image-length .ensures) _ (c .before .record-refusal .ensures) (c .if3 .taken))
+    (sym (measured .is-wrong-output .ensures) ∙ c .before .before .if2 .left) _ (c .before .record-refusal .ensures) (c .if3 .taken))
     (c .if3 .taken)
 
 build-requires : tie.Need-build-requires
@@ -44,10 +45,11 @@ build-requires c κs =
     let is-sheet = measured .before .before in (
       record {
         is = sym (is-sheet .is-sheet .ensures) ∙ not-false _ (measured .before .if1 .left);
+        small = small-output _ _ (sym (measured .is-wrong-output .ensures) ∙ c .before .before .before .if2 .left) .0;
         number = sym
             (c .before .before .record-refusal .ensures) ∙ c .before .if3 .left;
       },
-      c .before .before .before .if2 .left ∙ measured .image-length .ensures,
+      sym (measured .is-wrong-output .ensures) ∙ c .before .before .before .if2 .left,
     )
 
 word-at-requires : tie.Need-word-at-requires
@@ -72,7 +74,7 @@ returns-4 c =
     let is-sheet = measured .before .before in
     kept _ _ _ _
     (write-judged _ _ _ (sym (is-sheet .is-sheet .ensures) ∙ not-false _ (measured .before .if1 .left))
-    (record-refusal .before .if2 .left ∙ measured .image-length .ensures) _ _ _
+    (sym (measured .is-wrong-output .ensures) ∙ record-refusal .before .if2 .left) _ _ _
     (sym (record-refusal .record-refusal .ensures) ∙ build .before .before .if3 .left) (build .build .ensures)
     (word-at .word-at .ensures) (c .before .judge .ensures))
     (c .if4 .taken)
@@ -100,11 +102,12 @@ returns-5 c =
     let number =
     write-judged (a .layout) (a .sheet .now) (a .image .now)
     (sym (is-sheet .is-sheet .ensures) ∙ not-false _ (measured .before .if1 .left))
-    (record-refusal .before .if2 .left ∙ measured .image-length .ensures) _ _ _
+    (sym (measured .is-wrong-output .ensures) ∙ record-refusal .before .if2 .left) _ _ _
     (sym (record-refusal .record-refusal .ensures) ∙ built .before .before .if3 .left) (built .build .ensures)
     (word-at .word-at .ensures) (judge .judge .ensures) in
-    let n = image-length (a .layout) in
-    let l = record-refusal .before .if2 .left ∙ measured .image-length .ensures in
+    let right = small-output (a .layout) _ (sym (measured .is-wrong-output .ensures) ∙ record-refusal .before .if2 .left) in
+    let n = small-length (a .layout .size) (right .0) in
+    let l = right-length (a .layout .size) _ (right .1) in
     copied (a .layout) (a .sheet .now) (a .image .now) _ (sym (c .before .before .before .before .before .if4 .left) ∙ number)
     (c .before .before .put-bytes .ensures ∙ laid-whole (a .image .now) (built .build .result) (omega arith) ∙ built .build .ensures)
 
@@ -114,7 +117,7 @@ write-spec =
     (tie.spec
     is-sheet-requires
     returns
-    image-length-requires
+    is-wrong-output-requires
     returns-2
     record-refusal-requires
     returns-3

@@ -1,24 +1,27 @@
-//! Writes 400 records, each an image and the arguments to read it with, and a piece that is too
-//! short to one file, and to another what reading each must answer: `image_vectors INPUT OUTPUT`.
+//! Writes 450 records, each an image and the arguments to read it with, to one file, and to another
+//! what reading each must answer: `image_vectors INPUT OUTPUT`.
 //!
-//! A record has 133 bytes: the chip (a word, low byte first), the controller, the level, the layout
-//! (1 with a Magic Packet block, 0 without), the image.
+//! A record has the image's length (a word, low byte first), the chip (a word), the controller, the
+//! level, the stated size (a word), the layout (1 with a Magic Packet block, 0 without), the image.
 
 use second::cases::cases;
-use second::crc::IMAGE_LENGTH;
-use second::images::{DAMAGES, Image, Sample};
-use second::layout::{LAYOUTS, Layout};
+use second::images::{Image, Sample, damages};
+use second::layout::LAYOUTS;
 use second::random::Random;
 use second::reader::{Arguments, read_all, view};
 use std::{env, fs, io, process};
 
-const RECORD_COUNT: usize = 400;
-const ARGUMENTS_LENGTH: usize = 5;
-const RECORD_LENGTH: usize = ARGUMENTS_LENGTH + IMAGE_LENGTH;
-const SHORT_LENGTH: usize = 57;
-const DAMAGED_COUNT: usize = 10;
-const POWERED_COUNT: usize = 16;
+const RECORD_COUNT: usize = 450;
+const MISSIZED_COUNT: usize = 6;
+const DAMAGED_COUNT: usize = 3;
+const POWERED_COUNT: usize = 24;
 const VALID_COUNT: usize = 150;
+
+/// An image and the arguments to read it with.
+struct Record {
+    image: Image,
+    arguments: Arguments,
+}
 
 fn main() -> io::Result<()> {
     let arguments: Vec<_> = env::args_os().skip(1).collect();
@@ -26,116 +29,128 @@ fn main() -> io::Result<()> {
         eprintln!("usage: image_vectors INPUT OUTPUT");
         process::exit(2);
     };
-    let bytes = records();
-    let lines: String = bytes.chunks(RECORD_LENGTH).map(line).collect();
+    let records = records();
+    let bytes: Vec<_> = records.iter().flat_map(Record::bytes).collect();
+    let lines: String = records.iter().map(Record::line).collect();
     fs::write(input, bytes)?;
     fs::write(output, lines)
 }
 
-/// The cases of document 01, the longest leaf, each field damaged, valid cards with power blocks,
-/// valid cards for readers of all levels, leaves of random bytes, and a record that is cut short.
-fn records() -> Vec<u8> {
+/// The cases of document 01; in each layout the leaf with the most blocks and each field damaged;
+/// valid cards with power blocks, valid cards for readers of all levels, and leaves of random bytes.
+fn records() -> Vec<Record> {
     let mut random = Random::new(1);
-    let mut records = Vec::new();
-    for case in cases() {
-        records.push(record(case.arguments, &case.image));
-    }
+    let mut records: Vec<_> = cases()
+        .into_iter()
+        .map(|case| Record {
+            image: case.image,
+            arguments: case.arguments,
+        })
+        .collect();
     for layout in LAYOUTS {
         let mut sample = Sample::longest(&mut random, layout);
         sample.arguments.level = 0;
-        records.push(record(sample.arguments, &sample.card.image()));
-    }
-    for number in DAMAGES {
-        for _ in 0..DAMAGED_COUNT {
-            let sample = Sample::damaged(&mut random, number);
-            records.push(record(sample.arguments, &sample.card.image()));
+        records.push(Record::of(&sample));
+        for number in damages(layout) {
+            let count = if number == 1 {
+                MISSIZED_COUNT
+            } else {
+                DAMAGED_COUNT
+            };
+            for _ in 0..count {
+                records.push(Record::of(&Sample::damaged_in(&mut random, number, layout)));
+            }
         }
     }
-    for _ in 0..POWERED_COUNT {
-        let sample = Sample::powered(&mut random);
-        records.push(record(sample.arguments, &sample.card.image()));
+    for round in 0..POWERED_COUNT {
+        let layout = LAYOUTS[round % LAYOUTS.len()];
+        records.push(Record::of(&Sample::powered_in(&mut random, layout)));
     }
     for _ in 0..VALID_COUNT {
         let mut sample = Sample::valid(&mut random);
         sample.arguments.level = random.pick(&[0, 1, 2, 3, 4, 5, 6, 7, 7, 7, 7]);
-        records.push(record(sample.arguments, &sample.card.image()));
+        records.push(Record::of(&sample));
     }
     while records.len() < RECORD_COUNT {
-        let sample = Sample::wild(&mut random);
-        records.push(record(sample.arguments, &sample.card.image()));
+        records.push(Record::of(&Sample::wild(&mut random)));
     }
-    let short = records[0][..SHORT_LENGTH].to_vec();
-    records.push(short);
-    records.concat()
+    records
 }
 
-fn record(arguments: Arguments, image: &Image) -> Vec<u8> {
-    let [low, high] = arguments.chip.to_le_bytes();
-    let magic = arguments.layout.magic.into();
-    let first = [low, high, arguments.controller, arguments.level, magic];
-    [first.as_slice(), image].concat()
-}
-
-/// The answer, its numbers up to the address in hex, and the table, each entry with its view's bytes
-/// in hex; or the refusal's number.
-fn line(record: &[u8]) -> String {
-    let (first, image) = record.split_at(ARGUMENTS_LENGTH);
-    let arguments = Arguments {
-        chip: u16::from_le_bytes([first[0], first[1]]),
-        controller: first[2],
-        level: first[3],
-        layout: Layout {
-            magic: first[4] == 1,
-        },
-    };
-    let (answer, entries) = read_all(image, arguments);
-    if answer.number != 0 {
-        return format!("refused {}\n", answer.number);
+impl Record {
+    fn of(sample: &Sample) -> Self {
+        Self {
+            image: sample.card.image(),
+            arguments: sample.arguments,
+        }
     }
-    let entry = |(entry, (kind, offset)): (usize, &(u16, u16))| {
-        let block: String = view(image, arguments, entry)
-            .iter()
-            .map(|byte| format!("{byte:02x}"))
-            .collect();
-        format!(" {kind}@{offset}:{block}")
-    };
-    let table: String = entries.iter().enumerate().map(entry).collect();
-    let [_, connection, control, address, counts @ ..] = answer.values();
-    let counts = counts.map(|count| count.to_string()).join(" ");
-    format!("accepted {connection:04x} {control:02x} {address:012x} {counts}{table}\n")
+
+    fn bytes(&self) -> Vec<u8> {
+        let mut bytes = (self.image.len() as u16).to_le_bytes().to_vec();
+        bytes.extend(self.arguments.bytes());
+        bytes.extend(&self.image);
+        bytes
+    }
+
+    /// The answer, its numbers up to the address in hex, and the table, each entry with its view's
+    /// bytes in hex; or the refusal's number.
+    fn line(&self) -> String {
+        let (answer, entries) = read_all(&self.image, self.arguments);
+        if answer.number != 0 {
+            return format!("refused {}\n", answer.number);
+        }
+        let entry = |(entry, (kind, offset)): (usize, &(u16, u16))| {
+            let block: String = view(&self.image, self.arguments, entry)
+                .iter()
+                .map(|byte| format!("{byte:02x}"))
+                .collect();
+            format!(" {kind}@{offset}:{block}")
+        };
+        let table: String = entries.iter().enumerate().map(entry).collect();
+        let [_, connection, control, address, counts @ ..] = answer.values();
+        let counts = counts.map(|count| count.to_string()).join(" ");
+        format!("accepted {connection:04x} {control:02x} {address:012x} {counts}{table}\n")
+    }
 }
 
 #[cfg(test)]
 mod tests {
     use super::*;
     use second::images::{Card, block};
+    use second::layout::SIZES;
 
-    /// "Why a call is refused": the records meet 1 to 18, but for 12, 29 to 31 and acceptance in both
-    /// layouts.
+    /// "Why a call is refused": the records of each size meet 1 to 18, but for 12, 29 to 31 and
+    /// acceptance in both layouts; and blocks behind byte 255, and a leaf of 255 blocks.
     #[test]
     fn every_refusal() {
-        let bytes = records();
-        assert_eq!(bytes.len(), RECORD_COUNT * RECORD_LENGTH + SHORT_LENGTH);
-        let lines: Vec<_> = bytes.chunks(RECORD_LENGTH).map(line).collect();
-        for number in (1..=18).filter(|&number| number != 12).chain(29..=31) {
-            assert!(lines.contains(&format!("refused {number}\n")), "{number}");
+        let records = records();
+        assert_eq!(records.len(), RECORD_COUNT);
+        for size in SIZES {
+            let of_size = records.iter().filter(|it| it.arguments.layout.size == size);
+            let lines: Vec<_> = of_size.map(Record::line).collect();
+            for number in (1..=18).filter(|&number| number != 12).chain(29..=31) {
+                let refused = format!("refused {number}\n");
+                assert!(lines.contains(&refused), "{size}: {number}");
+            }
         }
-        for magic in [0, 1] {
-            let records = bytes.chunks(RECORD_LENGTH).zip(&lines);
-            let accepted =
-                records.filter(|(record, line)| record[4] == magic && line.starts_with("accepted"));
-            let often = accepted.count();
-            assert!(often > VALID_COUNT / 3, "{magic}: {often}");
+        let answer = |record: &Record| read_all(&record.image, record.arguments);
+        for layout in LAYOUTS {
+            let of_layout = records.iter().filter(|it| it.arguments.layout == layout);
+            let often = of_layout.filter(|it| answer(it).0.number == 0).count();
+            assert!(often > VALID_COUNT / 6, "{layout:?}: {often}");
         }
-        assert_eq!(lines.last().map(String::as_str), Some("refused 1\n"));
+        let has_high = |it: &&Record| answer(it).1.iter().any(|&(_, offset)| offset > 255);
+        assert!(records.iter().filter(has_high).count() > 20);
+        assert!(records.iter().any(|it| answer(it).0.blocks == 255));
+        let is_misstated = |it: &&Record| !SIZES.contains(&it.arguments.layout.size);
+        assert!(records.iter().filter(is_misstated).count() > 5);
     }
 
     /// Case b of document 01, in the form of a line.
     #[test]
     fn line_of_case_b() {
-        let case = &cases()[1];
         assert_eq!(
-            line(&record(case.arguments, &case.image)),
+            records()[1].line(),
             "accepted 0800 00 08002b000000 3 2 0 1 0 255 \
              2@42:86020101000200 2@33:86020001000200\n"
         );
@@ -154,7 +169,13 @@ mod tests {
             block::power(0xF0, &[]),
         ];
         let image = Card::tidy(21143, 0x0800, blocks).image();
-        let line_at = |level| line(&record(Arguments::at_level(21143, level), &image));
+        let line_at = |level| {
+            let record = Record {
+                image: image.clone(),
+                arguments: Arguments::at_level(21143, level),
+            };
+            record.line()
+        };
         let table = "4@37:880403000000000040";
         assert_eq!(
             line_at(7),
@@ -164,19 +185,21 @@ mod tests {
             line_at(6),
             format!("accepted 0800 00 08002b000000 6 1 1 4 0 1 {table}\n")
         );
-        let bytes = records();
-        for magic in [0, 1] {
-            let of_layout = bytes
-                .chunks(RECORD_LENGTH)
-                .filter(|record| record[4] == magic);
-            let lines: Vec<_> = of_layout.map(line).collect();
+        let records = records();
+        for layout in LAYOUTS {
+            let of_layout = records.iter().filter(|it| it.arguments.layout == layout);
+            let lines: Vec<_> = of_layout.map(Record::line).collect();
             let power = |line: &String| {
                 let words: Vec<_> = line.split_whitespace().collect();
                 words.get(8).map_or(0, |word| word.parse().unwrap())
             };
             let often = |least: u8| lines.iter().filter(|line| power(line) >= least).count();
-            assert!(often(1) > POWERED_COUNT / 3, "{magic}: {}", often(1));
-            assert!(often(2) > 1, "{magic}: {}", often(2));
+            assert!(
+                often(1) > POWERED_COUNT / LAYOUTS.len(),
+                "{layout:?}: {}",
+                often(1)
+            );
+            assert!(often(2) > 1, "{layout:?}: {}", often(2));
         }
     }
 }

@@ -1,20 +1,19 @@
-//! Writes 400 records, each a sheet with the layout and the output to write it to, to one file, and
-//! to another the image that each must give and the sheet made of it again:
-//! `sheet_vectors INPUT OUTPUT`.
+//! Writes 440 records, each a sheet with the layout and the output to write it to, to one file, and
+//! to another the image that each must give and the sheet made of it again, or what the maker answers
+//! to an output that is refused for its size: `sheet_vectors INPUT OUTPUT`.
 //!
-//! A record has the sheet's length (a word, low byte first), the layout (1 with a Magic Packet block,
-//! 0 without), the 32 bytes that the output holds from byte 96 on, and the sheet. The output's bytes
-//! before are 0.
+//! A record has the sheet's length (a word, low byte first), the stated size (a word), the layout (1
+//! with a Magic Packet block, 0 without), whether the output is of the larger size (1) or of the
+//! smaller (0), its last 32 bytes, and the sheet. The output's bytes before are 0.
 
-use second::crc::IMAGE_LENGTH;
-use second::images::{Card, Image, MAGIC_DAMAGES, MagicBlock};
-use second::layout::{LAYOUTS, Layout, MAGIC_OFFSET};
+use second::images::{Card, Image, MAGIC_DAMAGES, MagicBlock, WRONG_SIZES};
+use second::layout::{LARGE, Layout, SHEET_LAYOUTS, SIZES, magic_block};
 use second::random::Random;
 use second::sheet::{CHIP, LONGEST_SHEET, make, write};
 use second::sheets::{SHEET_DAMAGES, Sheet};
 use std::{env, fs, io, process};
 
-const RECORD_COUNT: usize = 400;
+const RECORD_COUNT: usize = 440;
 const DAMAGED_COUNT: usize = 12;
 
 /// A sheet and what it is written with.
@@ -38,11 +37,11 @@ fn main() -> io::Result<()> {
 }
 
 /// In both layouts sheets without blocks and with the most, no bytes at all, each field damaged, and
-/// valid sheets; and valid ones for an output whose block is damaged.
+/// valid sheets; valid ones for an output whose block is damaged, or whose size is not served.
 fn records() -> Vec<Record> {
     let mut random = Random::new(1);
     let mut records = Vec::new();
-    for layout in LAYOUTS {
+    for layout in SHEET_LAYOUTS {
         let longest = &Card::longest(&mut random, layout).leaves[0];
         for sheet in [
             Sheet::new(21143, 0x0800, &[]).bytes(),
@@ -54,7 +53,7 @@ fn records() -> Vec<Record> {
     }
     for number in SHEET_DAMAGES {
         for round in 0..DAMAGED_COUNT {
-            let layout = LAYOUTS[round % 2];
+            let layout = SHEET_LAYOUTS[round % 2];
             let sheet = Sheet::damaged(&mut random, number, layout);
             records.push(Record::new(&mut random, layout, sheet));
         }
@@ -67,18 +66,35 @@ fn records() -> Vec<Record> {
             records.push(record);
         }
     }
+    for (output, stated) in other_sizes() {
+        for layout in SHEET_LAYOUTS {
+            let sheet = Sheet::valid(&mut random, layout).bytes();
+            let mut record = Record::new(&mut random, layout, sheet);
+            record.layout.size = stated;
+            record.output = vec![0; output.into()];
+            MagicBlock::valid(&mut random).lay(&mut record.output);
+            records.push(record);
+        }
+    }
     while records.len() < RECORD_COUNT {
-        let layout = random.pick(&LAYOUTS);
+        let layout = random.pick(&SHEET_LAYOUTS);
         let sheet = Sheet::valid(&mut random, layout).bytes();
         records.push(Record::new(&mut random, layout, sheet));
     }
     records
 }
 
+/// Sizes of the output, and sizes that are stated of it, that no sheet is written with.
+fn other_sizes() -> impl Iterator<Item = (u16, u16)> {
+    let stated = WRONG_SIZES.into_iter().chain(SIZES);
+    let pairs = stated.flat_map(|stated| SIZES.map(|output| (output, stated)));
+    pairs.filter(|&(output, stated)| output == LARGE || output != stated)
+}
+
 impl Record {
     /// With an output that has a right block, whether the layout does or not.
     fn new(random: &mut Random, layout: Layout, sheet: Vec<u8>) -> Self {
-        let mut output = [0; IMAGE_LENGTH];
+        let mut output = vec![0; layout.size.into()];
         MagicBlock::valid(random).lay(&mut output);
         Self {
             layout,
@@ -89,18 +105,22 @@ impl Record {
 
     fn bytes(&self) -> Vec<u8> {
         let mut bytes = (self.sheet.len() as u16).to_le_bytes().to_vec();
-        bytes.push(self.layout.magic.into());
-        bytes.extend(&self.output[MAGIC_OFFSET..]);
+        bytes.extend(self.layout.size.to_le_bytes());
+        let is_large = self.output.len() == LARGE.into();
+        bytes.extend([self.layout.magic, is_large].map(u8::from));
+        bytes.extend(magic_block(&self.output));
         bytes.extend(&self.sheet);
         bytes
     }
 
     /// The image in hex and, on a line of its own, the sheet made of it; for either, the refusal's
-    /// number where it is refused.
+    /// number where it is refused. Where the writer refuses the output's size, the maker is asked of
+    /// the output.
     fn lines(&self) -> String {
-        let mut image = self.output;
+        let mut image = self.output.clone();
         match write(&self.sheet, self.layout, &mut image) {
             0 => hex(&image) + &self.line_of_sheet(&image),
+            1 => refused(1) + &self.line_of_sheet(&image),
             number => refused(number),
         }
     }
@@ -133,7 +153,7 @@ mod tests {
     use second::sheet::{COUNT, KINDS};
 
     /// "Writer: 24 ... then the newest reader's number": the records meet all that a sheet can
-    /// cause, and what the output's block can.
+    /// cause, and what the output's block and size can. "Sheets and their writer keep to 128 bytes".
     #[test]
     fn every_refusal() {
         let records = records();
@@ -143,6 +163,13 @@ mod tests {
             let met = lines.iter().filter(|line| **line == refused(number));
             assert!(met.count() >= DAMAGED_COUNT, "{number}");
         }
+        let both = refused(1) + &refused(1);
+        for (record, lines) in records.iter().zip(&lines) {
+            let is_served = record.layout.size == 128 && record.output.len() == 128;
+            assert!(is_served != lines.starts_with(&refused(1)));
+            assert!(is_served || *lines == both, "{lines}");
+        }
+        assert!(lines.iter().filter(|lines| **lines == both).count() > 30);
     }
 
     /// "newest means 7": some of the sheets that are written have power blocks, and some of them two.
@@ -167,7 +194,7 @@ mod tests {
     /// and the first ends with the output's bytes where they are kept.
     #[test]
     fn second_line_is_the_sheet() {
-        for layout in LAYOUTS {
+        for layout in SHEET_LAYOUTS {
             let mut met = 0;
             for record in records().iter().filter(|record| record.layout == layout) {
                 let lines = record.lines();
@@ -175,7 +202,7 @@ mod tests {
                     continue;
                 }
                 assert_eq!(lines[256..], format!("\n{}", hex(&record.sheet)));
-                let kept = hex(&record.output[MAGIC_OFFSET..]);
+                let kept = hex(magic_block(&record.output));
                 assert_eq!(lines[192..].starts_with(&kept), layout.magic);
                 met += 1;
             }

@@ -2,8 +2,12 @@
 //! of each: `text_vectors INPUT OUTPUT`.
 
 use second::forms::{FORMS, Form};
+use second::layout::SMALL;
 use second::random::Random;
 use std::{env, fs, io, process};
+
+/// The bytes of an image.
+const ROM: usize = SMALL as usize;
 
 /// A text is filled up to so many bytes with blanks.
 const ROOM: usize = 1024;
@@ -84,15 +88,15 @@ fn vectors() -> Vec<Vector> {
 
 /// Random bytes with rows of zeros among them, and with ends of lines as DOS has them.
 fn whole(form: Form, random: &mut Random) -> Vec<Vector> {
-    let mut bytes: [u8; 128] = random.bytes();
+    let mut bytes: [u8; ROM] = random.bytes();
     bytes[32..80].fill(0);
     let mut vectors = vec![
         fine(form.text(&bytes), &bytes),
-        fine(form.text(&[0; 128]), &[0; 128]),
+        fine(form.text(&[0; ROM]), &[0; ROM]),
     ];
     for length in [1, 15, 16, 76, 87] {
         if !form.is_words() || length % 2 == 0 {
-            let bytes = &random.bytes::<128>()[..length];
+            let bytes = &random.bytes::<ROM>()[..length];
             vectors.push(fine(form.text(bytes), bytes));
         }
     }

@@ -1,22 +1,24 @@
-//! Writes 400 records, each an image, the arguments to load it with and a list of calls, to one
+//! Writes 450 records, each an image, the arguments to load it with and a list of calls, to one
 //! file, and to another what each call must answer: `walk_vectors INPUT OUTPUT`.
 //!
-//! A record has the chip (a word, low byte first), the controller, the level, the layout (1 with a
-//! Magic Packet block, 0 without), the image, how many calls follow, and these: 0 a load, 1 a clear,
-//! 2 a look, which the report's length and the report follow.
+//! A record has the image's length (a word, low byte first), the chip (a word), the controller, the
+//! level, the stated size (a word), the layout (1 with a Magic Packet block, 0 without), how many calls
+//! follow, the image, and the calls: 0 a load, 1 a clear, 2 a look, which the report's length and the
+//! report follow.
 
 use second::calls::{self, Call, Habits};
 use second::cases::{CASES_K, CaseK, REPORTS_K, card_b, cases};
-use second::images::{DAMAGES, Image, Sample};
-use second::layout::LAYOUTS;
+use second::images::{Card, Image, Sample, damages};
+use second::layout::{LAYOUTS, SIZES};
 use second::random::Random;
-use second::reader::Arguments;
+use second::reader::{Arguments, CHIPS};
 use second::walk::{Autosense, NONE};
 use std::{env, fs, io, process};
 
-const RECORD_COUNT: usize = 400;
-const DAMAGED_COUNT: usize = 3;
+const RECORD_COUNT: usize = 450;
+const DAMAGED_COUNT: usize = 2;
 const POWERED_COUNT: usize = 24;
+const FIXED_COUNT: usize = 60;
 const MOST_CALLS: usize = 12;
 
 /// The longest report whose length fits a byte.
@@ -42,8 +44,9 @@ fn main() -> io::Result<()> {
     fs::write(output, lines)
 }
 
-/// Case k of document 01, lists on the cases before it and on the longest leaf, each field damaged,
-/// cards with power blocks, and valid cards at all levels, autosensed and fixed ones.
+/// Case k of document 01, lists on the cases before it and on the leaf with the most blocks of each
+/// layout, each field damaged, cards with power blocks, and valid cards at all levels, autosensed and
+/// fixed ones.
 fn records() -> Vec<Record> {
     let mut random = Random::new(1);
     let mut records = case_k();
@@ -55,16 +58,29 @@ fn records() -> Vec<Record> {
             list,
         });
     }
-    let mut samples: Vec<_> = LAYOUTS
-        .map(|layout| Sample::longest(&mut random, layout))
-        .into();
-    for number in DAMAGES {
-        samples.extend((0..DAMAGED_COUNT).map(|_| Sample::damaged(&mut random, number)));
+    let mut samples = Vec::new();
+    for layout in LAYOUTS {
+        samples.push(Sample::longest(&mut random, layout));
+        for number in damages(layout) {
+            let damaged = |_| Sample::damaged_in(&mut random, number, layout);
+            samples.extend((0..DAMAGED_COUNT).map(damaged));
+        }
     }
-    for _ in 0..POWERED_COUNT {
-        let mut sample = Sample::powered(&mut random);
+    for round in 0..POWERED_COUNT {
+        let layout = LAYOUTS[round % LAYOUTS.len()];
+        let mut sample = Sample::powered_in(&mut random, layout);
         calls::autosense(&mut random, &mut sample.card);
         samples.push(sample);
+    }
+    samples.extend((0..FIXED_COUNT).map(|_| calls::fixed(&mut random)));
+    // Without a block no chip's leaf has a fixed medium.
+    for (chip, size) in CHIPS
+        .into_iter()
+        .flat_map(|chip| SIZES.map(|size| (chip, size)))
+    {
+        let card = Card::tidy(chip, 0x0001, vec![]).sized(size);
+        let arguments = Arguments::newest(chip).laid_out(card.layout());
+        samples.push(Sample { card, arguments });
     }
     while records.len() + samples.len() < RECORD_COUNT {
         samples.push(calls::sample(&mut random));
@@ -108,11 +124,10 @@ fn list(random: &mut Random, image: &Image, arguments: Arguments) -> Vec<Call> {
 
 impl Record {
     fn bytes(&self) -> Vec<u8> {
-        let mut bytes = self.arguments.chip.to_le_bytes().to_vec();
-        bytes.extend([self.arguments.controller, self.arguments.level]);
-        bytes.push(self.arguments.layout.magic.into());
-        bytes.extend(self.image);
+        let mut bytes = (self.image.len() as u16).to_le_bytes().to_vec();
+        bytes.extend(self.arguments.bytes());
         bytes.push(self.list.len() as u8);
+        bytes.extend(&self.image);
         for call in &self.list {
             match call {
                 Call::Load => bytes.push(0),
@@ -155,7 +170,8 @@ impl Record {
 #[cfg(test)]
 mod tests {
     use super::*;
-    use second::reader::{CHIPS, read_all};
+    use second::layout::Layout;
+    use second::reader::read_all;
     use second::walk::Way;
 
     /// "none, block 2, block 0, 2 switches; under 0x8800: none, 2, 2, 1 switch", and so under 0xFFFF,
@@ -186,8 +202,8 @@ mod tests {
         assert_eq!(empty.lines(), once.lines());
     }
 
-    /// "Why a call is refused": the records meet the refusals of load and look, but for 1, 12 and
-    /// 23, and every form of a line.
+    /// "Why a call is refused": the records of each size meet the refusals of load and look, but for
+    /// 12 and 23, and every form of a line.
     #[test]
     fn every_refusal() {
         let records = records();
@@ -200,19 +216,28 @@ mod tests {
         );
         let lines: String = records.iter().map(Record::lines).collect();
         assert_eq!(lines.lines().count(), lists.sum());
-        let met = |number: u8| {
-            let start = format!("{number} ");
-            lines.lines().any(|line| line.starts_with(&start))
-        };
-        let numbers = (0..=32).filter(|&number| met(number));
-        let expected = (0..=21).filter(|number| ![1, 12].contains(number));
-        assert!(numbers.eq(expected.chain(29..=32)));
+        for size in SIZES {
+            let of_size = records.iter().filter(|it| it.arguments.layout.size == size);
+            let lines: String = of_size.map(Record::lines).collect();
+            let met = |number: u8| {
+                let start = format!("{number} ");
+                lines.lines().any(|line| line.starts_with(&start))
+            };
+            let numbers = (0..=32).filter(|&number| met(number));
+            let expected = (0..=21).filter(|&number| number != 12);
+            assert!(numbers.eq(expected.chain(29..=32)), "{size}");
+        }
         for layout in LAYOUTS {
             let of_layout = records
                 .iter()
                 .filter(|record| record.arguments.layout == layout);
-            assert!(of_layout.count() > RECORD_COUNT / 3, "{layout:?}");
+            assert!(of_layout.count() > RECORD_COUNT / 6, "{layout:?}");
         }
+        // Blocks are selected that no leaf of the smaller size has.
+        let selected = lines.lines().filter_map(|line| line.split(' ').nth(2));
+        let high = selected.filter_map(|block| block.parse().ok());
+        let most = Layout::PLAIN.most_blocks();
+        assert!(high.filter(|&block: &usize| block >= most).count() > 10);
         for form in ["0 fresh", "0 settled none", "0 unsettled none"] {
             assert!(lines.contains(form), "{form}");
         }

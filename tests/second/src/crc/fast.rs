@@ -1,8 +1,7 @@
 //! The same CRCs a byte at a time, each by a table of 256 entries.
 
-use super::{Checksum, ID_WORDS, IMAGE_LENGTH, MAGIC_WORDS, POLYNOMIAL_8, POLYNOMIAL_32};
-use crate::layout::Layout;
-use std::ops::Range;
+use super::{Checksum, ID_WORDS, MAGIC_WORDS, POLYNOMIAL_8, POLYNOMIAL_32};
+use crate::layout::{Layout, is_of_size, magic_block};
 
 /// The register, kept reversed so that it shifts right, after one byte from 0.
 const TABLE_32: [u32; 256] = {
@@ -28,9 +27,9 @@ const TABLE_8: [u8; 256] = {
 
 /// [`super::srom_crc`] by table.
 pub fn srom_crc(image: &[u8], layout: Layout) -> Checksum {
-    let Ok(image) = <&[u8; IMAGE_LENGTH]>::try_from(image) else {
+    if !is_of_size(image, layout.size) {
         return Checksum::REFUSED;
-    };
+    }
     let mut register = u32::MAX;
     for byte in &image[..layout.srom_crc_offset()] {
         register = register >> 8 ^ TABLE_32[usize::from(register as u8 ^ byte)];
@@ -39,27 +38,31 @@ pub fn srom_crc(image: &[u8], layout: Layout) -> Checksum {
 }
 
 /// [`super::id_crc`] by table.
-pub fn id_crc(image: &[u8]) -> Checksum {
-    crc8(image, ID_WORDS)
+pub fn id_crc(image: &[u8], size: u16) -> Checksum {
+    if !is_of_size(image, size) {
+        return Checksum::REFUSED;
+    }
+    Checksum::accepted(crc8::<ID_WORDS>(image))
 }
 
 /// [`super::magic_crc`] by table.
-pub fn magic_crc(image: &[u8]) -> Checksum {
-    crc8(image, MAGIC_WORDS)
+pub fn magic_crc(image: &[u8], size: u16) -> Checksum {
+    if !is_of_size(image, size) {
+        return Checksum::REFUSED;
+    }
+    Checksum::accepted(crc8::<MAGIC_WORDS>(magic_block(image)))
 }
 
+/// [`super::crc8`] by table, for a number of words that is known beforehand.
 #[inline]
-fn crc8(image: &[u8], words: Range<usize>) -> Checksum {
-    let Ok(image) = <&[u8; IMAGE_LENGTH]>::try_from(image) else {
-        return Checksum::REFUSED;
-    };
-    let last = image[2 * words.end + 1];
+fn crc8<const WORDS: usize>(bytes: &[u8]) -> u16 {
+    let bytes = &bytes[..2 * WORDS + 2];
     let mut register = u8::MAX;
-    for number in words {
-        register = feed_byte(register, image[2 * number + 1]);
-        register = feed_byte(register, image[2 * number]);
+    for number in 0..WORDS {
+        register = feed_byte(register, bytes[2 * number + 1]);
+        register = feed_byte(register, bytes[2 * number]);
     }
-    Checksum::accepted(feed_byte(register, last).into())
+    feed_byte(register, bytes[2 * WORDS + 1]).into()
 }
 
 fn feed_byte(register: u8, byte: u8) -> u8 {

@@ -5,6 +5,7 @@ use crate::reader::{
     ACTIVE_INVALID, COMMAND_RESERVED, COMPACT, DEFAULT, EXT, EXTENDED, MEDIA_21041, NEWEST_LEVEL,
     POWER, RESET, permitted_kinds,
 };
+use crate::sheet::LONGEST_BODY;
 
 /// The first extended type that no level knows.
 pub const FIRST_UNKNOWN: u8 = NEWEST_LEVEL;
@@ -101,7 +102,7 @@ pub fn unknown(random: &mut Random) -> Vec<u8> {
         0 => FIRST_UNKNOWN + random.below(4) as u8,
         _ => unknown_type(random),
     };
-    let most = if random.one_in(8) { 126 } else { 10 };
+    let most = if random.one_in(8) { LONGEST_BODY } else { 10 };
     let length = random.below(most);
     extended(kind, &random.row(length))
 }
@@ -112,16 +113,28 @@ fn unknown_type(random: &mut Random) -> u8 {
     FIRST_UNKNOWN + random.below(types) as u8
 }
 
-/// Blocks for the last places of a leaf, so many as are left, or none where no block is so small.
+/// Blocks for the last places of a leaf, so many as are left, or none where no block is so small or
+/// one alone would be too long.
 pub fn filling(random: &mut Random, chip: u16, left: usize) -> Vec<Vec<u8>> {
     match (chip, left) {
         (21041, _) => (0..left).map(|_| media(1, None)).collect(),
-        (_, 0 | 1) => vec![],
-        _ => {
+        _ if (2..=2 + LONGEST_BODY).contains(&left) => {
             let body = random.row(left - 2);
             vec![extended(unknown_type(random), &body)]
         }
+        _ => vec![],
     }
+}
+
+/// As many blocks as have room, of the smallest size that the chip has: of one byte, or of unknown
+/// types without body.
+pub fn smallest(random: &mut Random, chip: u16, room: usize) -> impl Iterator<Item = Vec<u8>> {
+    let is_21041 = chip == 21041;
+    let count = if is_21041 { room } else { room / 2 };
+    (0..count).map(move |_| match is_21041 {
+        true => media(random.pick(&[0, 1, 2, 4]), None),
+        false => extended(unknown_type(random), &[]),
+    })
 }
 
 /// Draws blocks for one leaf: at most one default and one type 5, and either that or PHYs with

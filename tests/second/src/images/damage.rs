@@ -1,13 +1,17 @@
 //! Damage to one field of a valid sample, for each refusal that a field can cause.
 
 use super::block::{self, phy_unit};
-use super::{Card, Leaf, Sample};
+use super::{Card, Leaf, Sample, WRONG_SIZES};
+use crate::layout::SIZES;
 use crate::random::Random;
 use crate::reader::{
     ACTIVE_INVALID, CHIPS, COMPACT, DEFAULT, EXT, EXTENDED, MEDIA_21041, NEWEST_LEVEL, POWER,
     RESET, first_leaf, header_size, is_connection, permitted_kinds,
 };
 use std::ops::Range;
+
+/// The longest extended block's length, which counts all that follows it.
+const LONGEST: usize = !EXTENDED as usize;
 
 /// Where a power block has its mode byte.
 const MODE_OFFSET: usize = 2;
@@ -21,6 +25,19 @@ impl Sample {
         let layout = card.layout();
         let places = first_leaf(controllers)..layout.leaf_limit();
         match number {
+            1 => match random.below(4) {
+                0 => card.length_fault = length_fault(random, layout.size),
+                1 => {
+                    card.length_fault = length_fault(random, layout.size);
+                    arguments.layout.size = card.image().len() as u16;
+                    // Cut or lengthened to the other size, the image is judged on.
+                    if SIZES.contains(&arguments.layout.size) {
+                        arguments.layout.size = 0;
+                    }
+                }
+                2 => arguments.layout.size = random.pick(&WRONG_SIZES),
+                _ => arguments.layout.size = other_size(layout.size),
+            },
             2 => card.version = other_than(random, &[3, 4]),
             3 => card.srom_crc_fault = 1 + random.below(0xFFFF) as u16,
             4 => card.id_crc_fault = 1 + random.below(0xFF) as u8,
@@ -31,7 +48,7 @@ impl Sample {
             5 if random.one_in(2) => card.reserved = 1 + random.below(0xFF) as u8,
             5 => {
                 let most = layout.most_controllers() as u8;
-                card.count = random.pick(&[0, most + 1, most + 2, 128, 255]);
+                card.count = random.pick(&[0, most + 1, most + 1, most + 2, 100, 255]);
             }
             6 => arguments.controller = between(random, controllers, 255) as u8,
             7 => arguments.chip = chip(random),
@@ -46,10 +63,13 @@ impl Sample {
                     return false;
                 };
                 let last = places.end - header_size(arguments.chip);
-                controller.leaf_offset = match random.below(3) {
+                // Offsets that are right but for bits above the image.
+                let above = usize::from(u16::MAX / layout.size) - 1;
+                controller.leaf_offset = match random.below(4) {
                     0 => random.below(places.start) as u16,
-                    1 => between(random, last + 1, 255) as u16,
-                    _ => controller.leaf_offset | (1 + random.below(0xFF) as u16) << 8,
+                    1 => between(random, last + 1, last + 8) as u16,
+                    2 => between(random, last + 1, u16::MAX.into()) as u16,
+                    _ => controller.leaf_offset + layout.size * between(random, 1, above) as u16,
                 };
             }
             _ => {
@@ -102,7 +122,8 @@ pub(crate) fn damage_leaf(
             let kind = kind(block, leaf.chip);
             let is_known = kind >= COMPACT || kind < level.into();
             match number {
-                13 => block[0] = EXTENDED | between(random, places, 127) as u8,
+                13 if places > LONGEST => return None,
+                13 => block[0] = EXTENDED | between(random, places, LONGEST) as u8,
                 14 => forbid(block, random, leaf.chip, level, places)?,
                 15 if is_known => missize(block, random, kind, places)?,
                 16 if is_known => miscode(block, random, kind)?,
@@ -143,7 +164,7 @@ fn missize(block: &mut [u8], random: &mut Random, kind: u16, places: usize) -> O
     if kind >= COMPACT || places < 2 {
         return None;
     }
-    let length = EXTENDED | between(random, 1, places - 1) as u8;
+    let length = EXTENDED | between(random, 1, LONGEST.min(places - 1)) as u8;
     let flaw = 1 + random.below(0xFF) as u8;
     match kind {
         _ if random.one_in(2) && block[0] != length => block[0] = length,
@@ -236,10 +257,7 @@ fn add_reset(leaf: &mut Leaf, random: &mut Random, level: u8, limit: usize) -> O
     if !is_known || !has_room || !leaf.blocks.iter().any(speaks_of_reset) {
         return None;
     }
-    let index = random.below(leaf.blocks.len() + 1);
-    leaf.blocks.insert(index, reset);
-    leaf.count += 1;
-    Some(())
+    insert(leaf, random, reset)
 }
 
 /// A bit of the mode byte in two power blocks, of which one or both are added where there are fewer.
@@ -253,9 +271,7 @@ fn repeat_mode(leaf: &mut Leaf, random: &mut Random, level: u8, limit: usize) ->
         return None;
     }
     for _ in 0..missing {
-        let index = random.below(leaf.blocks.len() + 1);
-        leaf.blocks.insert(index, added.clone());
-        leaf.count += 1;
+        insert(leaf, random, added.clone())?;
     }
     let blocks = leaf.blocks.iter_mut().filter(|it| is_power(it));
     let mut modes: Vec<_> = blocks.map(|block| &mut block[MODE_OFFSET]).collect();
@@ -265,6 +281,32 @@ fn repeat_mode(leaf: &mut Leaf, random: &mut Random, level: u8, limit: usize) ->
         *modes[index] |= bit;
     }
     Some(())
+}
+
+/// Puts a block anywhere among those of a leaf; none where the leaf has the most already.
+fn insert(leaf: &mut Leaf, random: &mut Random, block: Vec<u8>) -> Option<()> {
+    leaf.count = leaf.count.checked_add(1)?;
+    leaf.blocks
+        .insert(random.below(leaf.blocks.len() + 1), block);
+    Some(())
+}
+
+/// A length that no image of this size has, often by one byte or the other ROM's.
+fn length_fault(random: &mut Random, size: u16) -> isize {
+    let size = size as isize;
+    let any = random.below(1_024) as isize - size;
+    let other = other_size(size as u16) as isize - size;
+    let twice = if random.one_in(2) { size } else { -size / 2 };
+    match random.pick(&[-1, 1, -size, other, twice, any]) {
+        0 => 1,
+        fault => fault,
+    }
+}
+
+/// The size that this is not.
+fn other_size(size: u16) -> u16 {
+    let [small, large] = SIZES;
+    if size == small { large } else { small }
 }
 
 pub(crate) fn kind(block: &[u8], chip: u16) -> u16 {

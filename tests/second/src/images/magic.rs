@@ -1,10 +1,9 @@
 //! The Magic Packet block of an image, laid as it is told.
 
-use super::Image;
-use crate::crc::{MAGIC_CRC_OFFSET, lay_magic_crc};
-use crate::layout::Layout;
+use crate::crc::lay_magic_crc;
+use crate::layout::{Layout, magic_block_mut};
 use crate::magic::{
-    ADDRESS_OFFSET, COMMAND_OFFSET, LAST_RESERVED, Magic, PASSWORD_OFFSET, RESERVED,
+    ADDRESS_OFFSET, COMMAND_OFFSET, CRC_OFFSET, LAST_RESERVED, Magic, PASSWORD_OFFSET, RESERVED,
 };
 use crate::random::Random;
 
@@ -15,7 +14,7 @@ pub const MAGIC_DAMAGES: [u8; 2] = [29, 30];
 #[derive(Debug, Clone, Copy, Default)]
 pub struct MagicBlock {
     pub magic: Magic,
-    /// Bytes 110 to 125, and 127.
+    /// The bytes between the command and the CRC, and the one behind the CRC.
     pub reserved: [u8; 17],
     /// The bits by which the stored CRC differs from the right one.
     pub crc_fault: u8,
@@ -64,15 +63,16 @@ impl MagicBlock {
         }
     }
 
-    /// Lays the block into an image, with its CRC right but for the fault.
-    pub fn lay(&self, image: &mut Image) {
+    /// Lays the block at the end of an image, with its CRC right but for the fault.
+    pub fn lay(&self, image: &mut [u8]) {
         let [reserved @ .., last] = &self.reserved;
-        image[PASSWORD_OFFSET..][..6].copy_from_slice(&self.magic.password);
-        image[ADDRESS_OFFSET..][..6].copy_from_slice(&self.magic.address);
-        image[COMMAND_OFFSET..][..2].copy_from_slice(&self.magic.command.to_le_bytes());
-        image[RESERVED].copy_from_slice(reserved);
-        image[LAST_RESERVED] = *last;
-        lay_magic_crc(image);
-        image[MAGIC_CRC_OFFSET] ^= self.crc_fault;
+        let block = magic_block_mut(image);
+        block[PASSWORD_OFFSET..][..6].copy_from_slice(&self.magic.password);
+        block[ADDRESS_OFFSET..][..6].copy_from_slice(&self.magic.address);
+        block[COMMAND_OFFSET..][..2].copy_from_slice(&self.magic.command.to_le_bytes());
+        block[RESERVED].copy_from_slice(reserved);
+        block[LAST_RESERVED] = *last;
+        lay_magic_crc(block);
+        block[CRC_OFFSET] ^= self.crc_fault;
     }
 }

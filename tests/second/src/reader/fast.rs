@@ -1,19 +1,19 @@
 //! The same reading with the CRCs by table, in one pass over the leaf and without allocation.
 
 use super::{
-    Answer, Arguments, Block, Header, MOST_BLOCKS, NO_DEFAULT, POWER, RESET, Refusal, block,
+    Answer, Arguments, Block, HIGHEST_COUNT, Header, NO_DEFAULT, POWER, RESET, Refusal, block,
     first_block, header, is_version, refuse_if, word,
 };
-use crate::crc::{ID_CRC_OFFSET, IMAGE_LENGTH, fast};
-use crate::layout::Layout;
+use crate::crc::{ID_CRC_OFFSET, fast};
+use crate::layout::{Layout, is_of_size};
 use crate::magic;
 
 /// Kind and start of each known block but resets and power blocks, the first block first.
-type Listed = [(u16, u16); MOST_BLOCKS];
+type Listed = [(u16, u16); HIGHEST_COUNT];
 
 /// [`super::read`] in one pass.
 pub fn read(image: &[u8], arguments: Arguments, kinds: &mut [u16], offsets: &mut [u16]) -> Answer {
-    let mut listed = [(0, 0); MOST_BLOCKS];
+    let mut listed = [(0, 0); HIGHEST_COUNT];
     let shorter = kinds.len().min(offsets.len());
     match leaf(image, arguments, shorter, &mut listed) {
         Ok(answer) => {
@@ -29,7 +29,7 @@ pub fn read(image: &[u8], arguments: Arguments, kinds: &mut [u16], offsets: &mut
 
 /// [`super::view`] in one pass.
 pub fn view(image: &[u8], arguments: Arguments, entry: usize) -> &[u8] {
-    let mut listed = [(0, 0); MOST_BLOCKS];
+    let mut listed = [(0, 0); HIGHEST_COUNT];
     let Ok(answer) = leaf(image, arguments, usize::MAX, &mut listed) else {
         return &image[..0];
     };
@@ -119,15 +119,15 @@ pub(crate) fn each_block_unframed(
 }
 
 fn frame(image: &[u8], layout: Layout) -> Result<(), Refusal> {
-    refuse_if(image.len() != IMAGE_LENGTH, Refusal::ImageLength)?;
+    refuse_if(!is_of_size(image, layout.size), Refusal::ImageLength)?;
     refuse_if(!is_version(image), Refusal::Version)?;
     let srom_crc = fast::srom_crc(image, layout).value;
     let stored = word(image, layout.srom_crc_offset());
     refuse_if(srom_crc != stored, Refusal::SromCrc)?;
-    let id_crc = fast::id_crc(image).value;
+    let id_crc = fast::id_crc(image, layout.size).value;
     refuse_if(id_crc != image[ID_CRC_OFFSET].into(), Refusal::IdCrc)?;
     if layout.magic {
-        magic::judge(image, fast::magic_crc(image))?;
+        magic::judge(image, fast::magic_crc(image, layout.size))?;
     }
     Ok(())
 }

@@ -1,8 +1,8 @@
 use super::*;
 use crate::cases::{Expected, cases};
 use crate::crc::lay_crcs;
-use crate::images::{Card, DAMAGES, Image, Leaf, MagicBlock, Sample, block};
-use crate::layout::LAYOUTS;
+use crate::images::{Card, DAMAGES, Image, Leaf, Sample, block};
+use crate::layout::{LAYOUTS, SIZES};
 use crate::random::Random;
 use crate::specification;
 
@@ -34,16 +34,17 @@ fn number_of(chip: u16, blocks: &[&[u8]]) -> u8 {
     number(&tidy(chip, blocks), Arguments::newest(chip))
 }
 
-/// A leaf for the chip whose last block starts at the offset, after blocks that every chip but the
+/// A leaf for the chip whose last block starts at the offset, after a block that every chip but the
 /// 21041 steps over, or one-byte blocks of the 21041.
-fn ending_at(chip: u16, start: usize, last: &[u8]) -> Image {
-    let places = start - 30 - header_size(chip);
+fn ending_at(chip: u16, layout: Layout, start: usize, last: &[u8]) -> Image {
+    const PLACES: usize = 50;
     let mut blocks = match chip {
-        21041 => vec![vec![0]; places],
-        _ => vec![block::extended(9, &vec![0; places - 2])],
+        21041 => vec![vec![0]; PLACES],
+        _ => vec![block::extended(9, &[0; PLACES - 2])],
     };
     blocks.push(last.to_vec());
-    Card::tidy(chip, 0x0800, blocks).image()
+    let leaf = Leaf::new(start - PLACES - header_size(chip), chip, 0x0800, blocks);
+    laid_out(Card::new(1, vec![leaf]), layout).image()
 }
 
 /// "Blocks to prove", a to j.
@@ -89,13 +90,50 @@ fn refused(number: u8) -> Answer {
     }
 }
 
-/// "1 image not 128 bytes", before any other cause.
+/// "a length other than the stated size, or a stated size other than those two", before any other
+/// cause.
 #[test]
 fn image_length() {
-    let bytes = [0xFF; 300];
-    for length in (0..=300).filter(|&length| length != 128) {
-        let answer = read_table(&bytes[..length], Arguments::newest(21143)).0;
-        assert_eq!(answer, refused(1), "length {length}");
+    let bytes = [0xFF; 600];
+    for length in 0..=bytes.len() {
+        for stated in [length as u16, 0, 127, 128, 256, 511, 512, 513, 65_535] {
+            let is_served = stated == 128 || stated == 512;
+            let is_right = is_served && length == stated.into();
+            for magic in [false, true] {
+                let layout = Layout::new(stated, magic);
+                let arguments = Arguments::newest(21143).laid_out(layout);
+                let image = &bytes[..length];
+                let expected = refused(if is_right { 2 } else { 1 });
+                assert_eq!(
+                    read_table(image, arguments).0,
+                    expected,
+                    "{length} {stated}"
+                );
+                assert!(view(image, arguments, 0).is_empty());
+            }
+        }
+    }
+}
+
+/// The same of images that are accepted as they are: cut to a byte less, with a byte more, cut or
+/// lengthened to the other size, and with any other size stated.
+#[test]
+fn stated_size() {
+    for layout in LAYOUTS {
+        let image = laid_out(Card::tidy(21143, 0x0800, vec![vec![0x81, 0x09]]), layout).image();
+        let number_as = |image: &[u8], size| {
+            let arguments = Arguments::newest(21143).laid_out(Layout { size, ..layout });
+            number(image, arguments)
+        };
+        assert_eq!(number_as(&image, layout.size), 0);
+        for stated in (0..=u16::MAX).filter(|&stated| stated != layout.size) {
+            assert_eq!(number_as(&image, stated), 1, "{stated}");
+        }
+        for length in (0..=600).filter(|&length| length != image.len()) {
+            let mut other = image.clone();
+            other.resize(length, 0);
+            assert_eq!(number_as(&other, layout.size), 1, "{length}");
+        }
     }
 }
 
@@ -124,36 +162,29 @@ fn empty_leaf(controllers: usize, offset: usize) -> Card {
 }
 
 /// "19 controller count n, 1 to 32": a leaf fits beside 31 controllers and no longer beside 32. With
-/// a Magic Packet block "the controller count is at most 20 (else 5)".
+/// a Magic Packet block "the controller count is at most 20 (else 5)". "At 512 the controller count
+/// is at most 32 in both layouts."
 #[test]
 fn controller_counts() {
-    for count in 0..=255 {
-        let mut card = empty_leaf(31, 120);
-        card.count = count;
-        let expected = match count {
-            1..=31 => 0,
-            32 => 10,
-            _ => 5,
-        };
-        assert_eq!(
-            number(&card.image(), Arguments::newest(21143)),
-            expected,
-            "{count}"
-        );
-        let mut card = laid_out(empty_leaf(20, 87), Layout::MAGIC);
-        card.count = count;
-        let expected = if (1..=20).contains(&count) { 0 } else { 5 };
-        let arguments = Arguments::newest(21143).laid_out(Layout::MAGIC);
-        assert_eq!(number(&card.image(), arguments), expected, "{count}");
+    let most = [(31, 120), (20, 87), (32, 400), (32, 400)];
+    for (layout, (most, offset)) in LAYOUTS.into_iter().zip(most) {
+        for count in 0..=255 {
+            let mut card = laid_out(empty_leaf(most, offset), layout);
+            card.count = count;
+            let expected = match count {
+                _ if (1..=most).contains(&count.into()) => 0,
+                32 if layout == Layout::PLAIN => 10,
+                _ => 5,
+            };
+            let arguments = Arguments::newest(21143).laid_out(layout);
+            assert_eq!(number(&card.image(), arguments), expected, "{count}");
+        }
     }
 }
 
 /// The card in a layout.
 fn laid_out(card: Card, layout: Layout) -> Card {
-    Card {
-        magic: MagicBlock::of_layout(&mut Random::new(1), layout),
-        ..card
-    }
+    card.laid_out(&mut Random::new(1), layout)
 }
 
 /// "Byte 26+3n is reserved", for the n that was read, and no other byte; the count is judged first.
@@ -233,15 +264,16 @@ fn addresses() {
 }
 
 /// "A leaf starts at 27+3n or later", and its header ends before 124, or before 92 with a Magic
-/// Packet block: "10 leaf header outside its bounds", also where the offset's high byte is not 0.
+/// Packet block, and at 512 bytes before 508 or 476: "10 leaf header outside its bounds", also where
+/// only the offset's high byte says so.
 #[test]
 fn leaf_bounds() {
-    for (layout, limit) in LAYOUTS.into_iter().zip([124, 92]) {
+    for (layout, limit) in LAYOUTS.into_iter().zip([124, 92, 508, 476]) {
         for chip in CHIPS {
             let last = if chip == 21140 { limit - 4 } else { limit - 3 };
             for controllers in 1..=3 {
                 let first = 27 + 3 * controllers;
-                for offset in (0..=300).chain((256..=u16::MAX).step_by(257)) {
+                for offset in (0..=700).chain((256..=u16::MAX).step_by(257)) {
                     let place = usize::from(offset);
                     let is_inside = (first..=last).contains(&place);
                     let laid = if is_inside { place } else { first };
@@ -258,35 +290,44 @@ fn leaf_bounds() {
     }
 }
 
-/// "A leaf ... ends, with all its blocks, before 124", or "before 92": an unknown type whose last
-/// byte stands just before is accepted, and one byte more is 13.
+/// "A leaf ... ends, with all its blocks, before 124", or "before 92", and at 512 bytes 384 later: an
+/// unknown type whose last byte stands just before is accepted, and one byte more is 13.
 #[test]
 fn last_places() {
-    for (layout, longest) in LAYOUTS.into_iter().zip([0xDA, 0xBA]) {
+    let longest = [(30, 0xDA), (30, 0xBA), (414, 0xDA), (414, 0xBA)];
+    for (layout, (offset, longest)) in LAYOUTS.into_iter().zip(longest) {
         for (first, expected) in [(longest, 0), (longest + 1, 13)] {
             let body = vec![0x55; usize::from(first & 0x7F) - 1];
             let unknown = block::extended(9, &body);
             assert_eq!(unknown[0], first);
-            let card = laid_out(Card::tidy(21143, 0x0800, vec![unknown]), layout);
+            let leaf = Leaf::new(offset, 21143, 0x0800, vec![unknown]);
+            let card = laid_out(Card::new(1, vec![leaf]), layout);
             let arguments = Arguments::newest(21143).laid_out(layout);
             assert_eq!(number(&card.image(), arguments), expected, "{layout:?}");
         }
     }
 }
 
-/// "29 Magic CRC differs, after 4": every value of byte 126 but the right one, before the controller
-/// count is judged.
+/// The layouts with a Magic Packet block, of either size and of one controller or of none, and by how
+/// much the block's "inner offsets all move".
+fn with_block() -> impl Iterator<Item = (Layout, u8, usize)> {
+    let sizes = SIZES.into_iter().zip([0, 384]);
+    sizes.flat_map(|(size, moved)| [1, 0].map(|count| (Layout::new(size, true), count, moved)))
+}
+
+/// "29 Magic CRC differs, after 4": every value of byte 126, or at 512 bytes 510, but the right one,
+/// before the controller count is judged.
 #[test]
 fn magic_crc() {
-    let arguments = Arguments::newest(21143).laid_out(Layout::MAGIC);
-    for count in [1, 0] {
-        let mut card = laid_out(empty_leaf(1, 60), Layout::MAGIC);
+    for (layout, count, moved) in with_block() {
+        let arguments = Arguments::newest(21143).laid_out(layout);
+        let mut card = laid_out(empty_leaf(1, 60), layout);
         card.count = count;
         let image = card.image();
         for value in 0..=255 {
-            let mut changed = image;
-            changed[126] = value;
-            let is_right = value == image[126];
+            let mut changed = image.clone();
+            changed[126 + moved] = value;
+            let is_right = value == image[126 + moved];
             let expected = match (is_right, count) {
                 (false, _) => 29,
                 (true, 1) => 0,
@@ -297,20 +338,21 @@ fn magic_crc() {
     }
 }
 
-/// "30 one of bytes 110 to 125, or 127, is not 0, after 29": each of them, with a right CRC, before
-/// the controller count is judged. The block's other bytes may hold anything.
+/// "30 one of bytes 110 to 125, or 127, is not 0, after 29", or at 512 bytes 384 later: each of them,
+/// with a right CRC, before the controller count is judged. The block's other bytes may hold
+/// anything.
 #[test]
 fn magic_reserved_bytes() {
-    let arguments = Arguments::newest(21143).laid_out(Layout::MAGIC);
-    for count in [1, 0] {
-        let mut card = laid_out(empty_leaf(1, 60), Layout::MAGIC);
+    for (layout, count, moved) in with_block() {
+        let arguments = Arguments::newest(21143).laid_out(layout);
+        let mut card = laid_out(empty_leaf(1, 60), layout);
         card.count = count;
         for offset in (96..=127).filter(|&offset| offset != 126) {
             let is_reserved = (110..=125).contains(&offset) || offset == 127;
             for value in [0, 1, 0x80, 0xFF] {
                 let mut image = card.image();
-                image[offset] = value;
-                lay_crcs(&mut image, Layout::MAGIC);
+                image[offset + moved] = value;
+                lay_crcs(&mut image, layout);
                 let expected = match (is_reserved && value > 0, count) {
                     (true, _) => 30,
                     (false, 1) => 0,
@@ -323,10 +365,11 @@ fn magic_reserved_bytes() {
 }
 
 /// "Other bytes may hold private data and are not judged": without the block so do bytes 96 to 123
-/// behind a leaf, and the maker's; with it those from the leaf's end to 91, and the maker's.
+/// behind a leaf, and the maker's; with it those from the leaf's end to 91, and the maker's; and at
+/// 512 bytes all up to the SROM CRC.
 #[test]
 fn unjudged_bytes() {
-    for (layout, crc) in LAYOUTS.into_iter().zip([126, 94]) {
+    for (layout, crc) in LAYOUTS.into_iter().zip([126, 94, 510, 478]) {
         let card = laid_out(Card::tidy(21143, 0x0800, vec![]), layout);
         let arguments = Arguments::newest(21143).laid_out(layout);
         for offset in 33..crc {
@@ -340,33 +383,42 @@ fn unjudged_bytes() {
     }
 }
 
-/// "The caller says that it is there": an image of either layout is refused with 3 in the other.
+/// "The caller says that it is there": an image of either layout is refused with 3 in the other, and
+/// with 1 where the other size is stated.
 #[test]
 fn layout_of_the_caller() {
     for layout in LAYOUTS {
         let card = laid_out(Card::tidy(21143, 0x0800, vec![]), layout);
         for told in LAYOUTS {
-            let expected = if told == layout { 0 } else { 3 };
+            let expected = match told {
+                _ if told == layout => 0,
+                _ if told.size == layout.size => 3,
+                _ => 1,
+            };
             let arguments = Arguments::newest(21143).laid_out(told);
             assert_eq!(number(&card.image(), arguments), expected, "{told:?}");
         }
     }
 }
 
-/// "Leaves may be shared", and each controller may have its own: the device number is no index.
+/// "Leaves may be shared", and each controller may have its own: the device number is no index. At
+/// 512 bytes they stand behind byte 255 too, where the offset's high byte matters.
 #[test]
 fn leaf_of_each_controller() {
     let leaf = |offset, code| Leaf::new(offset, 21041, 0x0800, vec![vec![code]]);
-    let mut card = Card::new(4, vec![leaf(50, 0), leaf(60, 1), leaf(70, 2)]);
-    card.controllers.reverse();
-    assert_eq!(card.controllers[3].device, 0);
-    let image = card.image();
-    for (controller, offset) in [(0, 53), (1, 73), (2, 63), (3, 53)] {
-        let arguments = Arguments {
-            controller,
-            ..Arguments::newest(21041)
-        };
-        assert_eq!(read_table(&image, arguments).1, [(257, offset)]);
+    for (layout, moved) in LAYOUTS.into_iter().zip([0, 0, 256, 384]) {
+        let leaves = vec![leaf(50 + moved, 0), leaf(60 + moved, 1), leaf(70, 2)];
+        let mut card = laid_out(Card::new(4, leaves), layout);
+        card.controllers.reverse();
+        assert_eq!(card.controllers[3].device, 0);
+        let image = card.image();
+        for (controller, offset) in [(0, 53 + moved), (1, 73), (2, 63 + moved), (3, 53 + moved)] {
+            let arguments = Arguments {
+                controller,
+                ..Arguments::newest(21041).laid_out(layout)
+            };
+            assert_eq!(read_table(&image, arguments).1, [(257, offset as u16)]);
+        }
     }
 }
 
@@ -460,51 +512,69 @@ fn short_arrays() {
     }
 }
 
-/// "13 block past 123" comes before all else that is wrong with the block.
+/// "13 block past 123", or 91 with a Magic Packet block, and at 512 bytes 507 or 475, comes before all
+/// else that is wrong with the block.
 #[test]
 fn past_the_limit() {
-    // No place for the block at all.
-    assert_eq!(
-        number(&ending_at(21143, 124, &[0x80]), Arguments::newest(21143)),
-        13
-    );
-    assert_eq!(
-        number(&ending_at(21041, 124, &[0x00]), Arguments::newest(21041)),
-        13
-    );
-    // A compact block that the chip does not permit.
-    for start in 120..=123 {
-        let expected = if start == 120 { 14 } else { 13 };
-        let image = ending_at(21143, start, &[0x02, 0, 0, 0xFF]);
-        assert_eq!(
-            number(&image, Arguments::newest(21143)),
-            expected,
-            "{start}"
-        );
+    for (layout, last) in LAYOUTS.into_iter().zip([123, 91, 507, 475]) {
+        let number_at = |chip, start, block: &[u8]| {
+            let arguments = Arguments::newest(chip).laid_out(layout);
+            number(&ending_at(chip, layout, start, block), arguments)
+        };
+        // No place for the block at all.
+        assert_eq!(number_at(21143, last + 1, &[0x80]), 13);
+        assert_eq!(number_at(21041, last + 1, &[0x00]), 13);
+        // A compact block that the chip does not permit.
+        for start in last - 3..=last {
+            let expected = if start == last - 3 { 14 } else { 13 };
+            let answered = number_at(21143, start, &[0x02, 0, 0, 0xFF]);
+            assert_eq!(answered, expected, "{start}");
+        }
+        // A known type with a wrong length, and a type that the chip does not permit.
+        for (length, kind) in [(5, 2), (90, 2), (5, 0), (5, 9)] {
+            let block = [0x80 | length, kind, 0xFF, 0xFF, 0xFF];
+            assert_eq!(number_at(21143, last - 4, &block), 13, "{length} {kind}");
+        }
+        // A 21041 block with EXT and the reserved bit.
+        for start in last - 6..=last {
+            let expected = if start == last - 6 { 16 } else { 13 };
+            let answered = number_at(21041, start, &[0xC0, 0, 0, 0, 0, 0, 0]);
+            assert_eq!(answered, expected, "{start}");
+        }
+        // As many blocks are counted as have a place, and one more.
+        for (count, expected) in [(50, 0), (51, 13)] {
+            let offset = last + 1 - 50 - 3;
+            let leaf = Leaf::new(offset, 21041, 0x0800, vec![vec![0]; count]);
+            let card = laid_out(Card::new(1, vec![leaf]), layout);
+            let arguments = Arguments::newest(21041).laid_out(layout);
+            assert_eq!(number(&card.image(), arguments), expected, "{count}");
+        }
     }
-    // A known type with a wrong length, and a type that the chip does not permit.
-    for (length, kind) in [(5, 2), (90, 2), (5, 0), (5, 9)] {
-        let image = ending_at(21143, 119, &[0x80 | length, kind, 0xFF, 0xFF, 0xFF]);
-        assert_eq!(
-            number(&image, Arguments::newest(21143)),
-            13,
-            "{length} {kind}"
-        );
+}
+
+/// "Blocks rise to 255": as many are listed, the last first, with starts on both sides of byte 255;
+/// of arrays that are shorter by one element 12 is answered.
+#[test]
+fn most_blocks() {
+    for layout in [Layout::LARGE_PLAIN, Layout::LARGE_MAGIC] {
+        let sample = Sample::longest(&mut Random::new(1), layout);
+        let image = sample.card.image();
+        let (answer, table) = read_table(&image, sample.arguments);
+        let counts = (answer.number, answer.blocks, answer.listed);
+        assert_eq!(counts, (0, 255, 255));
+        assert_eq!(answer.default_number, NO_DEFAULT);
+        let starts = (33..33 + 255).rev().map(|start| (257, start));
+        assert!(table.into_iter().eq(starts));
+        for (entry, start) in [(0, 287), (254, 33)] {
+            let part = view(&image, sample.arguments, entry);
+            assert_eq!(part.as_ptr_range(), image[start..=start].as_ptr_range());
+        }
+        assert!(view(&image, sample.arguments, 255).is_empty());
+        let (mut kinds, mut offsets) = ([PATTERN; 255], [PATTERN; 254]);
+        let answer = read(&image, sample.arguments, &mut kinds, &mut offsets);
+        assert_eq!(answer, refused(12));
+        assert_eq!((kinds, offsets), ([PATTERN; 255], [PATTERN; 254]));
     }
-    // A 21041 block with EXT and the reserved bit.
-    for start in 117..=123 {
-        let expected = if start == 117 { 16 } else { 13 };
-        let image = ending_at(21041, start, &[0xC0, 0, 0, 0, 0, 0, 0]);
-        assert_eq!(
-            number(&image, Arguments::newest(21041)),
-            expected,
-            "{start}"
-        );
-    }
-    // More blocks are counted than stand there.
-    let mut card = Card::longest(&mut Random::new(1), Layout::PLAIN);
-    card.leaves[0].count = 92;
-    assert_eq!(number(&card.image(), Arguments::newest(21041)), 13);
 }
 
 /// "14 extended length 0", at every level, also as the leaf's last byte.
@@ -514,7 +584,10 @@ fn extended_length_zero() {
         for chip in [21140, 21142, 21143, 21145] {
             let arguments = Arguments::at_level(chip, level);
             assert_eq!(number(&tidy(chip, &[&[0x80]]), arguments), 14);
-            assert_eq!(number(&ending_at(chip, 123, &[0x80]), arguments), 14);
+            for (layout, last) in LAYOUTS.into_iter().zip([123, 91, 507, 475]) {
+                let image = ending_at(chip, layout, last, &[0x80]);
+                assert_eq!(number(&image, arguments.laid_out(layout)), 14);
+            }
         }
     }
 }
@@ -691,7 +764,7 @@ fn sequences_past_the_end() {
             assert_eq!(number_of(chip, &[&block]), 15, "g {g}");
         }
         // r inside the block, its sequence not.
-        for r in [1, 10, 128, 255] {
+        for r in [1, 10, 0x80, 255] {
             (block[3], block[4]) = (0, r);
             let expected = if (kind, r) == (1, 1) { 0 } else { 15 };
             assert_eq!(number_of(chip, &[&block]), expected, "r {r}");
@@ -1036,10 +1109,10 @@ fn views() {
         assert!(view(&image, arguments, entry).is_empty());
     }
     assert!(view(&image, Arguments::at_level(21143, 8), 0).is_empty());
-    assert!(view(&image[..127], arguments, 0).is_empty());
+    assert!(view(&image[..image.len() - 1], arguments, 0).is_empty());
 }
 
-/// "The answer holds" each field: a card with all of them, in both layouts.
+/// "The answer holds" each field: a card with all of them, in each layout.
 #[test]
 fn whole_answer() {
     let blocks = vec![
@@ -1132,7 +1205,7 @@ fn worked_blocks() {
         let rest = specification::bytes(words[2]);
         let limit = Layout::PLAIN.leaf_limit();
         let start = limit - rest.len();
-        let mut image = [0; IMAGE_LENGTH];
+        let mut image = vec![0; Layout::PLAIN.size.into()];
         image[start..limit].copy_from_slice(&rest);
         let arguments = Arguments {
             chip: words[0].parse().unwrap(),

@@ -2,11 +2,11 @@
 
 use super::{
     ADDRESS, CHIP, CONNECTION, CONTROL, COUNT, DEVICE, ID, KINDS, LONGEST_BODY, MAKER, Made,
-    TIDY_LEAF, TOTAL, VERSION,
+    TIDY_LEAF, TOTAL, VERSION, is_served,
 };
 use crate::crc::fast::{id_crc, magic_crc, srom_crc};
-use crate::crc::{ID_CRC_OFFSET, ID_LAST_OFFSET, IMAGE_LENGTH};
-use crate::layout::Layout;
+use crate::crc::{ID_CRC_OFFSET, ID_LAST_OFFSET};
+use crate::layout::{Layout, SMALL};
 use crate::magic;
 use crate::reader::fast::{each_block, each_block_unframed};
 use crate::reader::{
@@ -15,7 +15,7 @@ use crate::reader::{
     word,
 };
 
-type Image = [u8; IMAGE_LENGTH];
+type Image = [u8; SMALL as usize];
 
 /// [`super::write`] without allocation.
 pub fn write(sheet: &[u8], layout: Layout, image: &mut [u8]) -> u8 {
@@ -43,6 +43,7 @@ fn try_write(sheet: &[u8], layout: Layout, output: &[u8]) -> Result<Image, Refus
     let sizes = &sheet[KINDS + 2 * count..bodies];
     let sum: usize = sizes.iter().map(|&size| usize::from(size)).sum();
     refuse_if(sum != total, Refusal::SheetLengthOrSum)?;
+    refuse_if(!is_served(output, layout), Refusal::ImageLength)?;
     let mut image = output.try_into().map_err(|_| Refusal::ImageLength)?;
     let chip = word(sheet, CHIP);
     refuse_if(!CHIPS.contains(&chip), Refusal::Chip)?;
@@ -50,11 +51,11 @@ fn try_write(sheet: &[u8], layout: Layout, output: &[u8]) -> Result<Image, Refus
     let end = lay_blocks(sheet, chip, &mut image[..layout.leaf_limit()])?;
     refuse_if(end > layout.leaf_limit(), Refusal::LeafPastLimit)?;
     refuse_if(!is_version(&image), Refusal::Version)?;
-    image[ID_CRC_OFFSET] = id_crc(&image).value as u8;
+    image[ID_CRC_OFFSET] = id_crc(&image, layout.size).value as u8;
     let stored = srom_crc(&image, layout).value.to_le_bytes();
     image[layout.srom_crc_offset()..layout.board_end()].copy_from_slice(&stored);
     if layout.magic {
-        magic::judge(&image, magic_crc(&image))?;
+        magic::judge(&image, magic_crc(&image, layout.size))?;
     }
     let newest = Arguments::newest(chip).laid_out(layout);
     each_block_unframed(&image, newest, usize::MAX, |_, _, _| {})?;
@@ -117,6 +118,7 @@ fn has_wrong_form(kind: u16, body: &[u8], chip: u16) -> bool {
 }
 
 fn try_make(image: &[u8], chip: u16, layout: Layout, buffer: &mut [u8]) -> Result<usize, Refusal> {
+    refuse_if(!is_served(image, layout), Refusal::ImageLength)?;
     let (first, limit) = (TIDY_LEAF + header_size(chip), layout.leaf_limit());
     let (mut end, mut total) = (first, 0);
     let newest = Arguments::newest(chip).laid_out(layout);

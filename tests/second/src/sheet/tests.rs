@@ -1,10 +1,10 @@
 use super::*;
 use crate::crc::lay_crcs;
 use crate::images::{Card, DAMAGES, Image, Leaf, MagicBlock, Sample, block};
-use crate::layout::LAYOUTS;
+use crate::layout::{LARGE, LAYOUTS, SHEET_LAYOUTS};
 use crate::random::Random;
 use crate::sheets::tidy::{TIDY_DAMAGES, damaged, tidy};
-use crate::sheets::{SHEET_DAMAGES, Sheet, output};
+use crate::sheets::{SHEET_DAMAGES, Sheet, output, unserved};
 
 const PATTERN: u8 = 0xA5;
 
@@ -14,7 +14,7 @@ const ROOMY: usize = 500;
 /// What the writer answers over an output, and the image if it accepts; otherwise the output is
 /// checked to be unchanged.
 fn written_over(output: &Image, sheet: &[u8], layout: Layout) -> Result<Image, u8> {
-    let mut image = *output;
+    let mut image = output.clone();
     match write(sheet, layout, &mut image) {
         0 => Ok(image),
         number => {
@@ -26,7 +26,7 @@ fn written_over(output: &Image, sheet: &[u8], layout: Layout) -> Result<Image, u
 
 /// The same without a Magic Packet block.
 fn written(sheet: &[u8]) -> Result<Image, u8> {
-    written_over(&[PATTERN; IMAGE_LENGTH], sheet, Layout::PLAIN)
+    written_over(&vec![PATTERN; SMALL.into()], sheet, Layout::PLAIN)
 }
 
 /// What the maker answers into a buffer of so many bytes, and the sheet if it accepts; the bytes
@@ -91,16 +91,17 @@ const WORKED_IMAGE: [u8; 60] = [
 #[test]
 fn worked_sheet() {
     let last_words = [[0x4D, 0x4B, 0xE2, 0x01], [0x4D, 0x4B, 0xDC, 0xD9]];
-    for (layout, last_words) in LAYOUTS.into_iter().zip(last_words) {
+    for (layout, last_words) in SHEET_LAYOUTS.into_iter().zip(last_words) {
         let mut image = output(&mut Random::new(6), layout);
         image[..layout.board_end()].fill(0);
         image[..60].copy_from_slice(&WORKED_IMAGE);
         image[..layout.board_end()][layout.leaf_limit()..].copy_from_slice(&last_words);
         image[16] = 0x34;
-        let mut before = [PATTERN; IMAGE_LENGTH];
+        let mut before = vec![PATTERN; layout.size.into()];
         let kept = layout.board_end()..;
         before[kept.clone()].copy_from_slice(&image[kept]);
-        assert_eq!(written_over(&before, &WORKED_SHEET, layout), Ok(image));
+        let written = written_over(&before, &WORKED_SHEET, layout);
+        assert_eq!(written.as_ref(), Ok(&image));
         assert_eq!(made(&image, 21140, layout), Ok(WORKED_SHEET.to_vec()));
         let exact = made_in(&image, 21140, layout, 66);
         assert_eq!(exact, Ok(WORKED_SHEET.to_vec()));
@@ -128,37 +129,74 @@ fn sizes_and_sums() {
     }
     // Sizes whose sum is the total in the low eight bits only.
     let mut sheet = Sheet::new(21143, 0x0800, &[]);
-    sheet.blocks = vec![(9, vec![0; 126]), (9, vec![0; 126]), (9, vec![0; 4])];
+    sheet.blocks = vec![(9, vec![0; 100]), (9, vec![0; 100]), (9, vec![0; 56])];
     assert_eq!(sheet.bytes()[1], 0);
     assert_eq!(written(&sheet.bytes()), Err(24));
     let without_bodies = &sheet.bytes()[..34 + 9];
     assert_eq!(written(without_bodies), Err(24));
 }
 
-/// "24 sheet length or sum, then 1 for its output, 7, then 25": every length of image but 128.
+/// "24 sheet length or sum, then 1 for its output, 7, then 25": every length of image but 128, and
+/// every stated size but 128, also one that is the image's length: "Sheets and their writer keep to
+/// 128 bytes for now".
 #[test]
 fn image_lengths() {
     let mut no_chip = WORKED_SHEET;
     no_chip[27] += 1;
     let mut wrong_sum = WORKED_SHEET;
     wrong_sum[1] += 1;
-    for length in 0..300 {
-        let mut image = vec![PATTERN; length];
-        let is_right = length == IMAGE_LENGTH;
-        for (sheet, number) in [
-            (WORKED_SHEET, if is_right { 0 } else { 1 }),
-            (no_chip, if is_right { 7 } else { 1 }),
-            (wrong_sum, 24),
-        ] {
-            image.fill(PATTERN);
-            assert_eq!(
-                write(&sheet, Layout::PLAIN, &mut image),
-                number,
-                "length {length}"
-            );
-            let is_unchanged = image.iter().all(|&byte| byte == PATTERN);
-            assert_eq!(is_unchanged, number != 0);
+    for length in 0..600 {
+        for stated in [length as u16, 128, 512, 0, 127, 256, 65_535] {
+            let is_right = length == 128 && stated == 128;
+            for (sheet, number) in [
+                (WORKED_SHEET, if is_right { 0 } else { 1 }),
+                (no_chip, if is_right { 7 } else { 1 }),
+                (wrong_sum, 24),
+            ] {
+                let mut image = vec![PATTERN; length];
+                let answered = write(&sheet, Layout::new(stated, false), &mut image);
+                assert_eq!(answered, number, "{length} as {stated}");
+                let is_unchanged = image.iter().all(|&byte| byte == PATTERN);
+                assert_eq!(is_unchanged, number != 0 || length == 0);
+            }
         }
+    }
+}
+
+/// The same of the sheet maker, whose first cause it is: a card of 512 bytes that is tidy but for its
+/// size gets 1, and every card of which another size is stated.
+#[test]
+fn images_that_are_not_served() {
+    let mut random = Random::new(10);
+    for layout in LAYOUTS {
+        let card = Card::tidy(21143, 0x0800, vec![block::sia(0, None, 1, 2)]);
+        let image = card.laid_out(&mut random, layout).image();
+        for stated in [layout.size, 128, 512, 0, 127, 256, 65_535] {
+            let is_right = layout.size == 128 && stated == 128;
+            let made = made(
+                &image,
+                21143,
+                Layout {
+                    size: stated,
+                    ..layout
+                },
+            );
+            assert_eq!(
+                made.err(),
+                (!is_right).then_some(1),
+                "{layout:?} as {stated}"
+            );
+        }
+    }
+    for _ in 0..1_000 {
+        let magic = random.one_in(2);
+        let (layout, image) = unserved(&mut random, magic);
+        let chip = random.pick(&[21041, 21143, 0]);
+        let length = random.pick(&[0, ROOMY]);
+        assert_eq!(made_in(&image, chip, layout, length), Err(1), "{layout:?}");
+        let sample = Sample::valid_in(&mut random, Layout::new(LARGE, magic));
+        let Arguments { chip, layout, .. } = sample.arguments;
+        assert_eq!(made(&sample.card.image(), chip, layout), Err(1));
     }
 }
 
@@ -167,7 +205,7 @@ fn image_lengths() {
 #[test]
 fn kept_bytes() {
     let mut random = Random::new(7);
-    for layout in LAYOUTS {
+    for layout in SHEET_LAYOUTS {
         let sheet = Sheet::valid(&mut random, layout).bytes();
         let first = written_over(&output(&mut random, layout), &sheet, layout);
         let first = first.expect("a valid sheet");
@@ -175,7 +213,7 @@ fn kept_bytes() {
             let output = output(&mut random, layout);
             let image = written_over(&output, &sheet, layout).expect("a valid sheet");
             assert_eq!(image[..96], first[..96]);
-            let expected = if layout.magic { output } else { first };
+            let expected = if layout.magic { &output } else { &first };
             assert_eq!(image[96..], expected[96..]);
         }
     }
@@ -321,7 +359,7 @@ fn control_bytes() {
 #[test]
 fn leaf_limits() {
     let mut random = Random::new(8);
-    for (layout, last) in LAYOUTS.into_iter().zip([123, 91]) {
+    for (layout, last) in SHEET_LAYOUTS.into_iter().zip([123, 91]) {
         let output = output(&mut random, layout);
         let written = |sheet: &Sheet| written_over(&output, &sheet.bytes(), layout);
         for chip in CHIPS {
@@ -350,7 +388,7 @@ fn leaf_limits() {
 fn tidiness() {
     let mut random = Random::new(9);
     let sia = block::sia(0, None, 1, 2);
-    for (layout, last) in LAYOUTS.into_iter().zip([123, 91]) {
+    for (layout, last) in SHEET_LAYOUTS.into_iter().zip([123, 91]) {
         let magic = MagicBlock::of_layout(&mut random, layout);
         let made_of = |card: &Card, chip, length| {
             let image = Card {
@@ -392,7 +430,7 @@ fn tidiness() {
 /// short": every buffer's length, for the longest sheet of each layout.
 #[test]
 fn buffer_lengths() {
-    for (layout, longest) in LAYOUTS.into_iter().zip([LONGEST_SHEET, 34 + 4 * 59]) {
+    for (layout, longest) in SHEET_LAYOUTS.into_iter().zip([LONGEST_SHEET, 34 + 4 * 59]) {
         let image = Card::longest(&mut Random::new(1), layout).image();
         let sheet = made(&image, 21041, layout).expect("it is tidy");
         assert_eq!(sheet.len(), longest);
@@ -460,21 +498,15 @@ fn refused_images() {
             assert_eq!(made, Err(number), "{sample:02x?}");
         }
     }
-    let image = [PATTERN; 300];
-    for length in (0..300).filter(|&length| length != IMAGE_LENGTH) {
-        for layout in LAYOUTS {
-            assert_eq!(made(&image[..length], 21143, layout), Err(1));
-        }
-    }
 }
 
 /// "Writing a sheet and reading it returns that sheet", and the image is tidy, as the maker accepts
-/// it: over any output, for both layouts.
+/// it: over any output, for both layouts of a sheet.
 #[test]
 fn return_of_the_sheet() {
     let mut random = Random::new(3);
     for round in 0..20_000 {
-        let layout = LAYOUTS[round % 2];
+        let layout = SHEET_LAYOUTS[round % 2];
         let sheet = Sheet::valid(&mut random, layout);
         let bytes = sheet.bytes();
         let output = output(&mut random, layout);
@@ -500,7 +532,7 @@ fn return_of_the_image() {
             lay_crcs(&mut image, layout);
         }
         if let Ok(sheet) = made(&image, chip, layout) {
-            let mut output: Image = random.bytes();
+            let mut output = random.row(image.len());
             let kept = layout.board_end()..;
             output[kept.clone()].copy_from_slice(&image[kept]);
             let again = written_over(&output, &sheet, layout);
@@ -516,7 +548,7 @@ fn return_of_the_image() {
 fn fast_equals_plain() {
     let mut random = Random::new(5);
     for round in 0..40_000 {
-        let layout = random.pick(&LAYOUTS);
+        let mut layout = random.pick(&SHEET_LAYOUTS);
         let mut sheet = match round % 3 {
             0 => Sheet::valid(&mut random, layout).bytes(),
             _ => {
@@ -528,12 +560,13 @@ fn fast_equals_plain() {
             let place = random.below(sheet.len());
             sheet[place] = random.byte();
         }
-        let mut image = random.bytes();
+        let mut image = output(&mut random, layout);
         MagicBlock::any(&mut random).lay(&mut image);
-        let length = random.pick(&[IMAGE_LENGTH, IMAGE_LENGTH, IMAGE_LENGTH, 127, 0]);
-        let image = &mut image[..length];
-        let mut fast_image = image.to_vec();
-        let number = write(&sheet, layout, image);
+        if random.one_in(4) {
+            (layout, image) = unserved(&mut random, layout.magic);
+        }
+        let mut fast_image = image.clone();
+        let number = write(&sheet, layout, &mut image);
         let fast_number = fast::write(&sheet, layout, &mut fast_image);
         assert_eq!(fast_number, number, "{sheet:02x?}");
         assert_eq!(fast_image, image, "{sheet:02x?}");

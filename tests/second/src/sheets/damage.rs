@@ -60,7 +60,7 @@ impl Sheet {
         match cause {
             1 => {
                 let any = between(random, 258, 0xFFFF) as u16;
-                *kind = random.pick(&[258, 259, 512, 0xFFFF, any]);
+                *kind = random.pick(&[258, 259, 0x0200, 0xFFFF, any]);
             }
             2 if is_21041 => *kind = random.below(257) as u16,
             2 => *kind = MEDIA_21041,

@@ -2,17 +2,17 @@
 
 use super::Sheet;
 use crate::images::{Card, Image, MagicBlock, Sample, TIDY_LEAF};
-use crate::layout::LAYOUTS;
+use crate::layout::SHEET_LAYOUTS;
 use crate::random::Random;
 use crate::reader::Arguments;
 
 /// The refusals of [`crate::images::DAMAGES`] that the maker can answer: those of the controller,
 /// the level and the address are not for controller 0.
-pub const TIDY_DAMAGES: [u8; 16] = [2, 3, 4, 29, 30, 5, 7, 10, 11, 13, 14, 15, 16, 17, 18, 31];
+pub const TIDY_DAMAGES: [u8; 17] = [1, 2, 3, 4, 29, 30, 5, 7, 10, 11, 13, 14, 15, 16, 17, 18, 31];
 
-/// A tidy card of any chip and layout, and the newest reader of it.
+/// A tidy card of any chip and of either layout that sheets are of, and the newest reader of it.
 pub fn tidy(random: &mut Random) -> Sample {
-    let layout = random.pick(&LAYOUTS);
+    let layout = random.pick(&SHEET_LAYOUTS);
     let sheet = Sheet::valid(random, layout);
     Sample {
         card: sheet.card(MagicBlock::of_layout(random, layout)),

@@ -3,7 +3,7 @@ use crate::calls::{self, Call, Habits};
 use crate::cases::{CASES_K, REPORTS_K, card_b, cases};
 use crate::images::block::{self, Phy};
 use crate::images::{Card, DAMAGES, Image, Sample};
-use crate::layout::Layout;
+use crate::layout::{LAYOUTS, Layout};
 use crate::random::Random;
 use crate::reader::{CHIPS, NEWEST_LEVEL, connections, first_block, read_all};
 use crate::specification::{self, arguments, number, opened};
@@ -162,23 +162,52 @@ fn refused_loads() {
 }
 
 /// "Loading reads an image with the reader's arguments", of which the layout is one: a leaf walks
-/// alike with a Magic Packet block behind it and without.
+/// alike with a Magic Packet block behind it and without, in a ROM of either size.
 #[test]
-fn both_layouts() {
+fn every_layout() {
     let mut random = Random::new(4);
     for _ in 0..1_000 {
-        let with_block = calls::accepted(&mut random, Layout::MAGIC);
-        let mut without = with_block.clone();
-        without.card.magic = None;
-        without.arguments.layout = Layout::PLAIN;
-        let [mut walk, mut other] =
-            [with_block, without].map(|it| loaded(&it.card.image(), it.arguments));
+        let Sample { card, arguments } = calls::accepted(&mut random, Layout::MAGIC);
+        let [mut walk, mut others @ ..] = LAYOUTS.map(|layout| {
+            let image = card.clone().laid_out(&mut random, layout).image();
+            loaded(&image, arguments.laid_out(layout))
+        });
         let habits = Habits::new(&mut random, walk.walk().blocks.into());
         for _ in 0..8 {
             let report = habits.report(&mut random);
-            assert_eq!(walk.look(&report), other.look(&report));
-            assert_eq!(walk, other);
+            let number = walk.look(&report);
+            for other in &mut others {
+                assert_eq!(other.look(&report), number);
+                assert_eq!(*other, walk);
+            }
         }
+    }
+}
+
+/// "Blocks rise to 255 and walk rows with them": of 255 blocks each is selected where it alone is up,
+/// 254 the first in table order, and none where none is; a report of 254 bytes gets 19.
+#[test]
+fn most_blocks() {
+    for layout in [Layout::LARGE_PLAIN, Layout::LARGE_MAGIC] {
+        let Sample { card, arguments } = Sample::longest(&mut Random::new(1), layout);
+        let image = card.image();
+        let mut walk = loaded(&image, arguments);
+        let rows = walk.walk().rows;
+        assert_eq!(rows.listed[..255], [1; 255]);
+        assert_eq!((rows.listed.len(), rows.listed[255]), (256, 0));
+        assert_eq!(walk.walk().blocks, 255);
+        assert_eq!(walk.look(&[1; 254]), 19);
+        assert_eq!(selections(&mut walk, &[&[0; 255]]), [NONE]);
+        assert_eq!(state(&walk), (false, NONE, 1, 0));
+        for block in (0..255).rev() {
+            let mut report = [0; 300];
+            report[block] = 1;
+            assert_eq!(selections(&mut walk, &[&report]), [block as u8]);
+        }
+        assert_eq!(state(&walk), (true, 0, 256, 255));
+        let mut walk = loaded(&image, arguments);
+        assert_eq!(selections(&mut walk, &[&[1; 255]]), [254]);
+        assert_eq!(selections(&mut walk, &[&[0; 255]]), [NONE]);
     }
 }
 

@@ -17,12 +17,14 @@ returns-2 : tie.Need-returns-2
 unfolding takesOption pick
 returns-2 c = simp (ne-eqb _ _ (c .before .if1 .left), eq-eqb _ _ (c .if2 .taken))
 
+takes-size-requires : tie.Need-takes-size-requires
+takes-size-requires c κs = search needs
+
 returns-3 : tie.Need-returns-3
 unfolding takesOption pick
-returns-3 c = simp (ne-eqb _ _ (c .before .before .if1 .left), ne-eqb _ _ (c .before .if2 .left), lt-ltb _ _ (c .if3 .taken))
-
-takes-arguments-requires : tie.Need-takes-arguments-requires
-takes-arguments-requires c κs = search needs
+returns-3 c =
+    simp (ne-eqb _ _ (c .before .before .before .if1 .left), ne-eqb _ _ (c .before .before .if2 .left), eq-eqb _ _ (c .before .if3 .taken))
+    (c .takes-size .ensures)
 
 returns-4 : tie.Need-returns-4
 unfolding takesOption pick
@@ -30,9 +32,25 @@ returns-4 c =
     simp (
       ne-eqb _ _ (c .before .before .before .if1 .left),
       ne-eqb _ _ (c .before .before .if2 .left),
-      le-ltb _ _ (c .before .if3 .left),
+      ne-eqb _ _ (c .before .if3 .left),
+      lt-ltb _ _ (c .if4 .taken),
+    )
+
+takes-arguments-requires : tie.Need-takes-arguments-requires
+takes-arguments-requires c κs = search needs
+
+returns-5 : tie.Need-returns-5
+unfolding takesOption pick
+returns-5 c =
+    simp (
+      ne-eqb _ _ (c .before .before .before .before .if1 .left),
+      ne-eqb _ _ (c .before .before .before .if2 .left),
+      ne-eqb _ _ (c .before .before .if3 .left),
+      le-ltb _ _ (c .before .if4 .left),
     )
     (c .takes-arguments .ensures)
 
 pub takes-spec : {M : Type 1} → statement M
-takes-spec = tie.close (tie.spec takes-force-requires returns returns-2 returns-3 takes-arguments-requires returns-4)
+takes-spec =
+    tie.close
+    (tie.spec takes-force-requires returns returns-2 takes-size-requires returns-3 returns-4 takes-arguments-requires returns-5)
