@@ -1,21 +1,22 @@
 /*
  * A fuzz target over every exported call. The first bytes choose the arguments, the rest is an image, a report and a sheet.
- * One flag mends the CRCs, so that the search gets behind them, one says that there is a Magic Packet block and one that the ROM
- * has the larger size; the image's length and its stated size may be others. Every lent buffer stands between guard bytes. The
- * archive is compiled without instrumentation, so what the calls answer guides the search: each refusal number and each count.
+ * One flag mends the CRCs, so that the search gets behind them, one says that there is a Magic Packet block, one that the ROM
+ * has the larger size and one that sheets are wide; the image's length and its stated size may be others. Every lent buffer
+ * stands between guard bytes. The archive is compiled without instrumentation, so what the calls answer guides the search: each
+ * refusal number and each count.
  */
 #include <srom.h>
 
 #include <stdlib.h>
 #include <string.h>
 
-enum { GUARD = 32, GUARD_BYTE = 0xA5, MOST_ELEMENTS = 512, CALLS = 8 };
+enum { GUARD = 32, GUARD_BYTE = 0xA5, CALLS = 8 };
 
 /* How far before an image's end its Magic Packet block starts, that block's CRC stands, and the SROM CRC without it. */
 enum { BLOCK_LENGTH = 32, BLOCK_CRC = 2, CRC = 2 };
 
 /* The flags. */
-enum { MENDS = 1, OTHER_LENGTH = 2, MAGIC = 4, LARGE = 8, OTHER_SIZE = 16 };
+enum { MENDS = 1, OTHER_LENGTH = 2, MAGIC = 4, LARGE = 8, OTHER_SIZE = 16, WIDE = 32 };
 
 /* The bytes before the image: flags, chip, controller, level, elements of the arrays, another length or size (word). */
 enum { HEAD = 7 };
@@ -54,7 +55,25 @@ static void check(bool holds)
 }
 
 /* A counter for each number that a call answers: to the search, reaching a new one is coverage. */
-enum { READ, LISTED, SKIPPED, RESETS, POWER, READ_MAGIC, LOAD, LOOK, SELECTED, SWITCHES, WRITE, MAKE, KINDS_OF_NUMBERS };
+enum {
+    READ,
+    LISTED,
+    SKIPPED,
+    RESETS,
+    POWER,
+    READ_MAGIC,
+    LOAD,
+    LOOK,
+    SELECTED,
+    SWITCHES,
+    WRITE,
+    WRITE_WIDE,
+    MAKE,
+    MAKE_WIDE,
+    WIDEN,
+    NARROW,
+    KINDS_OF_NUMBERS
+};
 
 __attribute__((section("__libfuzzer_extra_counters"))) static uint8_t counters[KINDS_OF_NUMBERS][256];
 
@@ -256,25 +275,120 @@ static void walk_over(const uint8_t *image, size_t length, srom_arguments argume
     }
 }
 
-/* A sheet, written to an image with a block that is right or not. Only the smaller size is written to. */
-static void return_sheet(const uint8_t *sheet, size_t length, srom_layout layout, bool is_large, bool has_block)
+/* N and T of a sheet's bytes: each a byte, or a word. */
+typedef struct sizes {
+    size_t count;
+    size_t total;
+} sizes;
+
+static sizes sizes_of(const uint8_t *sheet, bool wide)
+{
+    sizes narrow = {sheet[0], sheet[1]};
+    sizes words = {(size_t)(sheet[0] | sheet[1] << 8), (size_t)(sheet[2] | sheet[3] << 8)};
+    return wide ? words : narrow;
+}
+
+/* Whether bytes have the length and the sum that a form asks for. */
+static bool is_sheet(const uint8_t *sheet, size_t length, bool wide)
+{
+    size_t head = wide ? 36 : 34, sum = 0;
+    if (length < head)
+        return false;
+    sizes said = sizes_of(sheet, wide);
+    if (length != head + 3 * said.count + said.total)
+        return false;
+    for (size_t k = 0; k < said.count; k++)
+        sum += sheet[head + 2 * said.count + k];
+    return sum == said.total;
+}
+
+static srom_made convert(const uint8_t *sheet, size_t length, bool wide, lent buffer)
+{
+    if (wide)
+        return srom_narrow(sheet, length, buffer.bytes, buffer.length);
+    return srom_widen(sheet, length, buffer.bytes, buffer.length);
+}
+
+/* Whether a call that lays a sheet into a buffer left all behind it, or all of it on a refusal. */
+static bool keeps_the_rest(srom_made made, lent buffer)
+{
+    lent before = lend(NULL, buffer.length);
+    bool keeps = memcmp(buffer.bytes + made.length, before.bytes, buffer.length - made.length) == 0;
+    take_back(before);
+    return keeps && (made.number == SROM_ACCEPTED || made.length == 0);
+}
+
+/* A sheet, converted from a form: each refusal exactly where it has its cause, and back again. */
+static void return_conversion(const uint8_t *sheet, size_t length, bool wide)
+{
+    lent lent_sheet = lend(sheet, length), buffer = lend(NULL, length + 2);
+    srom_made made = convert(lent_sheet.bytes, length, wide, buffer);
+    reach(wide ? NARROW : WIDEN, made.number);
+    check(keeps_the_rest(made, buffer));
+    check((made.number == SROM_BAD_SHEET) == !is_sheet(sheet, length, wide));
+    if (made.number != SROM_BAD_SHEET) {
+        sizes said = sizes_of(sheet, wide);
+        bool is_too_large = said.count > 255 || said.total > 255;
+        check(made.number == (is_too_large ? SROM_SHEET_TOO_LARGE : SROM_ACCEPTED));
+    }
+    if (made.number == SROM_ACCEPTED) {
+        check(is_sheet(buffer.bytes, made.length, !wide));
+        lent again = lend(NULL, length), shorter = lend(NULL, made.length - 1);
+        srom_made returned = convert(buffer.bytes, made.length, !wide, again);
+        check(returned.number == SROM_ACCEPTED && returned.length == length && memcmp(again.bytes, sheet, length) == 0);
+        srom_made refused = convert(lent_sheet.bytes, length, wide, shorter);
+        check(refused.number == SROM_ARRAY_TOO_SHORT && keeps_the_rest(refused, shorter));
+        take_back(again);
+        take_back(shorter);
+    }
+    take_back(buffer);
+    take_back(lent_sheet);
+}
+
+/* A narrow sheet is written as it is, or refused, when it is widened; but for the larger size, which it is not written to. */
+static void check_widened(const uint8_t *sheet, size_t length, srom_layout layout, lent before, uint8_t number, lent image)
+{
+    if (number == SROM_BAD_SHEET || layout.size == SROM_LARGE_SIZE)
+        return;
+    lent widened = lend(NULL, length + 2), again = lend(before.bytes, before.length);
+    check(srom_widen(sheet, length, widened.bytes, length + 2).number == SROM_ACCEPTED);
+    check(srom_write(widened.bytes, length + 2, true, layout, again.bytes, again.length) == number);
+    check(memcmp(again.bytes, image.bytes, image.length) == 0);
+    take_back(widened);
+    take_back(again);
+}
+
+/* Whether an image has the stated size, and the form serves it. */
+static bool is_served(size_t length, uint16_t size, bool wide)
+{
+    return is_of_size(length, size) && (wide || size == SROM_SMALL_SIZE);
+}
+
+/* A sheet, written to an image with a block that is right or not, and made again. */
+static void return_sheet(const uint8_t *sheet, size_t length, bool wide, srom_layout layout, uint16_t size, bool has_block)
 {
     static const srom_magic nothing;
-    uint16_t size = is_large ? SROM_LARGE_SIZE : SROM_SMALL_SIZE;
     lent image = lend(NULL, size), lent_sheet = lend(sheet, length);
     if (has_block)
         check(srom_write_magic(nothing, image.bytes, size, size) == SROM_ACCEPTED);
     lent before = lend(image.bytes, size);
-    uint8_t number = srom_write(lent_sheet.bytes, length, layout, image.bytes, size);
-    reach(WRITE, number);
-    if (is_large || layout.size != SROM_SMALL_SIZE)
-        check(number == SROM_BAD_SHEET || number == SROM_BAD_IMAGE_LENGTH);
+    uint8_t number = srom_write(lent_sheet.bytes, length, wide, layout, image.bytes, size);
+    reach(wide ? WRITE_WIDE : WRITE, number);
+    check((number == SROM_BAD_SHEET) == !is_sheet(sheet, length, wide));
+    if (number != SROM_BAD_SHEET) {
+        bool is_too_large = sizes_of(sheet, wide).count > 255;
+        check((number == SROM_SHEET_TOO_LARGE) == is_too_large);
+        check((number == SROM_BAD_IMAGE_LENGTH) == (!is_too_large && !is_served(size, layout.size, wide)));
+    }
+    if (!wide)
+        check_widened(sheet, length, layout, before, number, image);
     if (number != SROM_ACCEPTED)
         check(memcmp(image.bytes, before.bytes, size) == 0);
     else {
-        lent again = lend(NULL, MOST_ELEMENTS);
-        uint16_t chip = (uint16_t)(lent_sheet.bytes[27] | lent_sheet.bytes[28] << 8);
-        srom_made made = srom_make_sheet(image.bytes, size, chip, layout, again.bytes, MOST_ELEMENTS);
+        lent again = lend(NULL, SROM_LONGEST_WIDE_SHEET);
+        size_t at = wide ? 29 : 27;
+        uint16_t chip = (uint16_t)(lent_sheet.bytes[at] | lent_sheet.bytes[at + 1] << 8);
+        srom_made made = srom_make_sheet(image.bytes, size, chip, wide, layout, again.bytes, again.length);
         check(made.number == SROM_ACCEPTED && made.length == length);
         check(memcmp(again.bytes, lent_sheet.bytes, length) == 0);
         if (layout.magic)
@@ -286,21 +400,39 @@ static void return_sheet(const uint8_t *sheet, size_t length, srom_layout layout
     take_back(lent_sheet);
 }
 
-static void return_image(const uint8_t *image, size_t length, uint16_t chip, srom_layout layout, size_t room)
+/* The wide sheet of an image is its narrow one, widened; but for the larger size, of which there is no narrow one. */
+static void check_made_wide(const uint8_t *image, size_t length, uint16_t chip, srom_layout layout, srom_made made, lent buffer)
+{
+    if (layout.size == SROM_LARGE_SIZE)
+        return;
+    lent narrow = lend(NULL, SROM_LONGEST_SHEET), again = lend(NULL, buffer.length);
+    srom_made expected = srom_make_sheet(image, length, chip, false, layout, narrow.bytes, narrow.length);
+    if (expected.number == SROM_ACCEPTED)
+        expected = srom_widen(narrow.bytes, expected.length, again.bytes, again.length);
+    check(made.number == expected.number && made.length == expected.length);
+    check(memcmp(again.bytes, buffer.bytes, buffer.length) == 0);
+    take_back(narrow);
+    take_back(again);
+}
+
+static void return_image(const uint8_t *image, size_t length, uint16_t chip, bool wide, srom_layout layout, size_t room)
 {
     lent buffer = lend(NULL, room);
-    srom_made made = srom_make_sheet(image, length, chip, layout, buffer.bytes, room);
-    reach(MAKE, made.number);
-    check((made.number == SROM_BAD_IMAGE_LENGTH) == !(length == SROM_SMALL_SIZE && layout.size == SROM_SMALL_SIZE));
+    srom_made made = srom_make_sheet(image, length, chip, wide, layout, buffer.bytes, room);
+    reach(wide ? MAKE_WIDE : MAKE, made.number);
+    check((made.number == SROM_BAD_IMAGE_LENGTH) == !is_served(length, layout.size, wide));
+    check(keeps_the_rest(made, buffer));
+    if (wide)
+        check_made_wide(image, length, chip, layout, made, buffer);
     if (made.number == SROM_ACCEPTED) {
-        uint8_t back[SROM_SMALL_SIZE] = {0};
-        size_t board = sizeof back - BLOCK_LENGTH;
+        lent back = lend(NULL, length);
+        size_t board = length - BLOCK_LENGTH;
         if (layout.magic)
-            memcpy(back + board, image + board, BLOCK_LENGTH);
-        check(srom_write(buffer.bytes, made.length, layout, back, sizeof back) == SROM_ACCEPTED);
-        check(memcmp(back, image, sizeof back) == 0);
-    } else
-        check(made.length == 0);
+            memcpy(back.bytes + board, image + board, BLOCK_LENGTH);
+        check(srom_write(buffer.bytes, made.length, wide, layout, back.bytes, length) == SROM_ACCEPTED);
+        check(memcmp(back.bytes, image, length) == 0);
+        take_back(back);
+    }
     take_back(buffer);
 }
 
@@ -310,8 +442,8 @@ int LLVMFuzzerTestOneInput(const uint8_t *data, size_t size)
     if (size < HEAD)
         return 0;
     uint8_t flags = data[0];
-    bool is_large = (flags & LARGE) != 0;
-    uint16_t right = is_large ? SROM_LARGE_SIZE : SROM_SMALL_SIZE, other = (uint16_t)(data[5] | data[6] << 8);
+    bool wide = (flags & WIDE) != 0;
+    uint16_t right = flags & LARGE ? SROM_LARGE_SIZE : SROM_SMALL_SIZE, other = (uint16_t)(data[5] | data[6] << 8);
     srom_layout layout = {flags & OTHER_SIZE ? other : right, (flags & MAGIC) != 0};
     srom_arguments arguments = {chips[data[1] % 8], data[2] % 40, data[3] % 10, layout};
     size_t room = data[4], length = flags & OTHER_LENGTH ? other % 1024u : right;
@@ -327,8 +459,9 @@ int LLVMFuzzerTestOneInput(const uint8_t *data, size_t size)
     read_and_view(image.bytes, length, arguments, room);
     return_block(image.bytes, length, layout.size);
     walk_over(image.bytes, length, arguments, data + length, size - length);
-    return_image(image.bytes, length, arguments.chip, layout, room * 2);
-    return_sheet(data, size, layout, is_large, flags & MENDS);
+    return_image(image.bytes, length, arguments.chip, wide, layout, room * 5);
+    return_sheet(data, size, wide, layout, right, flags & MENDS);
+    return_conversion(data, size, wide);
     check(memcmp(image.bytes, as_lent.bytes, length) == 0);
     take_back(image);
     take_back(as_lent);

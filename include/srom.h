@@ -25,18 +25,19 @@ extern "C" {
 /* ---- Numbers ---- */
 
 enum {
-    SROM_SMALL_SIZE = 128,    /* bytes of an image: of a ROM of 1K bits, or */
-    SROM_LARGE_SIZE = 512,    /* of one of 4K bits */
-    SROM_LONGEST_SHEET = 398, /* bytes of the longest sheet of an accepted image */
-    SROM_NEWEST_LEVEL = 7,    /* a reader of level n knows the extended types below n */
-    SROM_NONE = 255           /* no default block, no selected block */
+    SROM_SMALL_SIZE = 128,          /* bytes of an image: of a ROM of 1K bits, or */
+    SROM_LARGE_SIZE = 512,          /* of one of 4K bits */
+    SROM_LONGEST_SHEET = 398,       /* bytes of the longest narrow sheet of an accepted image, and */
+    SROM_LONGEST_WIDE_SHEET = 1272, /* of the longest wide one; of an image of 128 bytes that has 400 */
+    SROM_NEWEST_LEVEL = 7,          /* a reader of level n knows the extended types below n */
+    SROM_NONE = 255                 /* no default block, no selected block */
 };
 
 /* Why a call is refused. */
 enum {
     SROM_ACCEPTED = 0,
     SROM_BAD_IMAGE_LENGTH = 1,     /* image not of the stated size, or a stated size neither 128 nor 512, or not 128 with a
-                                      sheet */
+                                      narrow sheet */
     SROM_BAD_VERSION = 2,          /* version neither 3 nor 4 */
     SROM_BAD_SROM_CRC = 3,         /* SROM CRC differs */
     SROM_BAD_ID_CRC = 4,           /* ID CRC differs */
@@ -59,14 +60,15 @@ enum {
     SROM_WALK_FRESH = 20,          /* look at a walk that is not loaded */
     SROM_WALK_LOADED = 21,         /* load of a walk that is loaded */
     SROM_TOO_MANY_LOOKS = 23,      /* 65,535 looks */
-    SROM_BAD_SHEET = 24,           /* sheet length or sum of sizes */
+    SROM_BAD_SHEET = 24,           /* sheet length or sum of sizes, by the sheet's form */
     SROM_BAD_SHEET_ENTRY = 25,     /* kind, body or control byte that no image of the chip can hold */
-    SROM_LEAF_TOO_LONG = 26,       /* leaf of a sheet past byte 123 (91 with a Magic Packet block) */
+    SROM_LEAF_TOO_LONG = 26,       /* leaf of a sheet that does not end before the maker's bytes */
     SROM_NOT_TIDY = 27,            /* more than one controller, leaf not at 30, or bytes behind the leaf not 0 */
     SROM_BAD_MAGIC_CRC = 29,       /* CRC of the Magic Packet block differs */
     SROM_BAD_MAGIC_RESERVED = 30,  /* reserved byte of the Magic Packet block not 0 */
     SROM_REPEATED_MODE = 31,       /* a bit of the mode byte set in two power blocks (type 6) */
-    SROM_NO_FIXED_MEDIUM = 32      /* look under a fixed connection type whose medium no entry has */
+    SROM_NO_FIXED_MEDIUM = 32,     /* look under a fixed connection type whose medium no entry has */
+    SROM_SHEET_TOO_LARGE = 33      /* over 255 blocks in a wide sheet or, when it is narrowed, over 255 body bytes */
 };
 
 /* Chips, by their decimal numbers. The 21140A counts as 21140. */
@@ -260,55 +262,73 @@ srom_walked srom_clear(srom_walk walk);
 /* ---- Sheets ---- */
 
 /*
- * A sheet says what an image of one controller holds, without what can be worked out: CRCs, offsets, lengths of blocks. Sheets
- * are of images of 128 bytes: with any other stated size they are neither written nor made. Words stand low byte first. N is
- * the number of blocks, T the sum of the body sizes, and a sheet has exactly 34 + 3 * N + T bytes:
+ * A sheet says what an image of one controller holds, without what can be worked out: CRCs, offsets, lengths of blocks. N is
+ * the number of blocks, T the sum of the body sizes. A sheet has one of two forms, which the caller names; no bytes are a sheet
+ * in both. A narrow one has N and T in a byte each and exactly 34 + 3 * N + T bytes, and is of an image of 128 bytes: with any
+ * other stated size it is neither written nor made. A wide one has them in a word each, and all that follows two bytes later:
+ * exactly 36 + 3 * N + T bytes; it is of an image of either size. Words stand low byte first:
  *
- *     byte        holds
- *     0           N
- *     1           T
- *     2 to 17     bytes 0 to 15 of the ID block
- *     18          byte 17 of the ID block (byte 16 is the ID CRC)
- *     19          version, 3 or 4
- *     20 to 25    station address, most significant byte first
- *     26          device number
- *     27, 28      chip (word), its decimal number
- *     29, 30      connection type (word)
- *     31          general purpose control byte; 0 but for the 21140
- *     32, 33      the maker's bytes, 124 and 125 of the image, or 92 and 93 with a Magic Packet block
- *     34          N kinds (words): an extended block's type, SROM_KIND_COMPACT or SROM_KIND_21041
- *     34 + 2 * N  N body sizes (bytes)
- *     34 + 3 * N  T bytes, the N bodies: an extended block without its length and its type, any other block whole
+ *     narrow      wide        holds
+ *     0           0, 1        N
+ *     1           2, 3        T
+ *     2 to 17     4 to 19     bytes 0 to 15 of the ID block
+ *     18          20          byte 17 of the ID block (byte 16 is the ID CRC)
+ *     19          21          version, 3 or 4
+ *     20 to 25    22 to 27    station address, most significant byte first
+ *     26          28          device number
+ *     27, 28      29, 30      chip (word), its decimal number
+ *     29, 30      31, 32      connection type (word)
+ *     31          33          general purpose control byte; 0 but for the 21140
+ *     32, 33      34, 35      the maker's bytes, which the image has where the table of the layout says
+ *     34          36          N kinds (words): an extended block's type, SROM_KIND_COMPACT or SROM_KIND_21041
+ *     34 + 2 * N  36 + 2 * N  N body sizes (bytes)
+ *     34 + 3 * N  36 + 3 * N  T bytes, the N bodies: an extended block without its length and its type, any other block whole
  *
- * Kinds, sizes and bodies stand in the order of block numbers. The blocks of an image stand from byte 33 to byte 123 at most,
- * and a block has 3 bytes of the sheet beside its body. So a byte of a block comes to 4 bytes of the sheet at most, in the
- * 21041's blocks of one byte, and SROM_LONGEST_SHEET is the length with 91 of those: 34 + 3 * 91 + 91.
+ * Kinds, sizes and bodies stand in the order of block numbers. The blocks of an image stand from byte 33 on, and a block has 3
+ * bytes of the sheet beside its body. So the longest sheets are of the 21041, whose blocks have 1 byte or 7: of 128 bytes with
+ * 91 blocks of 1 byte, 34 + 3 * 91 + 91, which is SROM_LONGEST_SHEET, and 400 in the wide form; of 512 bytes with 255 blocks,
+ * the most that a leaf counts, and 36 of them of 7 bytes, 36 + 3 * 255 + 471, which is SROM_LONGEST_WIDE_SHEET.
  */
-
-/*
- * Writes the image of a sheet: one controller, its leaf at byte 30, both CRCs, zeros elsewhere. With a Magic Packet block that
- * is bytes 0 to 95; bytes 96 to 127 are kept as the image has them, and judged with the rest, so the block must stand there
- * before the call (srom_write_magic). The image is unchanged on a refusal.
- * Refusals: 24, 1, for any size but 128 too, 7, 25, 26, then those of srom_read without 12 for controller 0 at the newest level
- * in the layout.
- */
-uint8_t srom_write(const uint8_t *sheet, size_t sheet_length, srom_layout layout, uint8_t *image, size_t image_length);
 
 typedef struct srom_made {
     uint8_t number;
-    size_t length; /* of the sheet, in bytes */
+    size_t length; /* of the sheet that was made, in bytes */
 } srom_made;
 
 /*
- * Makes the sheet of a tidy image, blocks of unknown types included; a Magic Packet block is no part of it. Bytes of the
- * buffer behind the sheet are unchanged; on a refusal all of them are. Writing the sheet gives the image back, with a Magic
- * Packet block where the same block stands there already, and a sheet that was written comes back byte for byte. A buffer of
- * SROM_LONGEST_SHEET bytes is long enough for every image.
- * Refusals: those of srom_read without 12, for controller 0 at the newest level in the layout, with 1 for any size but 128 too,
- * then 27, then 12.
+ * Writes the image of a sheet, wide or narrow: one controller, its leaf at byte 30, both CRCs, zeros elsewhere. With a Magic
+ * Packet block that is all before the block; the block is kept as the image has it, and judged with the rest, so it must stand
+ * there before the call (srom_write_magic). The image is unchanged on a refusal.
+ * Refusals: 24, 33 for over 255 blocks, 1, for a narrow sheet and any size but 128 too, 7, 25, 26, then those of srom_read
+ * without 12 for controller 0 at the newest level in the layout.
  */
-srom_made srom_make_sheet(const uint8_t *image, size_t image_length, uint16_t chip, srom_layout layout,
+uint8_t srom_write(const uint8_t *sheet, size_t sheet_length, bool wide, srom_layout layout,
+                   uint8_t *image, size_t image_length);
+
+/*
+ * Makes the sheet of a tidy image, wide or narrow, blocks of unknown types included; a Magic Packet block is no part of it.
+ * Bytes of the buffer behind the sheet are unchanged; on a refusal all of them are. Writing the sheet gives the image back,
+ * with a Magic Packet block where the same block stands there already, and a sheet that was written comes back byte for byte.
+ * A buffer of SROM_LONGEST_SHEET bytes is long enough for every narrow sheet, of SROM_LONGEST_WIDE_SHEET for every wide one.
+ * Refusals: 1, for a narrow sheet and any size but 128 too, then the others of srom_read without 12 for controller 0 at the
+ * newest level in the layout, then 27, then 12.
+ */
+srom_made srom_make_sheet(const uint8_t *image, size_t image_length, uint16_t chip, bool wide, srom_layout layout,
                           uint8_t *buffer, size_t buffer_length);
+
+/*
+ * The wide sheet that says what a narrow one says. Nothing of it is judged but its length and sum. Bytes of the buffer behind
+ * the wide sheet are unchanged; on a refusal all of them are. Narrowing it gives the narrow sheet back. To an image of 128
+ * bytes both are written alike, on a refusal with the same number, and the wide sheet made of one is the narrow one widened.
+ * Refusals: 24, 12.
+ */
+srom_made srom_widen(const uint8_t *sheet, size_t sheet_length, uint8_t *buffer, size_t buffer_length);
+
+/*
+ * The narrow sheet that says what a wide one says, in the same way. Widening it gives the wide sheet back.
+ * Refusals: 24, 33 for over 255 blocks or body bytes, 12.
+ */
+srom_made srom_narrow(const uint8_t *sheet, size_t sheet_length, uint8_t *buffer, size_t buffer_length);
 
 #ifdef __cplusplus
 }

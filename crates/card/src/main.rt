@@ -1,5 +1,6 @@
 // The bench tool: what is on a card, and what an older driver would see of it. Everything that it shows is answered by the
 // proved crates below it; this one reads files, and prints.
+mod conversion;
 mod file;
 mod packet;
 mod sheets;
@@ -31,10 +32,12 @@ fn usage() -> u8 {
   older FILE CHIP [OPTIONS]           what readers of each level see of it
   walk FILE CHIP REPORT.. [OPTIONS]   a look with each REPORT, a row of 0 and 1
                                       with a 1 for each block whose link is up
-  sheet FILE CHIP OUT [--size N] [--magic] [--force]
+  sheet FILE CHIP OUT [--wide] [--size N] [--magic] [--force]
                                       the image as a sheet
-  write SHEET OUT [--magic FROM] [--force]
+  write SHEET OUT [--wide] [--size N] [--magic FROM] [--force]
                                       the sheet as an image
+  widen SHEET OUT [--force]           the narrow sheet as a wide one
+  narrow SHEET OUT [--force]          the wide sheet as a narrow one
   magic FILE OUT --password P --address A --command C [--size N] [--force]
                                       the image with a new Magic Packet block
   map FILE CHIP OUT.svg [OPTIONS] [--force]
@@ -54,8 +57,13 @@ newest where it is not given, --size N, how many bytes the ROM has, where its
 file's length is not to tell, and --magic, for a card that is laid out with a
 Magic Packet block. Options stand anywhere behind the command.
 
-write --magic keeps the block of the image FROM. P and A are six bytes as
-xx:xx:xx:xx:xx:xx and C is a word of up to four digits, all in hexadecimal.
+A sheet is narrow, for ROMs of 1K bits, or wide, for those of 4K bits too; that
+it is wide, --wide says. write makes an image of --size N bytes, or else of as
+many as FROM has, or of 1K bits; --magic keeps the block of the image FROM.
+SHEET is raw, or in hexadecimal, as FILE is.
+
+P and A are six bytes as xx:xx:xx:xx:xx:xx and C is a word of up to four
+digits, all in hexadecimal.
 
 dump reads the card through its chip, while no driver has it. --pci says which
 card is meant where there are several, by its address, as 0000:00:04.0.
@@ -86,7 +94,7 @@ fn is_answered(number: u8) -> bool {
 
 fn refusals() -> u8 {
     let mut number = 0u8;
-    while number <= refusal::NO_FIXED_MEDIUM {
+    while number <= refusal::SHEET_TOO_LARGE {
         let answered = is_answered(number);
         if answered {
             show_number(number);
@@ -96,9 +104,12 @@ fn refusals() -> u8 {
     status::ACCEPTED
 }
 
-// The size of the ROM whose file has so many bytes.
-fn size_of(words: Words, length: usize) -> u16 {
-    size::size_for(words.sized, words.layout.size, length)
+// The layout of the ROM whose file has so many bytes: of the size that is given, or else of that length.
+pub(crate) fn layout_of(words: Words, length: usize) -> Layout {
+    Layout {
+        size: size::size_for(words.sized, words.layout.size, length),
+        magic: words.layout.magic,
+    }
 }
 
 fn arguments_of(words: Words, length: usize) -> Arguments {
@@ -106,10 +117,7 @@ fn arguments_of(words: Words, length: usize) -> Arguments {
         chip: words.chip,
         controller: words.controller,
         level: words.level,
-        layout: Layout {
-            size: size_of(words, length),
-            magic: words.layout.magic,
-        },
+        layout: layout_of(words, length),
     }
 }
 
@@ -124,15 +132,17 @@ fn run_on(bytes: &[u8], words: Words) -> u8 {
         command::READ => status::of(listing::show(bytes, arguments, given)),
         command::OLDER => status::of(older::show(bytes, arguments, given)),
         command::WALK => looks::show(bytes, arguments, given, places[2]),
-        command::SHEET => sheets::make(bytes, arguments, given, places[2], force),
+        command::SHEET => sheets::make(bytes, arguments, words),
         command::MAP => picture::show(bytes, arguments, given, places[2], force),
-        _ => sheets::write(bytes, words.layout, words.from, places[1], force),
+        command::WRITE => sheets::write(bytes, words),
+        command::WIDEN => conversion::widen(bytes, places[1], force),
+        _ => conversion::narrow(bytes, places[1], force),
     }
 }
 
 // `magic`, on what is in a file.
 fn write_magic(input: Input, words: Words) -> u8 {
-    let size = size_of(words, input.length);
+    let size = layout_of(words, input.length).size;
     let places = words.places;
     packet::write(
         input,

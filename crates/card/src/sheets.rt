@@ -1,5 +1,6 @@
 // `card sheet` and `card write`: an image to its sheet, and a sheet to its image.
 use crate::file::save;
+use console::arguments::Words;
 use console::input;
 use console::input::Input;
 use console::status;
@@ -7,13 +8,16 @@ use hexadecimal::held;
 use reader::Arguments;
 use rom::Layout;
 use rom::refusal;
+use sheet::Form;
 use text::line;
 use text::line::say;
 use text::slice::byte_at;
 use text::slice::part;
 
 // More than the sheet of any image has.
-const ROOM: usize = 1024;
+const ROOM: usize = held::ROOM;
+
+// ## An image to its sheet
 
 // What keeps an image from being tidy.
 fn show_untidy(image: &[u8], layout: Layout) {
@@ -37,53 +41,144 @@ fn show_untidy(image: &[u8], layout: Layout) {
     }
 }
 
-// Sheets keep to the smaller size.
-fn show_length(image: &[u8]) {
+// Narrow sheets keep to the smaller size.
+fn show_narrow_length(image: &[u8]) {
     line::of(
-        b"  the image has # bytes; sheets keep to size #",
-        [image.len() as u64, rom::SMALL_SIZE as u64, 0, 0],
+        b"  the image has # bytes; narrow sheets keep to size #, --wide serves #",
+        [
+            image.len() as u64,
+            rom::SMALL_SIZE as u64,
+            rom::LARGE_SIZE as u64,
+            0,
+        ],
     ).print();
 }
 
-// Makes the sheet of an image, as the newest reader reads it for controller 0. The image's size may have been given.
-pub fn make(image: &[u8], arguments: Arguments, given: bool, place: usize, force: bool) -> u8 {
-    let mut room = [0u8; ROOM];
-    let made = maker::make(image, arguments.chip, arguments.layout, &mut room);
-    let number = made.number;
-    if number == refusal::ACCEPTED {
-        return save(part(&room, 0, made.length), place, force);
+// Whether a refusal is for a length or a size that narrow sheets do not serve.
+fn is_narrow_length(form: Form, number: u8) -> bool {
+    if number != refusal::IMAGE_LENGTH {
+        return false;
     }
+    !forms::is_wide(form)
+}
+
+// Why there is no sheet of a form, of an image whose size may have been given.
+fn show_unmade(image: &[u8], arguments: Arguments, given: bool, form: Form, number: u8) {
     if number == refusal::UNTIDY {
         report::show_refusal(number);
         show_untidy(image, arguments.layout);
-        return status::REFUSED;
-    }
-    if number == refusal::IMAGE_LENGTH {
+    } else if is_narrow_length(form, number) {
         report::show_refused_reading(arguments, given, number);
-        show_length(image);
-        return status::REFUSED;
+        show_narrow_length(image);
+    } else {
+        report::show_refused(image, arguments, given, number);
     }
-    report::show_refused(image, arguments, given, number);
+}
+
+// Makes the sheet of an image, as the newest reader reads it for controller 0.
+pub fn make(image: &[u8], arguments: Arguments, words: Words) -> u8 {
+    let form = forms::form_of(words.wide);
+    let mut room = [0u8; ROOM];
+    let made = maker::make(image, arguments.chip, form, arguments.layout, &mut room);
+    let number = made.number;
+    if number == refusal::ACCEPTED {
+        let places = words.places;
+        return save(part(&room, 0, made.length), places[2], words.force);
+    }
+    show_unmade(image, arguments, words.sized, form, number);
     status::REFUSED
 }
 
-// How many bytes a sheet has, and how many its first two ask for.
-fn show_lengths(bytes: &[u8]) {
-    let count = byte_at(bytes, sheet::COUNT_AT) as u64;
-    let total = byte_at(bytes, sheet::TOTAL_AT) as u64;
+// ## A sheet to its image
+
+// How many bytes a sheet of a form has, and how many its counts ask for. Where those are as many, the sum is wrong.
+pub(crate) fn show_lengths(sheet: &[u8], form: Form) {
+    let count = forms::count_in(sheet, form) as u64;
+    let total = forms::total_in(sheet, form) as u64;
+    let length = sheet.len() as u64;
+    let head = (forms::shift_of(form) + sheet::HEAD_LENGTH) as u64;
+    let asked = head + 3 * count + total;
     line::of(
-        b"  the sheet has # bytes; # blocks with # bytes of bodies ask for #",
-        [bytes.len() as u64, count, total, 34 + 3 * count + total],
+        b"  it has # bytes; # blocks with # bytes of bodies ask for #",
+        [length, count, total, asked],
+    ).print();
+    if length == asked {
+        line::of(b"  the sum of its sizes is not #", [total, 0, 0, 0]).print();
+    }
+}
+
+// Where a sheet that is none of the form has the right length and sum in the other. Nobody at a bench knows the form
+// beforehand.
+fn show_other_form(sheet: &[u8], form: Form) {
+    let other = forms::is_sheet(sheet, forms::other_form(form));
+    if other {
+        if forms::is_wide(form) {
+            say(b"  it is a narrow sheet: write it without --wide");
+        } else {
+            say(b"  it is a wide sheet: write it with --wide");
+        }
+    }
+}
+
+// What a refusal of the sheet itself is about.
+fn show_sheet(sheet: &[u8], form: Form, number: u8) {
+    report::show_refusal(number);
+    if number == refusal::SHEET {
+        show_lengths(sheet, form);
+        show_other_form(sheet, form);
+        return;
+    }
+    line::of(
+        b"  # blocks; a leaf has up to #",
+        [forms::count_in(sheet, form) as u64, 255, 0, 0],
     ).print();
 }
 
-// What a refusal of the writer is about.
-fn show_reason(sheet: &[u8], layout: Layout, image: &[u8], number: u8) {
+// What is wrong with the image whose block is kept, or with the size that is asked for. Narrow sheets keep to the smaller.
+fn show_output(image: &[u8], form: Form, layout: Layout) {
+    let sizes = [rom::SMALL_SIZE as u64, rom::LARGE_SIZE as u64, 0, 0];
+    let beyond = forms::is_beyond(form, layout.size);
+    if layout.magic {
+        report::show_length(image);
+    } else if !beyond {
+        line::of(b"  a ROM has # or # bytes", sizes).print();
+    }
+    if beyond {
+        line::of(
+            b"  narrow sheets keep to size #; for # widen it, and write it with --wide",
+            sizes,
+        ).print();
+    }
+}
+
+// Whether a sheet is written to an image of the larger size.
+fn is_written_larger(sheet: &[u8], form: Form, magic: bool) -> bool {
+    let mut room = [0u8; rom::LARGE_LENGTH];
+    let layout = Layout {
+        size: rom::LARGE_SIZE,
+        magic,
+    };
+    writer::write(sheet, form, layout, &mut room) == refusal::ACCEPTED
+}
+
+// Where leaves end; and where the sheet's leaf has room in the larger size, that it has.
+fn show_leaf_end(sheet: &[u8], form: Form, layout: Layout) {
+    report::show_leaves_end(layout);
+    let written = is_written_larger(sheet, form, layout.magic);
+    if written {
+        line::of(
+            b"  accepted with --size #",
+            [rom::LARGE_SIZE as u64, 0, 0, 0],
+        ).print();
+    }
+}
+
+// What a refusal of the image that a sheet asks for is about.
+fn show_image(sheet: &[u8], image: &[u8], form: Form, layout: Layout, number: u8) {
     match number {
-        refusal::SHEET => show_lengths(sheet),
-        refusal::IMAGE_LENGTH => show_length(image),
+        refusal::IMAGE_LENGTH => show_output(image, form, layout),
         refusal::SHEET_ENTRY => {}
-        refusal::LEAF_END => report::show_leaves_end(layout),
+        refusal::LEAF_END => show_leaf_end(sheet, form, layout),
         refusal::MAGIC_CRC | refusal::MAGIC_RESERVED => report::show_magic_field(
             image,
             layout.size,
@@ -94,39 +189,54 @@ fn show_reason(sheet: &[u8], layout: Layout, image: &[u8], number: u8) {
 }
 
 // What an image is written over: zeros, or the image that a word names, whose block is kept.
-fn output_of(layout: Layout, from: usize) -> Input {
-    if layout.magic {
-        return input::read_file(from);
+fn output_of(words: Words) -> Input {
+    if words.layout.magic {
+        return input::read_file(words.from);
     }
     Input {
         found: true,
         bytes: [0; held::ROOM],
-        length: rom::SMALL_LENGTH,
+        length: rom::image_length(words.layout.size),
     }
 }
 
 // Writes the sheet to the image that is the front of the room.
-fn write_front(sheet: &[u8], layout: Layout, room: &mut [u8], length: usize) -> u8 {
+fn write_front(sheet: &[u8], form: Form, layout: Layout, room: &mut [u8], length: usize) -> u8 {
     if room.len() < length {
         return refusal::IMAGE_LENGTH;
     }
-    writer::write(sheet, layout, &mut room[0..length])
+    writer::write(sheet, form, layout, &mut room[0..length])
+}
+
+// Whether a refusal is about the sheet, and none of its image.
+fn is_of_sheet(number: u8) -> bool {
+    if number == refusal::SHEET {
+        return true;
+    }
+    number == refusal::SHEET_TOO_LARGE
 }
 
 // Writes the image of a sheet.
-pub fn write(sheet: &[u8], layout: Layout, from: usize, place: usize, force: bool) -> u8 {
-    let output = output_of(layout, from);
+pub fn write(sheet: &[u8], words: Words) -> u8 {
+    let output = output_of(words);
     if !output.found {
         return status::USAGE;
     }
+    let form = forms::form_of(words.wide);
     let length = output.length;
+    let layout = crate::layout_of(words, length);
     let mut room = output.bytes;
-    let number = write_front(sheet, layout, &mut room, length);
+    let number = write_front(sheet, form, layout, &mut room, length);
     let image = part(&room, 0, length);
     if number == refusal::ACCEPTED {
-        return save(image, place, force);
+        let places = words.places;
+        return save(image, places[1], words.force);
     }
-    report::show_refusal(number);
-    show_reason(sheet, layout, image, number);
+    if is_of_sheet(number) {
+        show_sheet(sheet, form, number);
+    } else {
+        report::show_refused_size(number, words.sized, layout.size);
+        show_image(sheet, image, form, layout, number);
+    }
     status::REFUSED
 }

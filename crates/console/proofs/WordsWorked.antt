@@ -16,6 +16,7 @@ use Rattle.console.specs.Commands.{
   takesForce,
   takesChip,
   takesSize,
+  takesWide,
   takesOption,
 }
 use Rattle.console.specs.Roles.{takesValue, roleOf}
@@ -32,8 +33,8 @@ use Rattle.console.specs.Cases.{takenOf, commandAgain, commandCases, rol
 use Rattle.console.specs.Claims.{WordsWorked}
 
 pub words-worked : WordsWorked
-unfolding pick sameBytes linesOf digitOf readOn decimalNumber hasKey wordsIn isOf runOf isMarked behindMark valueFrom optionTable optionOf
-    commandTable commandOf fewestOf mostOf takesArguments takesForce takesChip takesSize takesOption takesValue roleOf isInPlace
-    areInPlace isSixBytes byteNamed sixBytes spellsWord commandWord takenOf commandAgain commandCases roleAgain roleCases valueAgain
-    valueCases
+unfolding pick sameBytes linesOf digitOf readOn decimalNumber hasKey wordsIn isOf runOf isMarked behindMark valueFrom optionTable
+    optionOf commandTable commandOf fewestOf mostOf takesArguments takesForce takesChip takesSize takesWide takesOption takesValue
+    roleOf isInPlace areInPlace isSixBytes byteNamed sixBytes spellsWord commandWord takenOf commandAgain commandCases roleAgain
+    roleCases valueAgain valueCases
 words-worked = (refl, refl, refl)

@@ -14,6 +14,7 @@ use Rattle.console.specs.Options.{
   commandOption,
   magicOption,
   forceOption,
+  wideOption,
   noOption,
   optionValue,
 }
@@ -46,7 +47,16 @@ takenOf command (o ∷ os) = pick (takesOption command o) (o ∷ takenOf command
 
 abbrev allOptions : List ℕ
 allOptions =
-    controllerOption ∷ levelOption ∷ sizeOption ∷ passwordOption ∷ addressOption ∷ commandOption ∷ magicOption ∷ forceOption ∷ []
+    controllerOption
+    ∷ levelOption
+    ∷ sizeOption
+    ∷ passwordOption
+    ∷ addressOption
+    ∷ commandOption
+    ∷ magicOption
+    ∷ forceOption
+    ∷ wideOption
+    ∷ []
 
 abbrev withCommand : String → ℕ → CommandCase
 withCommand name command = record {
@@ -68,10 +78,12 @@ commandCases =
     taking "read" 2 2 (controllerOption ∷ levelOption ∷ sizeOption ∷ magicOption ∷ [])
     ∷ taking "older" 2 2 (controllerOption ∷ levelOption ∷ sizeOption ∷ magicOption ∷ [])
     ∷ taking "walk" 3 4 (controllerOption ∷ levelOption ∷ sizeOption ∷ magicOption ∷ [])
-    ∷ taking "sheet" 3 3 (sizeOption ∷ magicOption ∷ forceOption ∷ [])
+    ∷ taking "sheet" 3 3 (sizeOption ∷ magicOption ∷ forceOption ∷ wideOption ∷ [])
     ∷ taking "map" 3 3 (controllerOption ∷ levelOption ∷ sizeOption ∷ magicOption ∷ forceOption ∷ [])
-    ∷ taking "write" 2 2 (magicOption ∷ forceOption ∷ [])
+    ∷ taking "write" 2 2 (sizeOption ∷ magicOption ∷ forceOption ∷ wideOption ∷ [])
     ∷ taking "magic" 2 2 (sizeOption ∷ passwordOption ∷ addressOption ∷ commandOption ∷ forceOption ∷ [])
+    ∷ taking "widen" 2 2 (forceOption ∷ [])
+    ∷ taking "narrow" 2 2 (forceOption ∷ [])
     ∷ taking "refusals" 0 0 []
     ∷ taking "help" 0 0 []
     ∷ []
@@ -109,6 +121,8 @@ roleCases =
     ∷ behind magicCommand optionValue "--password" passwordOption
     ∷ behind readCommand plainWord "--size" sizeOption
     ∷ behind readCommand sizeOption "256" optionValue
+    ∷ behind writeCommand plainWord "--wide" wideOption
+    ∷ behind writeCommand wideOption "card.rom" plainWord
     ∷ behind readCommand plainWord "--controllers" noOption
     ∷ behind readCommand plainWord "-" plainWord
     ∷ []

@@ -7,7 +7,7 @@ use Rattle.rom.specs.Bytes.{pick}
 use Rattle.text.specs.Quoted.{quoted}
 use Rattle.text.specs.Numbers.{isAmong, decimalNumber}
 use Rattle.text.specs.Tables.{wordsFor}
-use Rattle.console.specs.Options.{sizeOption, magicOption, forceOption}
+use Rattle.console.specs.Options.{sizeOption, magicOption, forceOption, wideOption}
 
 abbrev pub readCommand : ℕ
 readCommand = 1
@@ -30,11 +30,14 @@ writeCommand = 6
 abbrev pub magicCommand : ℕ
 magicCommand = 7
 
+abbrev pub narrowCommand : ℕ
+narrowCommand = 9
+
 abbrev pub helpCommand : ℕ
-helpCommand = 9
+helpCommand = 11
 
 unfoldable pub commandTable : List ℕ
-commandTable = quoted "read 1\nolder 2\nwalk 3\nsheet 4\nmap 5\nwrite 6\nmagic 7\nrefusals 8\nhelp 9\n"
+commandTable = quoted "read 1\nolder 2\nwalk 3\nsheet 4\nmap 5\nwrite 6\nmagic 7\nwiden 8\nnarrow 9\nrefusals 10\nhelp 11\n"
 
 -- the command that a word names, or 0
 abbrev pub pickCommand : ℕ → ℕ
@@ -49,10 +52,11 @@ commandOf word = pickCommand (decimalNumber (wordsFor commandTable word))
 unfoldable pub takesChip : ℕ → Bool
 takesChip command = leb command mapCommand
 
--- `help` and `refusals` take none; `write` and `magic`, `read` and `older` two; those that take a report or a file to write three
+-- `help` and `refusals` take none; `read` and `older`, and those from `write` to `narrow` two; those that take a chip, and a report
+-- or a file to write, three
 unfoldable pub fewestOf : ℕ → ℕ
 fewestOf command =
-    pick (ltb magicCommand command) 0
+    pick (ltb narrowCommand command) 0
     (pick (leb writeCommand command) 2
     (pick (leb command olderCommand) 2 3))
 
@@ -66,9 +70,9 @@ mostOf command = pick (eqb command walkCommand) 4 (fewestOf command)
 unfoldable pub takesArguments : ℕ → Bool
 takesArguments command = eqb command readCommand || eqb command olderCommand || eqb command walkCommand || eqb command mapCommand
 
--- those from `sheet` to `magic` write a file
+-- those from `sheet` to `narrow` write a file
 unfoldable pub takesForce : ℕ → Bool
-takesForce command = isAmong sheetCommand magicCommand command
+takesForce command = isAmong sheetCommand narrowCommand command
 
 -- those that read a card, and `write`, take a layout
 abbrev pub takesLayout : ℕ → Bool
@@ -78,13 +82,18 @@ takesLayout command = leb command writeCommand
 abbrev pub takesFields : ℕ → Bool
 takesFields command = eqb command magicCommand
 
--- those that read a card, and `magic`, take the size of its ROM
+-- those that read a card or write one take the size of its ROM
 unfoldable pub takesSize : ℕ → Bool
-takesSize command = takesFields command || takesChip command
+takesSize command = leb command magicCommand
+
+-- `sheet` and `write` take a sheet of either form
+unfoldable pub takesWide : ℕ → Bool
+takesWide command = eqb command sheetCommand || eqb command writeCommand
 
 unfoldable pub takesOption : ℕ → ℕ → Bool
 takesOption command option =
     pick (eqb option forceOption) (takesForce command)
     (pick (eqb option magicOption) (takesLayout command)
     (pick (eqb option sizeOption) (takesSize command)
-    (pick (ltb sizeOption option) (takesFields command) (takesArguments command))))
+    (pick (eqb option wideOption) (takesWide command)
+    (pick (ltb sizeOption option) (takesFields command) (takesArguments command)))))

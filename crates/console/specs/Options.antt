@@ -38,16 +38,19 @@ magicOption = 7
 abbrev pub forceOption : ℕ
 forceOption = 8
 
+abbrev pub wideOption : ℕ
+wideOption = 9
+
 abbrev pub noOption : ℕ
-noOption = 9
+noOption = 10
 
 abbrev pub optionValue : ℕ
-optionValue = 10
+optionValue = 11
 
 -- ## The option that a word is
 
 unfoldable pub optionTable : List ℕ
-optionTable = quoted "--controller 1\n--level 2\n--size 3\n--password 4\n--address 5\n--command 6\n--magic 7\n--force 8\n"
+optionTable = quoted "--controller 1\n--level 2\n--size 3\n--password 4\n--address 5\n--command 6\n--magic 7\n--force 8\n--wide 9\n"
 
 -- a number of the table's, or past the last
 abbrev pub optionNumber : List ℕ → ℕ
@@ -55,7 +58,7 @@ optionNumber word = decimalNumber (wordsFor optionTable word)
 
 -- a word that begins with two dashes is an option, or begins as one does
 abbrev pub pickOption : List ℕ → ℕ → ℕ
-pickOption word n = pick (ltb forceOption n) (pick (isWord "--" (take 2 word)) noOption plainWord) n
+pickOption word n = pick (ltb wideOption n) (pick (isWord "--" (take 2 word)) noOption plainWord) n
 
 unfoldable pub optionOf : List ℕ → ℕ
 optionOf word = pickOption word (optionNumber word)

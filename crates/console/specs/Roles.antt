@@ -8,7 +8,7 @@ use Rattle.text.specs.Numbers.{isAmong}
 use Rattle.console.specs.Options.{controllerOption, commandOption, magicOption, optionValue, optionOf}
 use Rattle.console.specs.Commands.{writeCommand}
 
--- all but --force and --magic take a value, and in `write` --magic does
+-- all but --force, --wide and --magic take a value, and in `write` --magic does
 unfoldable pub takesValue : ℕ → ℕ → Bool
 takesValue command option = isAmong controllerOption commandOption option || (eqb option magicOption && eqb command writeCommand)
 

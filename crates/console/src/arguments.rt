@@ -16,12 +16,12 @@ const LONGEST: usize = 255;
 pub const KEPT: usize = 4;
 
 // The options by their numbers, of which 0 is none's.
-const OPTIONS: usize = 9;
+const OPTIONS: usize = 10;
 
 // What the words ask for. Not fine is what has been complained of. The plain words are those behind the command that are no
 // options and no values of options; the count of them goes no further than the places that are kept. The layout is as the
 // options say it, of the smaller size where --size is not given, and `sized` where it is. `from` is the place of the value
-// of --magic in `write`, and `magic` what the options of `magic` say.
+// of --magic in `write`, `magic` what the options of `magic` say, and `wide` that the sheet is.
 pub struct Words {
     pub fine: bool,
     pub command: u8,
@@ -34,6 +34,7 @@ pub struct Words {
     pub sized: bool,
     pub from: usize,
     pub magic: Magic,
+    pub wide: bool,
     pub force: bool,
     given: [bool; OPTIONS],
 }
@@ -130,6 +131,7 @@ impl Words {
                 address: [0; value::BYTES],
                 command: 0,
             },
+            wide: false,
             force: false,
             given: [false; OPTIONS],
         }
@@ -203,6 +205,9 @@ impl Words {
         if option == option::MAGIC {
             next.layout.magic = true;
         }
+        if option == option::WIDE {
+            next.wide = true;
+        }
         if option == option::FORCE {
             next.force = true;
         }
@@ -235,13 +240,13 @@ impl Words {
             return self.wrong(
                 b"no such option",
                 place,
-                b"the options are --password P, --address A, --command C, --size N and --force",
+                b"options: --password P, --address A, --command C, --size N and --force",
             );
         }
         self.wrong(
             b"no such option",
             place,
-            b"the options are --controller N, --level N, --size N, --magic and --force",
+            b"options: --controller N, --level N, --size N, --magic, --wide and --force",
         )
     }
 
@@ -451,6 +456,16 @@ fn read_behind(command: u8, end: usize) -> Words {
     words.ended(role, last)
 }
 
+fn no_command() -> Words {
+    let words = Words::of(command::NONE).wrong(
+        b"no such command",
+        1,
+        b"try read, older, walk, sheet, write, widen, narrow, magic, map, dump,",
+    );
+    suggest(b"refusals or help");
+    words
+}
+
 // What the words ask for, or a complaint about the first that is wrong.
 pub fn read() -> Words {
     let end = os::arg_count();
@@ -459,11 +474,7 @@ pub fn read() -> Words {
     }
     let command = command_at(1);
     if command == command::NONE {
-        return Words::of(command).wrong(
-            b"no such command",
-            1,
-            b"try read, older, walk, sheet, write, magic, map, dump, refusals or help",
-        );
+        return no_command();
     }
     read_behind(command, end).counted().with_chip().complete()
 }

@@ -2,7 +2,8 @@
 use crate::arguments::KEPT;
 use crate::option;
 ghost use mathlib.Core.Path.{_≡_};
-ghost use Rattle.console.specs.Commands.{commandOf, takesChip, fewestOf, mostOf, takesArguments, takesForce, takesSize, takesOption};
+ghost use Rattle.console.specs.Commands.{commandOf, takesChip, fewestOf, mostOf};
+ghost use Rattle.console.specs.Commands.{takesArguments, takesForce, takesSize, takesWide, takesOption};
 
 pub const NONE: u8 = 0;
 
@@ -20,9 +21,13 @@ pub const WRITE: u8 = 6;
 
 pub const MAGIC: u8 = 7;
 
-pub const REFUSALS: u8 = 8;
+pub const WIDEN: u8 = 8;
 
-pub const HELP: u8 = 9;
+pub const NARROW: u8 = 9;
+
+pub const REFUSALS: u8 = 10;
+
+pub const HELP: u8 = 11;
 
 // The command that a word names.
 pub(crate) fn command_of(word: &[u8]) -> u8
@@ -36,8 +41,10 @@ sheet 4
 map 5
 write 6
 magic 7
-refusals 8
-help 9
+widen 8
+narrow 9
+refusals 10
+help 11
 ",
         word,
     ));
@@ -58,7 +65,7 @@ pub(crate) fn takes_chip(command: u8) -> bool
 pub(crate) fn fewest(command: u8) -> usize
     ensures { λ r. ⌜ r ≡ fewestOf command ⌝ }
 {
-    if MAGIC < command {
+    if NARROW < command {
         return 0;
     }
     if WRITE <= command {
@@ -101,17 +108,24 @@ fn takes_force(command: u8) -> bool
     if command < SHEET {
         return false;
     }
-    command <= MAGIC
+    command <= NARROW
 }
 
 // Whether a command takes the size of a card's ROM.
 fn takes_size(command: u8) -> bool
     ensures { λ r. ⌜ r ≡ takesSize command ⌝ }
 {
-    if command == MAGIC {
+    command <= MAGIC
+}
+
+// Whether a command takes a sheet of either form.
+fn takes_wide(command: u8) -> bool
+    ensures { λ r. ⌜ r ≡ takesWide command ⌝ }
+{
+    if command == SHEET {
         return true;
     }
-    takes_chip(command)
+    command == WRITE
 }
 
 // Whether a command takes an option.
@@ -126,6 +140,9 @@ pub(crate) fn takes(command: u8, option: u8) -> bool
     }
     if option == option::SIZE {
         return takes_size(command);
+    }
+    if option == option::WIDE {
+        return takes_wide(command);
     }
     if option::SIZE < option {
         return command == MAGIC;

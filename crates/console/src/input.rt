@@ -7,6 +7,9 @@ use libc::STDIN_FILENO;
 use text::line;
 use text::slice::part;
 
+// The most bytes of a file: the longest sheet has fewer in every form of text.
+const LONGEST: usize = 8192;
+
 // The bytes of a file, or that there are none to be had, which has been said.
 pub struct Input {
     pub found: bool,
@@ -41,7 +44,7 @@ fn refuse_text(problem: u8, place: usize) -> Input {
     if problem == hexadecimal::NO_BYTES {
         return refuse(b"found text that is not hexadecimal", place);
     }
-    refuse(b"found more than 1,024 bytes", place)
+    refuse(b"found more than 2,048 bytes", place)
 }
 
 fn raw(source: &[u8]) -> Input {
@@ -93,7 +96,7 @@ fn told_apart(source: &[u8], place: usize) -> Input {
         return decoded(source, place);
     }
     if ROOM < source.len() {
-        return refuse(b"found more than 1,024 bytes", place);
+        return refuse(b"found more than 2,048 bytes", place);
     }
     raw(source)
 }
@@ -115,10 +118,10 @@ fn read_from(file: i32, place: usize) -> Input {
     if !readable {
         return refuse(b"found no file that can be read", place);
     }
-    let mut room = io::buffer();
+    let mut room = [0u8; LONGEST];
     let length = io::read_full(file, &mut room);
     if goes_on(file) {
-        return refuse(b"found more than 4,096 bytes", place);
+        return refuse(b"found more than 8,192 bytes", place);
     }
     told_apart(&room[..length], place)
 }

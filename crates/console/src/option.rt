@@ -28,13 +28,15 @@ pub const MAGIC: u8 = 7;
 
 pub const FORCE: u8 = 8;
 
+pub const WIDE: u8 = 9;
+
 // It begins as an option does, and is none.
-pub const UNKNOWN: u8 = 9;
+pub const UNKNOWN: u8 = 10;
 
 // The value of the option before it.
-pub const VALUE: u8 = 10;
+pub const VALUE: u8 = 11;
 
-// Whether an option of a command takes a value: all but --force and --magic do, and in `write` --magic does.
+// Whether an option of a command takes a value: all but --force, --wide and --magic do, and in `write` --magic does.
 pub(crate) fn takes_value(command: u8, option: u8) -> bool
     ensures { λ r. ⌜ r ≡ takesValue command option ⌝ }
 {
@@ -63,10 +65,11 @@ fn option_of(word: &[u8]) -> u8
 --command 6
 --magic 7
 --force 8
+--wide 9
 ",
         word,
     ));
-    if number <= (FORCE as u32) {
+    if number <= (WIDE as u32) {
         return number as u8;
     }
     let dashed = same(part(word, 0, 2), b"--");

@@ -37,7 +37,7 @@ noBytes = 5
 -- ## The bytes: the first so many of those that there is room for
 
 abbrev pub textRoom : ℕ
-textRoom = 1024
+textRoom = 2048
 
 unfoldable pub nothingHeld : Held
 nothingHeld = record { bytes = replicate textRoom 0; length = 0; problem = fine }

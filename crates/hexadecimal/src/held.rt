@@ -9,7 +9,7 @@ ghost use Rattle.rom.specs.Bytes.{byteAt};
 ghost use Rattle.hexadecimal.specs.Held.{nothingHeld, faulted, pushed, withValue, withGroup, closed, repeatedFrom, repeatedTo};
 
 // The most bytes that a text can have: more than any ROM or sheet.
-pub const ROOM: usize = 1024;
+pub const ROOM: usize = 2048;
 
 // The bytes of a row, for which a '*' stands again.
 const ROW: usize = 16;
@@ -96,7 +96,7 @@ fn byte_held(held: Held, at: usize) -> u8
 
 // So many bytes more, each like the one at a place and on.
 fn repeated_from(held: Held, start: usize, count: usize) -> Held
-    requires { ⌜ (start ≤ 1024) × (count ≤ 1024) ⌝ }
+    requires { ⌜ (start ≤ 2048) × (count ≤ 2048) ⌝ }
     ensures { λ r. ⌜ r ≡ repeatedFrom start count held ⌝ }
 {
     let mut next = held;

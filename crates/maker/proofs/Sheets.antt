@@ -18,13 +18,15 @@ use Rattle.reader.specs.declared.Answer.{Answer}
 use Rattle.reader.specs.declared.Reading.{Reading}
 use Rattle.reader.specs.Reading.{acceptedAnswer, acceptedReading}
 use Rattle.reader.proofs.Readings.{Accepted, reading-start, reading-end, reading-blocks}
-use Rattle.sheet.specs.Layout.{chipAt, headLength}
+use Rattle.sheet.specs.Layout.{idAt, chipAt, headLength}
 use Rattle.sheet.specs.Record.{Entry}
-use Rattle.sheet.specs.Sheet.{headOf, bodyBytes, partsOf, sheetOf}
+use Rattle.sheet.specs.declared.Form.{Form}
+use Rattle.sheet.specs.Form.{shift, countsOf}
+use Rattle.sheet.specs.Sheet.{headOf, bodyBytes, partsOf, contentOf, sheetOf}
 use Rattle.sheet.specs.Image.{leafStart, newest, imageFrom}
 use Rattle.sheet.specs.Make.{sheetFor}
 use Rattle.sheet.proofs.Blocks.{entries-length}
-use Rattle.sheet.proofs.Sheets.{kind-length, size-length}
+use Rattle.sheet.proofs.Sheets.{kind-length, size-length, counts-length}
 use Rattle.maker.specs.Inside.{AcceptedBlocks, entriesOf, frontBytes, fieldBytes}
 use Rattle.maker.proofs.Blocks.{drop-take}
 
@@ -73,26 +75,21 @@ module _ (image : List ℕ) (enough : leafStart ≤ length image) where
   address-long : length (take 7 (drop addressAt image)) ≡ 7
   address-long = length-take-le 7 (drop addressAt image) (omega (arith, length-drop addressAt image))
 
-  pub front-long : (count total : ℕ) → length (frontBytes count total image) ≡ 27
+  pub front-long : length (frontBytes image) ≡ 25
   unfolding frontBytes
-  front-long count total = simp length-append (omega (arith, id-long, last-long, address-long))
+  front-long = simp length-append (omega (arith, id-long, last-long, address-long))
 
   module _ (sheet : List ℕ) (room : headLength ≤ length sheet) where
-    pub front-put : (count total : ℕ) {one two three four : List ℕ} → one ≡ laid sheet 0 (count ∷ total ∷ [])
-        → two ≡ laid one 2 (take 16 image)
-        → three ≡ laid two 18 (take 2 (drop 17 image)) → four ≡ laid three 20 (take 7 (drop addressAt image))
-        → four ≡ put sheet 0 (frontBytes count total image)
+    pub front-put : {two three four : List ℕ} → two ≡ laid sheet 2 (take 16 image) → three ≡ laid two 18 (take 2 (drop 17 image))
+        → four ≡ laid three 20 (take 7 (drop addressAt image)) → four ≡ put sheet idAt (frontBytes image)
     unfolding frontBytes
-    front-put count total {one} {two} {three} {four} e₁ e₂ e₃ e₄ =
-        let f₁ = standing sheet 0 (count ∷ total ∷ []) e₁ (omega (arith, room)) in
-        let f₂ = standing one 2 (take 16 image) e₂ (omega (arith, room, f₁ .1, id-long)) in
-        let f₃ = standing two 18 (take 2 (drop 17 image)) e₃ (omega (arith, room, f₁ .1, f₂ .1, last-long)) in
-        let f₄ = standing three 20 (take 7 (drop addressAt image)) e₄ (omega (arith, room, f₁ .1, f₂ .1, f₃ .1, address-long)) in
-        joined sheet 0 (count ∷ total ∷ []) _ (f₁ .0)
-        (joined one 2 (take 16 image) _ (f₂ .0)
-        (joined two 18 (take 2 (drop 17 image)) _ (f₃ .0) (f₄ .0) (omega (arith, last-long)) (omega (arith, room, f₁ .1, f₂ .1, last-long)))
-        (omega (arith, id-long)) (omega (arith, room, f₁ .1, id-long)))
-        refl (omega (arith, room))
+    front-put {two} {three} {four} e₂ e₃ e₄ =
+        let f₂ = standing sheet 2 (take 16 image) e₂ (omega (arith, room, id-long)) in
+        let f₃ = standing two 18 (take 2 (drop 17 image)) e₃ (omega (arith, room, f₂ .1, last-long)) in
+        let f₄ = standing three 20 (take 7 (drop addressAt image)) e₄ (omega (arith, room, f₂ .1, f₃ .1, address-long)) in
+        joined sheet 2 (take 16 image) _ (f₂ .0)
+        (joined two 18 (take 2 (drop 17 image)) _ (f₃ .0) (f₄ .0) (omega (arith, last-long)) (omega (arith, room, f₂ .1, last-long)))
+        (omega (arith, id-long)) (omega (arith, room, id-long))
 
   -- as the record has it
   last-is : take 2 (drop 17 image) ≡ byteAt image 17 ∷ byteAt image 18 ∷ []
@@ -140,22 +137,21 @@ module _ (l : Layout) (image : List ℕ) (whole : length image ≡ imageLength (
         refl (omega (arith, room, f₁ .1)))
         refl (omega (arith, room))
 
-  head-order : (count total : ℕ) (a : List ℕ) (x y : ℕ) (b : List ℕ) (z : ℕ) (c parts : List ℕ)
-      → (count ∷ total ∷ (a ++ (x ∷ y ∷ (b ++ (z ∷ []))))) ++ (c ++ parts) ≡ count ∷ total ∷ ((a ++ (x ∷ y ∷ (b ++ (z ∷ c)))) ++ parts)
-  head-order count total a x y b z c parts = simp append-assoc
+  head-order : (a : List ℕ) (x y : ℕ) (b : List ℕ) (z : ℕ) (c parts : List ℕ)
+      → (a ++ (x ∷ y ∷ (b ++ (z ∷ [])))) ++ (c ++ parts) ≡ (a ++ (x ∷ y ∷ (b ++ (z ∷ c)))) ++ parts
+  head-order a x y b z c parts = simp append-assoc
 
-  pub head-is : (chip count total : ℕ) (answer : Answer) (parts : List ℕ) → answer .connection ≡ imageFrom l chip image .connection
+  pub head-is : (chip : ℕ) (answer : Answer) (parts : List ℕ) → answer .connection ≡ imageFrom l chip image .connection
       → answer .control ≡ imageFrom l chip image .control
-      → frontBytes count total image ++ (fieldBytes l chip answer image ++ parts)
-      ≡ count ∷ total ∷ (headOf (imageFrom l chip image) ++ parts)
+      → frontBytes image ++ (fieldBytes l chip answer image ++ parts) ≡ headOf (imageFrom l chip image) ++ parts
   unfolding frontBytes fieldBytes headOf imageFrom wordBytes
-  head-is chip count total answer parts ec eo =
-      ap₂ (λ (x a : List ℕ). (count ∷ total ∷ (take 16 image ++ (x ++ a))) ++ (fieldBytes l chip answer image ++ parts))
+  head-is chip answer parts ec eo =
+      ap₂ (λ (x a : List ℕ). (take 16 image ++ (x ++ a)) ++ (fieldBytes l chip answer image ++ parts))
       (last-is image enough) (address-is image enough)
-      ∙ ap₂ (λ (x y : ℕ). (count ∷ total ∷ (take 16 image
-      ++ (byteAt image 17 ∷ byteAt image 18 ∷ (take 6 (drop addressAt image) ++ (byteAt image 26 ∷ []))))) ++ ((wordBytes chip
+      ∙ ap₂ (λ (x y : ℕ). (take 16 image
+      ++ (byteAt image 17 ∷ byteAt image 18 ∷ (take 6 (drop addressAt image) ++ (byteAt image 26 ∷ [])))) ++ ((wordBytes chip
       ++ (wordBytes x ++ (y ∷ take 2 (drop (leavesEnd l) image)))) ++ parts)) ec eo
-      ∙ head-order count total (take 16 image) _ _ (take 6 (drop addressAt image)) _ _ parts
+      ∙ head-order (take 16 image) _ _ (take 6 (drop addressAt image)) _ _ parts
 
 -- ## The parts
 
@@ -195,16 +191,15 @@ module _ (l : Layout) (chip : ℕ) {image : List ℕ} {r : Reading} (c : Accepte
   unfolding entriesOf imageFrom acceptedReading acceptedAnswer newest
   read-entries = rw (c .known)
 
-  pub read-sheet : (total : ℕ) → total ≡ length (bodyBytes (imageFrom l chip image .entries))
-      → frontBytes (r .answer .blocks) total image
+  pub read-count : r .answer .blocks ≡ length (imageFrom l chip image .entries)
+  read-count = sym (entries-long (r .row) (r .answer .blocks) (restFrom l image (r .start))) ∙ ap length read-entries
+
+  pub read-content : frontBytes image
       ++ (fieldBytes l chip (r .answer) image
-      ++ partsOf (entriesOf (r .row) (r .answer .blocks) (restFrom l image (r .start)))) ≡ sheetFor l image chip
-  unfolding sheetOf
-  read-sheet total et =
-      head-is l image read-whole chip (r .answer .blocks) total (r .answer) _ connection control
-      ∙ ap₂ (λ (n : ℕ) (es : List Entry). n ∷ total ∷ (headOf (imageFrom l chip image) ++ partsOf es)) count read-entries
-      ∙ ap (λ (n : ℕ). length (imageFrom l chip image .entries) ∷ n
-      ∷ (headOf (imageFrom l chip image) ++ partsOf (imageFrom l chip image .entries))) et
+      ++ partsOf (entriesOf (r .row) (r .answer .blocks) (restFrom l image (r .start)))) ≡ contentOf (imageFrom l chip image)
+  read-content =
+      head-is l image read-whole chip (r .answer) _ connection control
+      ∙ ap (λ (es : List Entry). headOf (imageFrom l chip image) ++ partsOf es) read-entries
     where
       connection : r .answer .connection ≡ imageFrom l chip image .connection
       connection = unfold imageFrom acceptedReading acceptedAnswer newest in rw (c .known)
@@ -212,17 +207,28 @@ module _ (l : Layout) (chip : ℕ) {image : List ℕ} {r : Reading} (c : Accepte
       control : r .answer .control ≡ imageFrom l chip image .control
       control = unfold imageFrom acceptedReading acceptedAnswer newest in rw (c .known)
 
-      count : r .answer .blocks ≡ length (imageFrom l chip image .entries)
-      count = sym (entries-long (r .row) (r .answer .blocks) (restFrom l image (r .start))) ∙ ap length read-entries
-
-  pub read-long : length (sheetFor l image chip) ≡ headLength + 3 * r .answer .blocks + length (bodyBytes (imageFrom l chip image .entries))
-  read-long =
+  pub content-long : 2 + length (contentOf (imageFrom l chip image))
+      ≡ headLength + 3 * r .answer .blocks + length (bodyBytes (imageFrom l chip image .entries))
+  content-long =
       let es = entriesOf (r .row) (r .answer .blocks) (restFrom l image (r .start)) in
-      let t = length (bodyBytes (imageFrom l chip image .entries)) in
-      let f = front-long image (enough l image read-whole) (r .answer .blocks) t in
+      let f = front-long image (enough l image read-whole) in
       let g = field-long l image read-whole chip (r .answer) in
       let p = parts-long (entriesOf (r .row) (r .answer .blocks) (restFrom l image (r .start))) in
       let b : length (bodyBytes (entriesOf (r .row) (r .answer .blocks) (restFrom l image (r .start))))
       ≡ length (bodyBytes (imageFrom l chip image .entries)) = ap (λ (es : List Entry). length (bodyBytes es)) read-entries in
       let n = entries-long (r .row) (r .answer .blocks) (restFrom l image (r .start)) in
-      ap length (sym (read-sheet t refl)) ∙ simp length-append (omega (arith, f, g, p, b, n))
+      let whole : length (contentOf (imageFrom l chip image)) ≡ 32 + length
+      (partsOf (entriesOf (r .row) (r .answer .blocks) (restFrom l image (r .start))))
+      = ap length (sym read-content) ∙ simp length-append (omega (arith, f, g)) in
+      omega (arith, whole, p, b, n)
+
+  pub read-long : (form : Form) → length (sheetFor form l image chip)
+      ≡ shift form + headLength + 3 * r .answer .blocks + length (bodyBytes (imageFrom l chip image .entries))
+  unfolding sheetOf
+  read-long form =
+      length-append (countsOf form (length (imageFrom l chip image .entries)) (length (bodyBytes (imageFrom l chip image .entries)))) _
+      ∙ omega (
+        arith,
+        counts-length form (length (imageFrom l chip image .entries)) (length (bodyBytes (imageFrom l chip image .entries))),
+        content-long,
+      )

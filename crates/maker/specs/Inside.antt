@@ -17,15 +17,13 @@ use Rattle.reader.specs.declared.Answer.{Answer}
 use Rattle.reader.specs.declared.Reading.{Reading}
 use Rattle.reader.specs.Reading.{judgedReading}
 use Rattle.sheet.specs.Record.{Entry}
-use Rattle.sheet.specs.Sheet.{bodyBytes}
+use Rattle.sheet.specs.declared.Form.{Form}
+use Rattle.sheet.specs.Form.{largest}
+use Rattle.sheet.specs.Layout.{idAt}
+use Rattle.sheet.specs.Sheet.{bodyBytes, contentOf}
 use Rattle.sheet.specs.Image.{leafStart, entryFrom, upToLeavesEnd, newest, imageFrom}
 use Rattle.sheet.specs.Make.{sheetFor}
-use Rattle.maker.specs.declared.Made.{Made}
 use Rattle.maker.specs.declared.parts.Measured.{Measured}
-
--- a refusal's number, and no length
-unfoldable pub refusedMade : ℕ → Made
-refusedMade n = record { number = n; length = 0 }
 
 -- ## A leaf's blocks
 
@@ -49,19 +47,25 @@ isTidyFrom l end image =
 
 -- ## Bytes laid into a sheet
 
--- bytes 0 to 26 of a sheet: the sizes, ID bytes 0 to 15, ID byte 17 and the version, the address and the device number
-unfoldable pub frontBytes : ℕ → ℕ → List ℕ → List ℕ
-frontBytes count total image =
-    (count ∷ []) ++ ((total ∷ []) ++ (take 16 image ++ (take 2 (drop 17 image) ++ take 7 (drop addressAt image))))
+-- bytes 2 to 26 of a narrow sheet: ID bytes 0 to 15, ID byte 17 and the version, the address and the device number
+unfoldable pub frontBytes : List ℕ → List ℕ
+frontBytes image = take 16 image ++ (take 2 (drop 17 image) ++ take 7 (drop addressAt image))
 
 -- bytes 27 to 33: the chip, the connection type, the control byte and the maker's bytes
 unfoldable pub fieldBytes : Layout → ℕ → Answer → List ℕ → List ℕ
 fieldBytes l chip answer image =
     wordBytes chip ++ (wordBytes (answer .connection) ++ ((answer .control ∷ []) ++ take 2 (drop (leavesEnd l) image)))
 
--- an image that is read, the total of its body bytes, and a buffer that has room for its sheet
-pub record Sheetable (l : Layout) (sheet image : List ℕ) (chip : ℕ) (reading : Reading) (total : ℕ) : Type 0 where
+-- an image that is read, and room for all that follows the counts of its sheet
+pub record ContentFits (l : Layout) (shifted image : List ℕ) (chip : ℕ) (reading : Reading) : Type 0 where
+  pub read : reading ≡ judgedReading image (newest l chip)
+  pub accepted : reading .answer .number ≡ 0
+  pub room : idAt + length (contentOf (imageFrom l chip image)) ≤ length shifted
+
+-- an image that is read, the total of its body bytes, which the form can state, and a buffer that has room for its sheet
+pub record Sheetable (form : Form) (l : Layout) (sheet image : List ℕ) (chip : ℕ) (reading : Reading) (total : ℕ) : Type 0 where
   pub read : reading ≡ judgedReading image (newest l chip)
   pub accepted : reading .answer .number ≡ 0
   pub bodies : total ≡ length (bodyBytes (imageFrom l chip image .entries))
-  pub room : length (sheetFor l image chip) ≤ length sheet
+  pub stated : total ≤ largest form
+  pub room : length (sheetFor form l image chip) ≤ length sheet

@@ -43,6 +43,7 @@ pub fn show_refusal(number: u8, file: i32) {
 30 a reserved byte of the Magic Packet block is not 0
 31 a bit of the mode byte is set in two power blocks
 32 no listed block has the fixed medium
+33 the sheet has over 255 blocks, or too many body bytes to be narrowed
 ",
         number as u64,
     );

@@ -1,7 +1,7 @@
 -- What holds of every size and of every layout: the proofs above go by these facts, and no other place computes with the
 -- numbers. Assumes nothing.
 use Prim.Native.Nat.{ℕ, _+_, _-_, _*_, _/_, _≤_}
-use mathlib.Core.Path.{_≡_, refl, sym, ap, _∙_}
+use mathlib.Core.Path.{_≡_, refl, sym, _∙_}
 use mathlib.Core.Bool.{Bool, true, false, not, _||_}
 use mathlib.Core.Logic.{_⊎_, inl, inr, ⊎-elim}
 use native.Mathlib.Omega.{arith}
@@ -39,6 +39,17 @@ length-is size = go (isSize size) refl
     go : (t : Bool) → isSize size ≡ t → (pick t size 128 ≡ 128) ⊎ (pick t size 128 ≡ 512)
     go true e = size-is size e
     go false e = inl refl
+
+pub length-by-size : (size : ℕ) → imageLength size ≡ pick (eqb size largeSize) largeSize smallSize
+unfolding imageLength isSize pick
+length-by-size size = go (eqb size smallSize) refl (eqb size largeSize) refl
+  where
+    go : (a : Bool) → eqb size smallSize ≡ a → (b : Bool) → eqb size largeSize ≡ b
+        → pick (a || b) size smallSize ≡ pick b largeSize smallSize
+    go true ea true eb = eqb-true size largeSize eb
+    go true ea false eb = eqb-true size smallSize ea
+    go false ea true eb = eqb-true size largeSize eb
+    go false ea false eb = refl
 
 pub sized : (size : ℕ) → Sized size
 unfolding magicAt magicWord
@@ -109,14 +120,6 @@ length-other size n a b = go (eqb n size) refl
 pub small-length : (size : ℕ) → otherSize size ≡ false → imageLength size ≡ smallSize
 unfolding otherSize imageLength isSize pick
 small-length size e = rw (eqb-true size smallSize (not-false _ e))
-
-pub small-right : (size n : ℕ) → otherSize size ≡ false → n ≡ smallSize → wrongLength size n ≡ false
-unfolding otherSize wrongLength isSize
-small-right size n e f = rw (eqb-true size smallSize (not-false _ e), f)
-
-pub not-other : (size : ℕ) → size ≡ smallSize → otherSize size ≡ false
-unfolding otherSize
-not-other size e = ap not (eq-eqb size smallSize e)
 
 -- ## The board
 

@@ -35,7 +35,7 @@ unfoldable pub wrongLength : ℕ → ℕ → Bool
 unfolding isSize
 wrongLength size length = not (isSize size) || not (eqb length size)
 
--- a stated size other than the smaller one, to which sheets keep
+-- a stated size other than the smaller one, to which narrow sheets keep
 unfoldable pub otherSize : ℕ → Bool
 otherSize size = not (eqb size smallSize)
 

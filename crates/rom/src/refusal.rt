@@ -61,3 +61,5 @@ pub const MAGIC_RESERVED: u8 = 30;
 pub const REPEATED_MODE: u8 = 31;
 
 pub const NO_FIXED_MEDIUM: u8 = 32;
+
+pub const SHEET_TOO_LARGE: u8 = 33;

@@ -4,7 +4,7 @@ use mathlib.Core.Path.{_≡_, refl, sym, ap, ap₂, _∙_}
 use mathlib.Core.Bool.{Bool, true, false, _&&_, _||_, not}
 use mathlib.Core.List.{List, [], _∷_, _++_, map, append-assoc}
 use native.Mathlib.Omega.{arith}
-use lib.ListN.{length, take, drop, length-append, length-take, length-drop, List·getD-append}
+use lib.ListN.{length, take, drop, length-append, length-drop, List·getD-append}
 use lib.Seq.{take-at, drop-at, take-add, take-append-seam, length-take-le, getD-take}
 use lib.Dec.{eqb, leb, ltb, lit<}
 use borrow.Author.Tests.{eqb-true, eqb-false, leb-true, leb-false, ltb-false, eq-eqb, ne-eqb, lt-leb, le-ltb, not-false}
@@ -14,11 +14,10 @@ use Rattle.rom.proofs.First.{none-here}
 use Rattle.rom.proofs.Truth.{true-false, or-false}
 use Rattle.format.specs.Chips.{row21041, kindCompact, kind21041}
 use Rattle.format.specs.Block.{isExtended, lengthOf, siaSize, sizeOf, kindOf, causes, refusalOf}
-use Rattle.block.proofs.Whole.{Form, extended-form, compact-form, form-21041, size-positive}
+use Rattle.block.proofs.Whole.{Form, extended-form, compact-form, form-21041}
 use Rattle.leaf.specs.Leaf.{cut, blockCauses}
 use Rattle.leaf.proofs.Cuts.{first-accepted}
 use Rattle.sheet.specs.Record.{Entry}
-use Rattle.sheet.specs.Sheet.{bodyBytes}
 use Rattle.sheet.specs.Image.{isWhole, openingOf, encode, encodes, openingLength, bodyOf, entryFrom, sizes}
 use Rattle.sheet.specs.Write.{isOtherFamily, isBadBody, isBad, anyBad}
 use Rattle.rom.proofs.Lists.{bytes-drop}
@@ -272,27 +271,6 @@ pub entries-length : (row n : ℕ) (s : List ℕ) → length (map (entryFrom row
 unfolding cut
 entries-length row zero s = refl
 entries-length row (suc n) s = ap suc (entries-length row n (drop (sizeOf row s) s))
-
--- neither the blocks nor their bodies are more than the bytes of the blocks
-pub blocks-few : (row n : ℕ) (s : List ℕ) → n ≤ sizes row (cut row n s)
-unfolding cut sizes
-blocks-few row zero s = omega arith
-blocks-few row (suc n) s = omega (arith, size-positive row s, blocks-few row n (drop (sizeOf row s) s))
-
-body-short : (row : ℕ) (s : List ℕ) → length (bodyOf row s) ≤ sizeOf row s
-unfolding bodyOf
-body-short row s = omega (arith, length-drop (openingLength row s) (take (sizeOf row s) s), length-take (sizeOf row s) s)
-
-pub bodies-short : (row n : ℕ) (s : List ℕ) → length (bodyBytes (map (entryFrom row) (cut row n s))) ≤ sizes row (cut row n s)
-unfolding cut sizes bodyBytes
-bodies-short row zero s = omega arith
-bodies-short row (suc n) s =
-    omega (
-      arith,
-      length-append (bodyOf row s) (bodyBytes (map (entryFrom row) (cut row n (drop (sizeOf row s) s)))),
-      body-short row s,
-      bodies-short row n (drop (sizeOf row s) s),
-    )
 
 -- the encodings of accepted blocks are the bytes that were cut
 pub record Encoded (row n : ℕ) (s : List ℕ) : Type 0 where

@@ -11,7 +11,7 @@ use lib.Seq.{take-at, drop-at, take-take, take-add, drop-drop, getD-drop, length
 use lib.Dec.{eqb, ltb, lit<}
 use borrow.Author.Tests.{eqb-true, eq-eqb, not-false}
 use Rattle.rom.specs.declared.Layout.{Layout}
-use Rattle.rom.specs.Geometry.{otherSize, imageLength, boardLength, checkedLength, leavesEnd, mostControllers}
+use Rattle.rom.specs.Geometry.{wrongLength, imageLength, boardLength, checkedLength, leavesEnd, mostControllers}
 use Rattle.rom.specs.Bytes.{pick, byteAt, wordAt, isIn, Bytes, allZero}
 use Rattle.rom.specs.Store.{wordBytes}
 use Rattle.rom.specs.Refusal.{firstMet}
@@ -28,15 +28,14 @@ use Rattle.leaf.proofs.Cuts.{accepted-blocks}
 use Rattle.reader.specs.Reading.{blocksFor, leafCausesFor, judgeCauses}
 use Rattle.sheet.specs.Lists.{padded}
 use Rattle.sheet.specs.Record.{Plain}
-use Rattle.sheet.specs.Sheet.{sheetOf}
 use Rattle.sheet.specs.Image.{leafStart, frontWith, frontOf, encodes, controlBytes, leafHeadOf, leafOf, coveredOf, boardOf}
 use Rattle.sheet.specs.Image.{imageOf, newest}
 use Rattle.sheet.specs.Image.{entryFrom, imageFrom, sizes, leafEnd, upToLeavesEnd, isTidy}
 use Rattle.sheet.specs.Write.{anyBad, strayControl, cannotHold}
-use Rattle.rom.proofs.Layouts.{Geometry, geometry, right-length, small-length}
+use Rattle.rom.proofs.Layouts.{Geometry, geometry, right-length}
 use Rattle.rom.proofs.Lists.{word-of, word-back, zeros, zeros-all, bytes-drop, bytes-take, spell, spelled}
-use Rattle.sheet.proofs.Blocks.{cut-encodes, entries-length, blocks-few, bodies-short, Encoded, encodes-cut}
-use Rattle.sheet.proofs.Sheets.{Sized, spelledOut, spelled-out, sheet-length}
+use Rattle.sheet.proofs.Blocks.{cut-encodes, entries-length, Encoded, encodes-cut}
+use Rattle.sheet.proofs.Sheets.{Sized, spelledOut, spelled-out}
 use Rattle.sheet.proofs.Crcs.{srom-covered}
 
 -- ## The front
@@ -76,7 +75,7 @@ word-behind s = ap₂ (λ (x y : ℕ). x + 256 * y) (byte-behind s 0) (byte-behi
 drop-behind : (s : List ℕ) (k : ℕ) → drop (leafStart + k) s ≡ drop k (drop leafStart s)
 drop-behind s k = sym (drop-drop k leafStart s)
 
-header-some : (row : ℕ) → (3 ≤ headerLength row) × (headerLength row ≤ 4)
+pub header-some : (row : ℕ) → (3 ≤ headerLength row) × (headerLength row ≤ 4)
 unfolding headerLength pick
 header-some row = go (eqb row row21140)
   where
@@ -298,6 +297,7 @@ module _ (l : Layout) (p : Plain) (out : List ℕ) (z : Sized p) (fits : length 
 
 pub record Accepted (l : Layout) (chip : ℕ) (s : List ℕ) : Type 0 where
   pub known : Geometry l
+  pub right : wrongLength (l .size) (length s) ≡ false
   pub long : length s ≡ imageLength (l .size)
   pub crc : wordAt s (checkedLength l) ≡ sromCrc l s
   pub id : byteAt s 16 ≡ idCrc s
@@ -325,6 +325,7 @@ accepted l chip s h =
     let n = none-here _ _ (lit< tt) (m .1) in
     record {
       known = geometry l;
+      right = a .0;
       long = right-length (l .size) (length s) (a .0);
       crc = eqb-true _ _ (not-false _ (c .0));
       id = eqb-true _ _ (not-false _ (d .0));
@@ -469,16 +470,9 @@ module _ (l : Layout) (chip : ℕ) (s : List ℕ) (by : Bytes s) (a : Accepted l
       ∙ sym (take-add (headerLength (rowOf chip) + used) (room l - (headerLength (rowOf chip) + used)) (drop leafStart s))
       ∙ ap (λ (k : ℕ). take k (drop leafStart s)) n
 
-  -- the longest sheet
-  pub means-short : otherSize (l .size) ≡ false → length (sheetOf (imageFrom l chip s)) ≤ 398
-  unfolding imageFrom newest
-  means-short small =
-      let m = small-length (l .size) small in
-      let h = header-some (rowOf chip) in
-      let n = blocks-few (rowOf chip) (countFor s (newest l chip)) (restFrom l s (startFor s (newest l chip))) in
-      let b = bodies-short (rowOf chip) (countFor s (newest l chip)) (restFrom l s (startFor s (newest l chip))) in
-      let e = entries-length (rowOf chip) (countFor s (newest l chip)) (restFrom l s (startFor s (newest l chip))) in
-      omega (arith, sheet-length (imageFrom l chip s) means-sized, used-fits, h .0, n, b, e)
+  -- the count is a byte
+  pub means-few : length (imageFrom l chip s .entries) ≤ 255
+  means-few = omega (arith, means-count, bytes-drop leafStart s by (headerLength (rowOf chip) - 1))
 
   -- the ID CRC is that of the image
   means-id : idCrc (frontWith 0 (imageFrom l chip s)) ≡ byteAt s 16

@@ -2,4 +2,8 @@ pub mod Blocks
 pub mod Sheets
 pub mod Crcs
 pub mod Images
+pub mod Longest
+pub mod Conversions
 pub mod Returns
+pub mod TooLarge
+pub mod Alike

@@ -1,6 +1,6 @@
 -- The sheet of a record means that record, and a sheet is the sheet of what it means: heads are spelled out, the three parts
 -- go by induction over the entries. Assumes nothing.
-use Prim.Native.Nat.{ℕ, zero, suc, _+_, _*_, _≤_}
+use Prim.Native.Nat.{ℕ, zero, suc, _+_, _*_, _/_, _%_, _≤_}
 use mathlib.Core.Path.{_≡_, refl, sym, ap, ap₂, _∙_}
 use mathlib.Core.Bool.{true}
 use mathlib.Core.List.{List, [], _∷_, _++_, append-assoc, append-nil}
@@ -14,9 +14,12 @@ use Rattle.rom.proofs.Truth.{and-true}
 use Rattle.rom.specs.Store.{wordBytes}
 use Rattle.sheet.specs.Lists.{sum}
 use Rattle.sheet.specs.Layout.{headLength}
+use Rattle.sheet.specs.declared.Form.{Form}
+use Rattle.sheet.specs.declared.Form.the-variants.{Narrow, Wide}
+use Rattle.sheet.specs.Form.{shift, shifted, countIn, totalIn, countsOf}
 use Rattle.sheet.specs.Record.{Entry, Plain}
-use Rattle.sheet.specs.Sheet.{headOf, kindBytes, sizeBytes, bodyBytes, partsOf, sheetOf, countIn, totalIn, kindsIn, sizesIn, bodiesIn}
-use Rattle.sheet.specs.Sheet.{entriesFrom, sheetFrom, isSheet}
+use Rattle.sheet.specs.Sheet.{headOf, kindBytes, sizeBytes, bodyBytes, partsOf, sheetOf, kindsIn, sizesIn, bodiesIn}
+use Rattle.sheet.specs.Sheet.{entriesFrom, plainFrom, sheetFrom, isSheet}
 use Rattle.rom.proofs.Lists.{word-of, word-back, bytes-drop, spell, spelled, spelled-whole}
 
 -- ## Records whose parts have their lengths
@@ -118,60 +121,51 @@ pub head-length : (p : Plain) → Sized p → length (headOf p) ≡ 32
 unfolding headOf wordBytes
 head-length p z = simp length-append (omega (arith, z .id, z .address, z .maker))
 
-module _ (p : Plain) (z : Sized p) where
-  at-parts : kindsIn (sheetOf p) ≡ partsOf (p .entries)
-  unfolding sheetOf
+-- behind any two bytes
+abbrev behind : ℕ → ℕ → Plain → List ℕ
+behind x y p = x ∷ y ∷ (headOf p ++ partsOf (p .entries))
+
+module _ (p : Plain) (z : Sized p) (x y : ℕ) where
+  behind-length : length (behind x y p) ≡ headLength + 3 * length (p .entries) + length (bodyBytes (p .entries))
+  unfolding partsOf
+  behind-length = simp length-append (omega (arith, head-length p z, kind-length (p .entries), size-length (p .entries)))
+
+  at-parts : kindsIn (behind x y p) ≡ partsOf (p .entries)
   at-parts = drop-at (headOf p) _ 32 (head-length p z)
 
-  at-count : countIn (sheetOf p) ≡ length (p .entries)
-  unfolding sheetOf
-  at-count = refl
-
-  at-total : totalIn (sheetOf p) ≡ length (bodyBytes (p .entries))
-  unfolding sheetOf
-  at-total = refl
-
-  pub sheet-length : length (sheetOf p) ≡ headLength + 3 * length (p .entries) + length (bodyBytes (p .entries))
-  unfolding sheetOf partsOf
-  sheet-length = simp length-append (omega (arith, head-length p z, kind-length (p .entries), size-length (p .entries)))
-
-  at-sizes : sizesIn (sheetOf p) ≡ sizeBytes (p .entries) ++ bodyBytes (p .entries)
+  at-sizes : sizesIn (length (p .entries)) (behind x y p) ≡ sizeBytes (p .entries) ++ bodyBytes (p .entries)
   unfolding partsOf
   at-sizes =
-      let n : length (kindBytes (p .entries)) ≡ 2 * countIn (sheetOf p) = omega (arith, kind-length (p .entries), at-count) in
-      sym (drop-drop (2 * countIn (sheetOf p)) headLength (sheetOf p)) ∙ ap (drop (2 * countIn (sheetOf p))) at-parts
-      ∙ drop-at (kindBytes (p .entries)) _ _ n
+      sym (drop-drop (2 * length (p .entries)) headLength (behind x y p)) ∙ ap (drop (2 * length (p .entries))) at-parts
+      ∙ drop-at (kindBytes (p .entries)) _ _ (kind-length (p .entries))
 
-  at-bodies : bodiesIn (sheetOf p) ≡ bodyBytes (p .entries)
+  at-bodies : bodiesIn (length (p .entries)) (behind x y p) ≡ bodyBytes (p .entries)
   at-bodies =
-      let n : headLength + 3 * countIn (sheetOf p) ≡ headLength + 2 * countIn (sheetOf p) + countIn (sheetOf p) = omega arith in
-      ap (λ (n : ℕ). drop n (sheetOf p)) n
-      ∙ sym (drop-drop (countIn (sheetOf p)) (headLength + 2 * countIn (sheetOf p)) (sheetOf p)) ∙ ap (drop (countIn (sheetOf p))) at-sizes
-      ∙ drop-at (sizeBytes (p .entries)) _ _ (size-length (p .entries) ∙ sym at-count)
+      let n = length (p .entries) in
+      let m : headLength + 3 * length (p .entries) ≡ headLength + 2 * length (p .entries) + length (p .entries) = omega arith in
+      ap (λ (k : ℕ). drop k (behind x y p)) m
+      ∙ sym (drop-drop (length (p .entries)) (headLength + 2 * length (p .entries)) (behind x y p)) ∙ ap
+      (drop (length (p .entries))) at-sizes
+      ∙ drop-at (sizeBytes (p .entries)) _ _ (size-length (p .entries))
 
-  at-entries : entriesFrom (countIn (sheetOf p)) (kindsIn (sheetOf p)) (sizesIn (sheetOf p)) (bodiesIn (sheetOf p)) ≡ p .entries
+  at-entries : entriesFrom (length (p .entries)) (kindsIn (behind x y p)) (sizesIn (length (p .entries)) (behind x y p))
+      (bodiesIn (length (p .entries)) (behind x y p)) ≡ p .entries
   unfolding partsOf
   at-entries =
-      (λ i. entriesFrom (at-count i) (at-parts i) (at-sizes i) ((at-bodies ∙ sym (append-nil (bodyBytes (p .entries)))) i))
+      (λ i. entriesFrom (length (p .entries)) (at-parts i) (at-sizes i) ((at-bodies ∙ sym (append-nil (bodyBytes (p .entries)))) i))
       ∙ entries-of (p .entries) _ _ []
 
-  pub sheet-is : isSheet (sheetOf p) ≡ true
-  unfolding isSheet
-  sheet-is =
-      let n : length (sheetOf p) ≡ headLength + 3 * countIn (sheetOf p) + totalIn (sheetOf p)
-      = omega (arith, sheet-length, at-count, at-total) in
-      let t : totalIn (sheetOf p) ≡ sum (take (countIn (sheetOf p)) (sizesIn (sheetOf p))) =
-      at-total ∙ sym (size-sum (p .entries))
-      ∙ ap sum (sym (ap (take (countIn (sheetOf p))) at-sizes
-      ∙ take-at (sizeBytes (p .entries)) _ _ (size-length (p .entries) ∙ sym at-count))) in
-      simp (eq-eqb _ _ n, eq-eqb _ _ t)
+  at-sum : length (bodyBytes (p .entries)) ≡ sum (take (length (p .entries)) (sizesIn (length (p .entries)) (behind x y p)))
+  at-sum =
+      sym (size-sum (p .entries))
+      ∙ ap sum (sym (ap (take (length (p .entries))) at-sizes ∙ take-at (sizeBytes (p .entries)) _ _ (size-length (p .entries))))
 
 -- the head of a sheet whose record is spelled out computes
-head-means : (p : Plain) → entriesFrom (countIn (sheetOf (spelledOut p))) (kindsIn (sheetOf (spelledOut p)))
-    (sizesIn (sheetOf (spelledOut p))) (bodiesIn (sheetOf (spelledOut p))) ≡ p .entries
-    → sheetFrom (sheetOf (spelledOut p)) ≡ spelledOut p
-unfolding sheetFrom sheetOf spelledOut headOf wordBytes wordAt spell
-head-means p e =
+head-means : (p : Plain) (x y : ℕ) → entriesFrom (length (p .entries)) (kindsIn (behind x y (spelledOut p)))
+    (sizesIn (length (p .entries)) (behind x y (spelledOut p))) (bodiesIn (length (p .entries)) (behind x y (spelledOut p))) ≡ p .entries
+    → plainFrom (length (p .entries)) (behind x y (spelledOut p)) ≡ spelledOut p
+unfolding plainFrom spelledOut headOf wordBytes wordAt spell
+head-means p x y e =
     let c = word-of (p .chip) in
     let d = word-of (p .connection) in
     λ i. record {
@@ -187,74 +181,154 @@ head-means p e =
       entries = e i;
     }
 
-pub sheet-means : (p : Plain) → Sized p → sheetFrom (sheetOf p) ≡ p
+behind-means : (p : Plain) (x y : ℕ) → Sized p → plainFrom (length (p .entries)) (behind x y p) ≡ p
 unfolding spelledOut
-sheet-means p z =
+behind-means p x y z =
     let e = spelled-out p z in
-    let y : Sized (spelledOut p) = rw (← e) z in
-    ap (λ (x : Plain). sheetFrom (sheetOf x)) e ∙ head-means p (at-entries (spelledOut p) y) ∙ sym e
+    let w : Sized (spelledOut p) = rw (← e) z in
+    ap (λ (q : Plain). plainFrom (length (q .entries)) (behind x y q)) e ∙ head-means p x y (at-entries (spelledOut p) w x y) ∙ sym e
+
+-- ## In each form
+
+pub counts-length : (form : Form) (n t : ℕ) → length (countsOf form n t) ≡ shift form + 2
+unfolding wordBytes
+counts-length Narrow n t = refl
+counts-length Wide n t = refl
+
+pub at-count : (form : Form) (p : Plain) → countIn form (sheetOf form p) ≡ length (p .entries)
+unfolding sheetOf wordBytes wordAt
+at-count Narrow p = refl
+at-count Wide p = word-of (length (p .entries))
+
+pub at-total : (form : Form) (p : Plain) → totalIn form (sheetOf form p) ≡ length (bodyBytes (p .entries))
+unfolding sheetOf wordBytes wordAt
+at-total Narrow p = refl
+at-total Wide p = word-of (length (bodyBytes (p .entries)))
+
+-- the two bytes before the ID bytes
+abbrev lowest : Form → Plain → ℕ
+lowest Narrow p = length (p .entries)
+lowest Wide p = length (bodyBytes (p .entries)) % 256
+
+abbrev second : Form → Plain → ℕ
+second Narrow p = length (bodyBytes (p .entries))
+second Wide p = length (bodyBytes (p .entries)) / 256
+
+at-shifted : (form : Form) (p : Plain) → shifted form (sheetOf form p) ≡ behind (lowest form p) (second form p) p
+unfolding sheetOf wordBytes
+at-shifted Narrow p = refl
+at-shifted Wide p = refl
+
+module _ (form : Form) (p : Plain) (z : Sized p) where
+  pub sheet-length : length (sheetOf form p) ≡ shift form + (headLength + 3 * length (p .entries) + length (bodyBytes (p .entries)))
+  unfolding sheetOf
+  sheet-length =
+      length-append (countsOf form (length (p .entries)) (length (bodyBytes (p .entries)))) _
+      ∙ omega (arith, counts-length form (length (p .entries)) (length (bodyBytes (p .entries))), behind-length p z 0 0)
+
+  pub sheet-is : isSheet form (sheetOf form p) ≡ true
+  unfolding isSheet
+  sheet-is =
+      let n : length (sheetOf form p)
+      ≡ shift form + (headLength + 3 * countIn form (sheetOf form p) + totalIn form (sheetOf form p))
+      = omega (arith, sheet-length, at-count form p, at-total form p) in
+      let t : totalIn form (sheetOf form p)
+      ≡ sum (take (countIn form (sheetOf form p)) (sizesIn (countIn form (sheetOf form p)) (shifted form (sheetOf form p)))) =
+      at-total form p ∙ at-sum p z (lowest form p) (second form p)
+      ∙ sym (ap₂ (λ (k : ℕ) (s : List ℕ). sum (take k (sizesIn k s))) (at-count form p) (at-shifted form p)) in
+      simp (eq-eqb _ _ n, eq-eqb _ _ t)
+
+  pub sheet-means : sheetFrom form (sheetOf form p) ≡ p
+  sheet-means = ap₂ plainFrom (at-count form p) (at-shifted form p) ∙ behind-means p (lowest form p) (second form p) z
 
 -- ## A sheet
 
-module _ (s : List ℕ) (is : isSheet s ≡ true) where
-  pub long : length s ≡ headLength + 3 * countIn s + totalIn s
-  unfolding isSheet
-  long = eqb-true _ _ (and-true (eqb (length s) (headLength + 3 * countIn s + totalIn s)) _ is .0)
+-- as its further places count: N blocks, and T bytes of bodies
+pub record Whole (n t : ℕ) (s : List ℕ) : Type 0 where
+  pub long : length s ≡ headLength + 3 * n + t
+  pub total : t ≡ sum (take n (sizesIn n s))
 
-  pub total : totalIn s ≡ sum (take (countIn s) (sizesIn s))
-  unfolding isSheet
-  total = eqb-true _ _ (and-true (eqb (length s) (headLength + 3 * countIn s + totalIn s)) _ is .1)
+pub whole : (form : Form) (s : List ℕ) → isSheet form s ≡ true → Whole (countIn form s) (totalIn form s) (shifted form s)
+unfolding isSheet
+whole form s is =
+    let b = and-true (eqb (length s) (shift form + (headLength + 3 * countIn form s + totalIn form s))) _ is in
+    record {
+      long = length-drop (shift form) s ∙ omega (arith, eqb-true (length s) _ (b .0));
+      total = eqb-true (totalIn form s) _ (b .1);
+    }
 
-  bodies-all : take (sum (take (countIn s) (sizesIn s))) (bodiesIn s) ≡ bodiesIn s
-  bodies-all =
-      take-all (sum (take (countIn s) (sizesIn s))) (bodiesIn s) (omega (arith, length-drop (headLength + 3 * countIn s) s, long, total))
+module _ (n t : ℕ) (s : List ℕ) (w : Whole n t s) where
+  bodies-all : take (sum (take n (sizesIn n s))) (bodiesIn n s) ≡ bodiesIn n s
+  bodies-all = take-all (sum (take n (sizesIn n s))) (bodiesIn n s) (omega (arith, length-drop (headLength + 3 * n) s, w .long, w .total))
 
-  pub from-sized : Sized (sheetFrom s)
-  unfolding sheetFrom
+  pub from-sized : Sized (plainFrom n s)
+  unfolding plainFrom
   from-sized = record {
-    id = length-take-le 16 (drop 2 s) (omega (arith, length-drop 2 s, long));
-    address = length-take-le 6 (drop 20 s) (omega (arith, length-drop 20 s, long));
-    maker = length-take-le 2 (drop 32 s) (omega (arith, length-drop 32 s, long));
+    id = length-take-le 16 (drop 2 s) (omega (arith, length-drop 2 s, w .long));
+    address = length-take-le 6 (drop 20 s) (omega (arith, length-drop 20 s, w .long));
+    maker = length-take-le 2 (drop 32 s) (omega (arith, length-drop 32 s, w .long));
   }
 
   module _ (by : Bytes s) where
-    pub parts : Read (countIn s) (kindsIn s) (sizesIn s) (bodiesIn s)
+    pub parts : Read n (kindsIn s) (sizesIn n s) (bodiesIn n s)
     parts =
-        read (countIn s) (kindsIn s) (sizesIn s) (bodiesIn s) (bytes-drop headLength s by)
-        (omega (arith, length-drop headLength s, long)) (omega (arith, length-drop (headLength + 2 * countIn s) s, long))
-        (omega (arith, length-drop (headLength + 3 * countIn s) s, long, total))
+        read n (kindsIn s) (sizesIn n s) (bodiesIn n s) (bytes-drop headLength s by)
+        (omega (arith, length-drop headLength s, w .long)) (omega (arith, length-drop (headLength + 2 * n) s, w .long))
+        (omega (arith, length-drop (headLength + 3 * n) s, w .long, w .total))
 
-    parts-back : partsOf (sheetFrom s .entries) ≡ drop headLength s
-    unfolding partsOf sheetFrom
+    parts-back : partsOf (plainFrom n s .entries) ≡ drop headLength s
+    unfolding partsOf plainFrom
     parts-back =
-        let m : headLength + 2 * countIn s + countIn s ≡ headLength + 3 * countIn s = omega arith in
-        let b = parts .bodies ∙ bodies-all ∙ sym (drop-drop (countIn s) (headLength + 2 * countIn s) s ∙ ap (λ (k : ℕ). drop k s) m) in
-        let sb = ap₂ (λ (x y : List ℕ). x ++ y) (parts .sizes) b ∙ take-append-drop (countIn s) (sizesIn s)
-        ∙ sym (drop-drop (2 * countIn s) headLength s) in
-        ap₂ (λ (x y : List ℕ). x ++ y) (parts .kinds) sb ∙ take-append-drop (2 * countIn s) (kindsIn s)
+        let m : headLength + 2 * n + n ≡ headLength + 3 * n = omega arith in
+        let b = parts .bodies ∙ bodies-all ∙ sym (drop-drop n (headLength + 2 * n) s ∙ ap (λ (k : ℕ). drop k s) m) in
+        let sb = ap₂ (λ (x y : List ℕ). x ++ y) (parts .sizes) b ∙ take-append-drop n (sizesIn n s)
+        ∙ sym (drop-drop (2 * n) headLength s) in
+        ap₂ (λ (x y : List ℕ). x ++ y) (parts .kinds) sb ∙ take-append-drop (2 * n) (kindsIn s)
 
-    count-back : length (sheetFrom s .entries) ≡ byteAt s 0
-    unfolding sheetFrom
+    count-back : length (plainFrom n s .entries) ≡ n
+    unfolding plainFrom
     count-back = parts .count
 
-    total-back : length (bodyBytes (sheetFrom s .entries)) ≡ byteAt s 1
-    unfolding sheetFrom
-    total-back = ap length (parts .bodies ∙ bodies-all) ∙ omega (arith, length-drop (headLength + 3 * countIn s) s, long)
+    total-back : length (bodyBytes (plainFrom n s .entries)) ≡ t
+    unfolding plainFrom
+    total-back = ap length (parts .bodies ∙ bodies-all) ∙ omega (arith, length-drop (headLength + 3 * n) s, w .long)
 
-    head-back : byteAt s 0 ∷ byteAt s 1 ∷ (headOf (sheetFrom s) ++ drop headLength s) ≡ s
-    unfolding sheetFrom headOf spell wordAt
+    head-back : headOf (plainFrom n s) ++ drop headLength s ≡ drop 2 s
+    unfolding plainFrom headOf spell wordAt
     head-back =
         rw (
-          spelled 2 16 s (omega (arith, long)),
-          spelled 20 6 s (omega (arith, long)),
-          spelled 32 2 s (omega (arith, long)),
+          spelled 2 16 s (omega (arith, w .long)),
+          spelled 20 6 s (omega (arith, w .long)),
+          spelled 32 2 s (omega (arith, w .long)),
           word-back (byteAt s 27) (byteAt s 28) (by 27),
           word-back (byteAt s 29) (byteAt s 30) (by 29),
         )
-        (ap (λ (l : List ℕ). l ++ drop headLength s) (sym (spelled 0 34 s (omega (arith, long)))) ∙ take-append-drop headLength s)
+        (ap (λ (l : List ℕ). l ++ drop headLength s) (sym (spelled 2 32 s (omega (arith, w .long))))
+        ∙ ap (λ (l : List ℕ). take 32 (drop 2 s) ++ l) (sym (drop-drop 32 2 s)) ∙ take-append-drop 32 (drop 2 s))
 
-    -- the sheet of what a sheet means is that sheet
-    pub sheet-back : sheetOf (sheetFrom s) ≡ s
-    unfolding sheetOf
-    sheet-back =
-        (λ i. count-back i ∷ total-back i ∷ (headOf (sheetFrom s) ++ parts-back i)) ∙ head-back
+    content-back : headOf (plainFrom n s) ++ partsOf (plainFrom n s .entries) ≡ drop 2 s
+    content-back = ap (λ (l : List ℕ). headOf (plainFrom n s) ++ l) parts-back ∙ head-back
+
+-- the counts that a sheet has stand before what follows
+pub counts-back : (form : Form) (s : List ℕ) → Bytes s → shift form + 2 ≤ length s
+    → countsOf form (countIn form s) (totalIn form s) ++ drop 2 (shifted form s) ≡ s
+unfolding wordAt spell
+counts-back Narrow s by h = ap (λ (l : List ℕ). l ++ drop 2 s) (sym (spelled 0 2 s h)) ∙ take-append-drop 2 s
+counts-back Wide s by h =
+    rw (word-back (byteAt s 0) (byteAt s 1) (by 0), word-back (byteAt s 2) (byteAt s 3) (by 2))
+    (ap₂ (λ (l r : List ℕ). l ++ r) (sym (spelled 0 4 s h)) (drop-drop 2 2 s) ∙ take-append-drop 4 s)
+
+pub sheet-long : (form : Form) (s : List ℕ) → isSheet form s ≡ true → shift form + headLength ≤ length s
+unfolding isSheet
+sheet-long form s is =
+    let b = and-true (eqb (length s) (shift form + (headLength + 3 * countIn form s + totalIn form s))) _ is in
+    omega (arith, eqb-true (length s) _ (b .0))
+
+-- the sheet of what a sheet means is that sheet
+pub sheet-back : (form : Form) (s : List ℕ) → isSheet form s ≡ true → Bytes s → sheetOf form (sheetFrom form s) ≡ s
+unfolding sheetOf
+sheet-back form s is by =
+    let w = whole form s is in
+    let b = bytes-drop (shift form) s by in
+    (λ i. countsOf form (count-back _ _ _ w b i) (total-back _ _ _ w b i) ++ content-back _ _ _ w b i)
+    ∙ counts-back form s by (omega (arith, sheet-long form s is))

@@ -1,12 +1,5 @@
--- Where things stand in a sheet (document 01, 'The sheet').
+-- Where things stand in a narrow sheet, behind its block count and total (document 01, 'The sheet').
 use Prim.Native.Nat.{ℕ}
-
--- sizes first: the block count N, the total T of body bytes
-abbrev pub countAt : ℕ
-countAt = 0
-
-abbrev pub totalAt : ℕ
-totalAt = 1
 
 -- ID bytes 0 to 15, then ID byte 17
 abbrev pub idAt : ℕ

@@ -1,8 +1,10 @@
 pub mod Lists
 pub mod Layout
+pub mod Form
 pub mod Record
 pub mod Sheet
 pub mod Image
 pub mod Write
 pub mod Make
+pub mod Convert
 pub mod Claims

@@ -1,4 +1,4 @@
--- The sheet (document 01, 'The sheet'): the sheet of a record, and what a sheet means.
+-- The sheet (document 01, 'The sheet'; document 02, request 7): the sheet of a record in each form, and what a sheet means.
 use Prim.Native.Nat.{ℕ, zero, suc, _+_, _*_}
 use mathlib.Core.List.{List, [], _∷_, _++_}
 use mathlib.Core.Bool.{Bool, _&&_}
@@ -7,7 +7,9 @@ use lib.Dec.{eqb}
 use Rattle.rom.specs.Bytes.{byteAt, wordAt}
 use Rattle.rom.specs.Store.{wordBytes}
 use Rattle.sheet.specs.Lists.{sum}
-use Rattle.sheet.specs.Layout.{countAt, totalAt, idAt, lastIdAt, sheetVersionAt, sheetAddressAt, deviceAt, chipAt, connectionAt}
+use Rattle.sheet.specs.declared.Form.{Form}
+use Rattle.sheet.specs.Form.{shift, shifted, countIn, totalIn, countsOf}
+use Rattle.sheet.specs.Layout.{idAt, lastIdAt, sheetVersionAt, sheetAddressAt, deviceAt, chipAt, connectionAt}
 use Rattle.sheet.specs.Layout.{controlAt, makerAt, headLength}
 use Rattle.sheet.specs.Record.{Entry, Plain}
 
@@ -35,30 +37,25 @@ bodyBytes (e ∷ es) = e .body ++ bodyBytes es
 unfoldable pub partsOf : List Entry → List ℕ
 partsOf es = kindBytes es ++ (sizeBytes es ++ bodyBytes es)
 
-unfoldable pub sheetOf : Plain → List ℕ
-sheetOf p = length (p .entries) ∷ length (bodyBytes (p .entries)) ∷ (headOf p ++ partsOf (p .entries))
+-- all that follows the sizes
+abbrev pub contentOf : Plain → List ℕ
+contentOf p = headOf p ++ partsOf (p .entries)
+
+-- sizes first
+unfoldable pub sheetOf : Form → Plain → List ℕ
+sheetOf form p = countsOf form (length (p .entries)) (length (bodyBytes (p .entries))) ++ contentOf p
 
 -- ## What a sheet means
 
--- block count N and total T of body bytes
-abbrev pub countIn : List ℕ → ℕ
-countIn s = byteAt s countAt
-
-abbrev pub totalIn : List ℕ → ℕ
-totalIn s = byteAt s totalAt
-
-abbrev pub chipIn : List ℕ → ℕ
-chipIn s = wordAt s chipAt
-
--- where the three parts stand
+-- where the three parts of N blocks stand
 abbrev pub kindsIn : List ℕ → List ℕ
 kindsIn s = drop headLength s
 
-abbrev pub sizesIn : List ℕ → List ℕ
-sizesIn s = drop (headLength + 2 * countIn s) s
+abbrev pub sizesIn : ℕ → List ℕ → List ℕ
+sizesIn n s = drop (headLength + 2 * n) s
 
-abbrev pub bodiesIn : List ℕ → List ℕ
-bodiesIn s = drop (headLength + 3 * countIn s) s
+abbrev pub bodiesIn : ℕ → List ℕ → List ℕ
+bodiesIn n s = drop (headLength + 3 * n) s
 
 -- the entries of so many blocks, from their kinds, body sizes and bodies; each part's rest is handed on
 unfoldable pub entriesFrom : ℕ → List ℕ → List ℕ → List ℕ → List Entry
@@ -67,20 +64,30 @@ entriesFrom (suc n) kinds sizes bodies =
     record { kind = wordAt kinds 0; body = take (byteAt sizes 0) bodies }
     ∷ entriesFrom n (drop 2 kinds) (drop 1 sizes) (drop (byteAt sizes 0) bodies)
 
-unfoldable pub sheetFrom : List ℕ → Plain
-sheetFrom s = record {
+-- of N blocks, by the places of a narrow sheet
+unfoldable pub plainFrom : ℕ → List ℕ → Plain
+plainFrom n s = record {
   id = take 16 (drop idAt s);
   lastId = byteAt s lastIdAt;
   version = byteAt s sheetVersionAt;
   address = take 6 (drop sheetAddressAt s);
   device = byteAt s deviceAt;
-  chip = chipIn s;
+  chip = wordAt s chipAt;
   connection = wordAt s connectionAt;
   control = byteAt s controlAt;
   maker = take 2 (drop makerAt s);
-  entries = entriesFrom (countIn s) (kindsIn s) (sizesIn s) (bodiesIn s);
+  entries = entriesFrom n (kindsIn s) (sizesIn n s) (bodiesIn n s);
 }
 
--- length exactly 34+3N+T, T the sum of the sizes; a length below 34 is never that
-unfoldable pub isSheet : List ℕ → Bool
-isSheet s = eqb (length s) (headLength + 3 * countIn s + totalIn s) && eqb (totalIn s) (sum (take (countIn s) (sizesIn s)))
+-- in its form
+abbrev pub sheetFrom : Form → List ℕ → Plain
+sheetFrom form s = plainFrom (countIn form s) (shifted form s)
+
+abbrev pub chipIn : Form → List ℕ → ℕ
+chipIn form s = wordAt (shifted form s) chipAt
+
+-- length exactly 34+3N+T, or 36+3N+T in the wide form, T the sum of the sizes; a shorter one is never that
+unfoldable pub isSheet : Form → List ℕ → Bool
+isSheet form s =
+    eqb (length s) (shift form + (headLength + 3 * countIn form s + totalIn form s))
+    && eqb (totalIn form s) (sum (take (countIn form s) (sizesIn (countIn form s) (shifted form s))))

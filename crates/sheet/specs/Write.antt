@@ -5,12 +5,14 @@ use mathlib.Core.Bool.{Bool, false, _&&_, _||_, not}
 use lib.ListN.{length}
 use lib.Dec.{eqb, leb, ltb}
 use Rattle.rom.specs.declared.Layout.{Layout}
-use Rattle.rom.specs.Geometry.{otherSize, wrongLength, leavesEnd}
+use Rattle.rom.specs.Geometry.{wrongLength, leavesEnd}
 use Rattle.rom.specs.Bytes.{pick, byteAt, isIn}
 use Rattle.rom.specs.Refusal.{Cause, _⇒_, firstMet}
 use Rattle.format.specs.Chips.{chips, rowOf, row21140, kindCompact, kind21041}
 use Rattle.format.specs.Block.{is21041, siaSize}
 use Rattle.reader.specs.Reading.{judgeCauses}
+use Rattle.sheet.specs.declared.Form.{Form}
+use Rattle.sheet.specs.Form.{isWide, isBeyond, countIn}
 use Rattle.sheet.specs.Record.{Entry, Plain}
 use Rattle.sheet.specs.Sheet.{sheetFrom, isSheet}
 use Rattle.sheet.specs.Image.{leafStart, leafOf, imageOf, newest}
@@ -53,20 +55,26 @@ recordCauses l p =
     ∷ (26 ⇒ ltb (leavesEnd l) (leafStart + length (leafOf p)))
     ∷ []
 
--- an output of another length than the stated size, or a stated size that sheets are not written to
-unfoldable pub wrongOutput : Layout → ℕ → Bool
-wrongOutput l n = otherSize (l .size) || wrongLength (l .size) n
+-- N over 255 in a wide sheet
+unfoldable pub tooManyBlocks : Form → List ℕ → Bool
+tooManyBlocks form sheet = isWide form && ltb 255 (countIn form sheet)
+
+-- an output of another length than the stated size, or a stated size that sheets of the form are not written to
+unfoldable pub wrongOutput : Form → Layout → ℕ → Bool
+wrongOutput form l n = isBeyond form (l .size) || wrongLength (l .size) n
 
 -- for an output; last the newest reader's, 12 apart, for controller 0 of the image to be written
-unfoldable pub writeCauses : Layout → List ℕ → List ℕ → List Cause
-writeCauses l sheet out =
-    (24 ⇒ not (isSheet sheet))
-    ∷ (1 ⇒ wrongOutput l (length out))
-    ∷ (recordCauses l (sheetFrom sheet) ++ judgeCauses (imageOf l (sheetFrom sheet) out) (newest l (sheetFrom sheet .chip)))
+unfoldable pub writeCauses : Form → Layout → List ℕ → List ℕ → List Cause
+writeCauses form l sheet out =
+    (24 ⇒ not (isSheet form sheet))
+    ∷ (33 ⇒ tooManyBlocks form sheet)
+    ∷ (1 ⇒ wrongOutput form l (length out))
+    ∷ (recordCauses l (sheetFrom form sheet)
+    ++ judgeCauses (imageOf l (sheetFrom form sheet) out) (newest l (sheetFrom form sheet .chip)))
 
-unfoldable pub writeNumber : Layout → List ℕ → List ℕ → ℕ
-writeNumber l sheet out = firstMet (writeCauses l sheet out)
+unfoldable pub writeNumber : Form → Layout → List ℕ → List ℕ → ℕ
+writeNumber form l sheet out = firstMet (writeCauses form l sheet out)
 
 -- the output after the call: the new image, or unchanged on a refusal
-unfoldable pub written : Layout → List ℕ → List ℕ → List ℕ
-written l sheet out = pick (eqb (writeNumber l sheet out) 0) (imageOf l (sheetFrom sheet) out) out
+unfoldable pub written : Form → Layout → List ℕ → List ℕ → List ℕ
+written form l sheet out = pick (eqb (writeNumber form l sheet out) 0) (imageOf l (sheetFrom form sheet) out) out

@@ -1,9 +1,23 @@
-// Where things stand in a sheet (document 01, 'The sheet'), for the writer and the sheet maker.
+// The two forms of a sheet and where things stand in it (document 01, 'The sheet'; document 02, request 7), for the writer, the
+// sheet maker and the converters.
 
-// The block count and the total of body bytes.
-pub const COUNT_AT: usize = 0;
+// How a sheet states its block count and its total of body bytes: as bytes, or as words.
+pub enum Form {
+    Narrow,
+    Wide,
+}
 
-pub const TOTAL_AT: usize = 1;
+// The most that a byte states: the blocks of a leaf, and either count of a narrow sheet.
+pub const MOST_STATED: u16 = 255;
+
+// What a call answers that lays out a sheet: the sheet's length, or a refusal's number and 0.
+#[repr(C)]
+pub struct Made {
+    pub number: u8,
+    pub length: usize,
+}
+
+// ## Places in a narrow sheet; in a wide one all of them are two bytes later
 
 // ID bytes 0 to 15, then ID byte 17.
 pub const ID_AT: usize = 2;

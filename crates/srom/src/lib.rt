@@ -4,11 +4,11 @@ use autosense::Walked;
 use crc::Checksum;
 use magic::Magic;
 use magic::MagicAnswer;
-use maker::Made;
 use reader::Answer;
 use reader::Arguments;
 use reader::Part;
 use rom::Layout;
+use sheet::Made;
 ghost use mathlib.Core.Path.{_≡_};
 ghost use lib.ListN.{length};
 ghost use Rattle.crc.specs.Answer.{sromAnswer, idAnswer, magicAnswer};
@@ -16,8 +16,10 @@ ghost use Rattle.magic.specs.Answer.{magicReading, magicWriteNumber, magicWritt
 ghost use Rattle.reader.specs.Reading.{readAnswer, readKinds, readOffsets, partFor};
 ghost use Rattle.walk.specs.Walk.{freshWalk, loadFor, lookFor, clearFor};
 ghost use Rattle.sheet.specs.Write.{writeNumber, written};
-ghost use Rattle.sheet.specs.Make.{made};
-ghost use Rattle.maker.specs.Answer.{madeFor};
+ghost use Rattle.sheet.specs.declared.Form.the-variants.{Narrow, Wide};
+ghost use Rattle.sheet.specs.Form.{formNamed};
+ghost use Rattle.sheet.specs.Make.{made, madeFor};
+ghost use Rattle.sheet.specs.Convert.{convertedFor, convertedIn};
 
 // The CRC that the last word of an image's board should hold.
 #[no_mangle]
@@ -117,11 +119,11 @@ pub extern "C" fn srom_write_magic(magic: Magic, image: &mut [u8], size: u16) ->
 
 // Writes the image of a sheet.
 #[no_mangle]
-pub extern "C" fn srom_write(sheet: &[u8], layout: Layout, image: &mut [u8]) -> u8
-    ensures { λ r. ⌜ r ≡ writeNumber layout (now (sheet .entry)) (now (image .entry)) ⌝ }
-    ensures { λ r. ⌜ now (image .exit) ≡ written layout (now (sheet .entry)) (now (image .entry)) ⌝ }
+pub extern "C" fn srom_write(sheet: &[u8], wide: bool, layout: Layout, image: &mut [u8]) -> u8
+    ensures { λ r. ⌜ r ≡ writeNumber (formNamed wide) layout (now (sheet .entry)) (now (image .entry)) ⌝ }
+    ensures { λ r. ⌜ now (image .exit) ≡ written (formNamed wide) layout (now (sheet .entry)) (now (image .entry)) ⌝ }
 {
-    writer::write(sheet, layout, image)
+    writer::write(sheet, forms::form_of(wide), layout, image)
 }
 
 // Makes the sheet of a tidy image.
@@ -129,11 +131,30 @@ pub extern "C" fn srom_write(sheet: &[u8], layout: Layout, image: &mut [u8]) -> 
 pub extern "C" fn srom_make_sheet(
     image: &[u8],
     chip: u16,
+    wide: bool,
     layout: Layout,
     buffer: &mut [u8],
 ) -> Made
-    ensures { λ r. ⌜ r ≡ madeFor layout (now (image .entry)) chip (length (now (buffer .entry))) ⌝ }
-    ensures { λ r. ⌜ now (buffer .exit) ≡ made layout (now (image .entry)) chip (now (buffer .entry)) ⌝ }
+    ensures { λ r. ⌜ r ≡ madeFor (formNamed wide) layout (now (image .entry)) chip (length (now (buffer .entry))) ⌝ }
+    ensures { λ r. ⌜ now (buffer .exit) ≡ made (formNamed wide) layout (now (image .entry)) chip (now (buffer .entry)) ⌝ }
 {
-    maker::make(image, chip, layout, buffer)
+    maker::make(image, chip, forms::form_of(wide), layout, buffer)
+}
+
+// Makes a narrow sheet wide.
+#[no_mangle]
+pub extern "C" fn srom_widen(sheet: &[u8], buffer: &mut [u8]) -> Made
+    ensures { λ r. ⌜ r ≡ convertedFor Narrow (now (sheet .entry)) (length (now (buffer .entry))) ⌝ }
+    ensures { λ r. ⌜ now (buffer .exit) ≡ convertedIn Narrow (now (sheet .entry)) (now (buffer .entry)) ⌝ }
+{
+    converter::widen(sheet, buffer)
+}
+
+// Makes a wide sheet narrow.
+#[no_mangle]
+pub extern "C" fn srom_narrow(sheet: &[u8], buffer: &mut [u8]) -> Made
+    ensures { λ r. ⌜ r ≡ convertedFor Wide (now (sheet .entry)) (length (now (buffer .entry))) ⌝ }
+    ensures { λ r. ⌜ now (buffer .exit) ≡ convertedIn Wide (now (sheet .entry)) (now (buffer .entry)) ⌝ }
+{
+    converter::narrow(sheet, buffer)
 }

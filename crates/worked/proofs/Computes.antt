@@ -17,12 +17,13 @@ use Rattle.older.specs.Calls.{call, seen, after, run}
 use Rattle.older.specs.Written.{answerOf, entries, tableIn}
 use Rattle.rom.specs.Store.{wordBytes}
 use Rattle.sheet.specs.Lists.{sum, padded, over}
-use Rattle.sheet.specs.Sheet.{headOf, kindBytes, sizeBytes, bodyBytes, partsOf, sheetOf, entriesFrom, sheetFrom, isSheet}
+use Rattle.sheet.specs.Form.{isBeyond}
+use Rattle.sheet.specs.Sheet.{headOf, kindBytes, sizeBytes, bodyBytes, partsOf, sheetOf, entriesFrom, plainFrom, isSheet}
 use Rattle.sheet.specs.Image.{frontWith, frontOf, isWhole, openingOf, encodes, controlBytes, leafHeadOf, leafOf}
 use Rattle.sheet.specs.Image.{coveredOf, boardOf, imageOf, newest}
 use Rattle.sheet.specs.Image.{openingLength, bodyOf, imageFrom, sizes, leafEnd, upToLeavesEnd, isTidy}
-use Rattle.sheet.specs.Write.{isOtherFamily, isBadBody, isBad, anyBad, strayControl, cannotHold, recordCauses, wrongOutput, writeCauses}
-use Rattle.sheet.specs.Write.{writeNumber, written}
+use Rattle.sheet.specs.Write.{isOtherFamily, isBadBody, isBad, anyBad, strayControl, cannotHold, recordCauses, tooManyBlocks}
+use Rattle.sheet.specs.Write.{wrongOutput, writeCauses, writeNumber, written}
 use Rattle.sheet.specs.Make.{makeCauses, makeNumber, makeLength, made}
 use Rattle.worked.specs.Cases.{sharing, unsealedAt, unsealed, sealed, behindBoard, imageWith}
 
@@ -50,9 +51,9 @@ walk-computes = tt
 -- sheets and their images
 unfoldable pub sheet-computes : Unit {0}
 unfolding image-computes wordBytes sum padded over
-    headOf kindBytes sizeBytes bodyBytes partsOf sheetOf entriesFrom sheetFrom isSheet
-    frontWith frontOf isWhole openingOf encodes controlBytes leafHeadOf leafOf coveredOf boardOf imageOf
+    headOf kindBytes sizeBytes bodyBytes partsOf sheetOf entriesFrom plainFrom isSheet
+    frontWith frontOf isWhole openingOf encodes controlBytes leafHeadOf leafOf isBeyond coveredOf boardOf imageOf
     newest openingLength bodyOf imageFrom sizes leafEnd upToLeavesEnd isTidy
-    isOtherFamily isBadBody isBad anyBad strayControl cannotHold recordCauses wrongOutput writeCauses writeNumber written
+    isOtherFamily isBadBody isBad anyBad strayControl cannotHold recordCauses tooManyBlocks wrongOutput writeCauses writeNumber written
     makeCauses makeNumber makeLength made
 sheet-computes = tt

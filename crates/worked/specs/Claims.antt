@@ -3,7 +3,7 @@ use Prim.Native.Nat.{ℕ, _<_}
 use mathlib.Core.Path.{_≡_}
 use mathlib.Core.List.{List, [], _∷_, _++_, map}
 use mathlib.Core.Bool.{Bool, true, false}
-use lib.ListN.{replicate}
+use lib.ListN.{replicate, set}
 use Rattle.rom.specs.Geometry.{withoutMagic, withMagic}
 use Rattle.rom.specs.Refusal.{firstMet}
 use Rattle.format.specs.Chips.{newestLevel}
@@ -15,12 +15,12 @@ use Rattle.walk.specs.Walk.{isFixed, blockIs, freshWalk}
 use Rattle.older.specs.Calls.{Call, Down, run}
 use Rattle.older.specs.Levels.{removedBlock}
 use Rattle.older.specs.Claims.{NoneRemoved, newestChoice, wayFor}
-use Rattle.sheet.specs.Lists.{over}
+use Rattle.sheet.specs.declared.Form.the-variants.{Narrow}
 use Rattle.sheet.specs.Write.{writeNumber, written}
 use Rattle.sheet.specs.Make.{makeNumber, makeLength, made}
 use Rattle.worked.specs.Cases as whole
 use Rattle.worked.specs.Sheets as sheets
-use Rattle.worked.specs.Sheets.{changes, try, allOnes, long, wide, case21143, untidy, caseMagic, untidyMagic}
+use Rattle.worked.specs.Sheets.{changes, try, allOnes, long, unknownBody, case21143, untidy, caseMagic, untidyMagic}
 
 -- cases a to k, as whole images: each is answered as it says
 abbrev pub ImagesWorked : Type 0
@@ -47,22 +47,22 @@ abbrev pub SheetsWorked : Type 0
 SheetsWorked =
     (map sheets.runSheet sheets.sheetCases ≡ sheets.sheetCases)
     × (map try changes ≡ changes)
-    × (map (λ n. writeNumber withoutMagic (long n) allOnes) (91 ∷ 92 ∷ []) ≡ 0 ∷ 26 ∷ [])
-    × (map (λ n. writeNumber withoutMagic (wide n) allOnes) (89 ∷ 90 ∷ 126 ∷ 127 ∷ []) ≡ 0 ∷ 26 ∷ 26 ∷ 25 ∷ [])
-    × (writeNumber withoutMagic (case21143 .sheet) (0 ∷ allOnes) ≡ 1)
-    × (makeLength withoutMagic (case21143 .image) 21143 57 ≡ 55)
-    × (made withoutMagic (case21143 .image) 21143 (replicate 57 1) ≡ case21143 .sheet ++ 1 ∷ 1 ∷ [])
-    × (makeNumber withoutMagic (case21143 .image) 21143 54 ≡ 12)
-    × (makeNumber withoutMagic untidy 21143 57 ≡ 27)
+    × (map (λ n. writeNumber Narrow withoutMagic (long n) allOnes) (91 ∷ 92 ∷ []) ≡ 0 ∷ 26 ∷ [])
+    × (map (λ n. writeNumber Narrow withoutMagic (unknownBody n) allOnes) (89 ∷ 90 ∷ 126 ∷ 127 ∷ []) ≡ 0 ∷ 26 ∷ 26 ∷ 25 ∷ [])
+    × (writeNumber Narrow withoutMagic (case21143 .sheet) (0 ∷ allOnes) ≡ 1)
+    × (makeLength Narrow withoutMagic (case21143 .image) 21143 57 ≡ 55)
+    × (made Narrow withoutMagic (case21143 .image) 21143 (replicate 57 1) ≡ case21143 .sheet ++ 1 ∷ 1 ∷ [])
+    × (makeNumber Narrow withoutMagic (case21143 .image) 21143 54 ≡ 12)
+    × (makeNumber Narrow withoutMagic untidy 21143 57 ≡ 27)
 
 -- and before a Magic Packet block: it is kept, and judged; leaves end before it, and tidiness does
 abbrev pub MagicSheetsWorked : Type 0
 MagicSheetsWorked =
-    (written withMagic (caseMagic .sheet) (over allOnes (caseMagic .image)) ≡ caseMagic .image)
-    × (made withMagic (caseMagic .image) 21143 (replicate 55 1) ≡ caseMagic .sheet)
-    × (writeNumber withMagic (caseMagic .sheet) allOnes ≡ 29)
-    × (map (λ n. writeNumber withMagic (long n) (caseMagic .image)) (59 ∷ 60 ∷ []) ≡ 0 ∷ 26 ∷ [])
-    × (makeNumber withMagic untidyMagic 21143 57 ≡ 27)
+    (written Narrow withMagic (caseMagic .sheet) (set (caseMagic .image) 33 0) ≡ caseMagic .image)
+    × (made Narrow withMagic (caseMagic .image) 21143 (replicate 55 1) ≡ caseMagic .sheet)
+    × (writeNumber Narrow withMagic (caseMagic .sheet) allOnes ≡ 29)
+    × (map (λ n. writeNumber Narrow withMagic (long n) (caseMagic .image)) (59 ∷ 60 ∷ []) ≡ 0 ∷ 26 ∷ [])
+    × (makeNumber Narrow withMagic untidyMagic 21143 57 ≡ 27)
 
 -- ## Without one of the conditions of demand 3, two walks differ
 

@@ -5,6 +5,7 @@ use mathlib.Core.List.{List, [], _∷_, _++_}
 use lib.ListN.{length, take, drop, replicate, set}
 use Rattle.rom.specs.Geometry.{smallSize, withoutMagic}
 use Rattle.magic.specs.Cases.{wholeBlock}
+use Rattle.sheet.specs.declared.Form.the-variants.{Narrow}
 use Rattle.sheet.specs.Write.{writeNumber, written}
 use Rattle.sheet.specs.Make.{made}
 
@@ -106,8 +107,8 @@ allOnes = replicate smallSize 1
 unfoldable pub runSheet : SheetCase → SheetCase
 runSheet c = record {
   chip = c .chip;
-  sheet = made withoutMagic (c .image) (c .chip) (replicate (length (c .sheet)) 1);
-  image = written withoutMagic (c .sheet) allOnes;
+  sheet = made Narrow withoutMagic (c .image) (c .chip) (replicate (length (c .sheet)) 1);
+  image = written Narrow withoutMagic (c .sheet) allOnes;
 }
 
 unfoldable pub sheetCases : List SheetCase
@@ -127,7 +128,7 @@ try c = record {
   sheet = c .sheet;
   at = c .at;
   value = c .value;
-  number = writeNumber withoutMagic (set (c .sheet) (c .at) (c .value)) allOnes;
+  number = writeNumber Narrow withoutMagic (set (c .sheet) (c .at) (c .value)) allOnes;
 }
 
 abbrev change : SheetCase → ℕ → ℕ → ℕ → Change
@@ -153,8 +154,8 @@ unfoldable pub long : ℕ → List ℕ
 long n = n ∷ n ∷ (drop 2 (take 34 (case21041 .sheet)) ++ (replicate (3 * n) 1 ++ replicate n 2))
 
 -- a 21143 block of the unknown type 9 with so many bytes in its body
-unfoldable pub wide : ℕ → List ℕ
-wide n = 1 ∷ n ∷ (drop 2 (take 34 (case21143 .sheet)) ++ 9 ∷ 0 ∷ n ∷ replicate n 0)
+unfoldable pub unknownBody : ℕ → List ℕ
+unknownBody n = 1 ∷ n ∷ (drop 2 (take 34 (case21143 .sheet)) ++ 9 ∷ 0 ∷ n ∷ replicate n 0)
 
 -- case21143's image with byte 123 set, and its CRC
 unfoldable pub untidy : List ℕ

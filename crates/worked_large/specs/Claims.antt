@@ -3,13 +3,14 @@ use mathlib.Core.Path.{_≡_}
 use mathlib.Core.List.{[], _∷_, map}
 use lib.ListN.{replicate}
 use Rattle.rom.specs.Geometry.{smallSize, largeSize, withoutMagic, withMagic, large}
+use Rattle.sheet.specs.declared.Form.the-variants.{Narrow}
 use Rattle.sheet.specs.Write.{writeNumber}
 use Rattle.sheet.specs.Make.{makeNumber}
 use Rattle.worked.specs.Sheets.{case21143}
 use Rattle.worked_large.specs.Cases.{readCard, plainCards, magicCards, twentyOneCards, longestCards, refusals, wholeCard}
 
 -- each card is read and walked as it says; an image of another length than its stated size, and one of another size than the
--- two, is refused with 1 by every call; and sheets keep to the smaller size, behind 24
+-- two, is refused with 1 by every call; and narrow sheets keep to the smaller size, behind 24
 abbrev pub LargeImagesWorked : Type 0
 LargeImagesWorked =
     (map readCard plainCards ≡ plainCards)
@@ -19,5 +20,5 @@ LargeImagesWorked =
     × (refusals smallSize (wholeCard (large withMagic)) ≡ replicate 6 1)
     × (refusals largeSize (wholeCard withMagic) ≡ replicate 6 1)
     × (refusals 256 (replicate 256 0) ≡ replicate 6 1)
-    × (makeNumber (large withoutMagic) (wholeCard (large withoutMagic)) 21143 largeSize ≡ 1)
-    × (map (λ sheet. writeNumber (large withoutMagic) sheet (replicate largeSize 1)) (case21143 .sheet ∷ [] ∷ []) ≡ 1 ∷ 24 ∷ [])
+    × (makeNumber Narrow (large withoutMagic) (wholeCard (large withoutMagic)) 21143 largeSize ≡ 1)
+    × (map (λ sheet. writeNumber Narrow (large withoutMagic) sheet (replicate largeSize 1)) (case21143 .sheet ∷ [] ∷ []) ≡ 1 ∷ 24 ∷ [])

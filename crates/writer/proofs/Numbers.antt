@@ -5,29 +5,33 @@ use mathlib.Core.Bool.{Bool, true, false, _||_, not}
 use mathlib.Core.List.{List, _++_}
 use native.Mathlib.Omega.{arith}
 use lib.ListN.{length}
-use lib.Dec.{ltb}
-use borrow.Author.Tests.{eq-eqb, ne-eqb, lt-ltb, le-ltb}
+use lib.Dec.{eqb, ltb}
+use borrow.Author.Tests.{eq-eqb, ne-eqb, lt-ltb, le-ltb, not-false}
 use Rattle.rom.specs.declared.Layout.{Layout}
 use Rattle.rom.specs.Geometry.{leavesEnd}
 use Rattle.rom.specs.Bytes.{pick, isIn}
 use Rattle.rom.specs.Refusal.{firstMet}
 use Rattle.rom.proofs.First.{after-accepted, after-refused}
 use Rattle.rom.proofs.Reached.{reached, stop, skip}
-use Rattle.rom.proofs.Truth.{pick-true, pick-false}
+use Rattle.rom.proofs.Truth.{pick-true, pick-false, or-false}
 use Rattle.format.specs.Chips.{chips, rowOf}
 use Rattle.format.proofs.Lists.{in-place}
 use Rattle.header.specs.Image.{headerLength}
 use Rattle.reader.specs.declared.Answer.{Answer}
 use Rattle.reader.specs.Reading.{judgeCauses, judgeAnswer}
 use Rattle.reader.proofs.Readings.{answer-number}
+use Rattle.rom.specs.Store.{laid}
+use Rattle.rom.proofs.Put.{laid-whole}
 use Rattle.sheet.specs.Record.{Plain}
-use Rattle.sheet.specs.Sheet.{sheetFrom, isSheet}
+use Rattle.sheet.specs.declared.Form.{Form}
+use Rattle.sheet.specs.Form.{isBeyond, shifted, countIn}
+use Rattle.sheet.specs.Sheet.{plainFrom, sheetFrom, isSheet}
 use Rattle.sheet.specs.Image.{leafStart, encodes, leafOf, imageOf, newest}
-use Rattle.sheet.specs.Write.{anyBad, strayControl, cannotHold, wrongOutput, recordCauses, writeCauses, writeNumber, written}
+use Rattle.sheet.specs.Write.{anyBad, strayControl, cannotHold, tooManyBlocks, wrongOutput, recordCauses, writeCauses, writeNumber, written}
 use Rattle.sheet.proofs.Returns.{writer-order, record-numbered}
-use Rattle.writer.specs.Inside.{entryCauses}
+use Rattle.writer.specs.Inside.{entryCauses, Counted, Writable, issueNumber, issued}
 use Rattle.writer.proofs.Tests.{or-second}
-use Rattle.writer.proofs.Sheets.{leaf-length}
+use Rattle.writer.proofs.Sheets.{few, handed-on, leaf-length}
 
 -- ## 7, 25 and 26
 
@@ -72,44 +76,104 @@ module _ (l : Layout) (p : Plain) (row : ℕ) (er : row ≡ rowOf (p .chip)) whe
         or-none true b e = refl
         or-none false b e = e
 
+-- ## What a refusal leaves
+
+pub kept : (form : Form) (l : Layout) (s out : List ℕ) (n : ℕ) → n ≡ writeNumber form l s out → (n ≡ 0 → ⊥)
+    → (n ≡ writeNumber form l s out) × (out ≡ written form l s out)
+unfolding written
+kept form l s out n e z = (e, sym (pick-false _ _ _ (ne-eqb (writeNumber form l s out) 0 (λ h. z (e ∙ h)))))
+
 -- ## The whole list
 
-module _ (l : Layout) (s out : List ℕ) where
-  pub write-24 : isSheet s ≡ false → 24 ≡ writeNumber l s out
-  write-24 h = sym (writer-order l s out .0 h)
+module _ (form : Form) (l : Layout) (s out : List ℕ) where
+  pub write-24 : isSheet form s ≡ false → 24 ≡ writeNumber form l s out
+  write-24 h = sym (writer-order form l s out .0 h)
 
-  module _ (is : isSheet s ≡ true) where
-    pub write-1 : wrongOutput l (length out) ≡ true → 1 ≡ writeNumber l s out
-    write-1 h = sym (writer-order l s out .1 is .0 h)
+  pub write-33 : isSheet form s ≡ true → tooManyBlocks form s ≡ true → 33 ≡ writeNumber form l s out
+  write-33 is h = sym (writer-order form l s out .1 is .0 h)
 
-    module _ (e : wrongOutput l (length out) ≡ false) where
-      later : writeNumber l s out
-          ≡ firstMet (recordCauses l (sheetFrom s) ++ judgeCauses (imageOf l (sheetFrom s) out) (newest l (sheetFrom s .chip)))
-      unfolding writeNumber writeCauses firstMet
-      later =
-          pick-false (not (isSheet s)) _ _ (ap not is)
-          ∙ pick-false (wrongOutput l (length out)) _ _ e
+  pub write-1 : isSheet form s ≡ true → tooManyBlocks form s ≡ false → wrongOutput form l (length out) ≡ true → 1 ≡ writeNumber form l s out
+  write-1 is few h = sym (writer-order form l s out .1 is .1 few .0 h)
 
-      pub write-record : (n : ℕ) → n ≡ firstMet (recordCauses l (sheetFrom s)) → (n ≡ 0 → ⊥) → n ≡ writeNumber l s out
-      write-record n en z = sym (later ∙ after-refused (recordCauses l (sheetFrom s)) _ n z (sym en))
+-- a sheet past 24, 33 and 1, with the count and the part of it that the code hands on
+pub record Passed (form : Form) (l : Layout) (s out : List ℕ) (n : ℕ) (t : List ℕ) : Type 0 where
+  pub is : isSheet form s ≡ true
+  pub few : tooManyBlocks form s ≡ false
+  pub right : wrongOutput form l (length out) ≡ false
+  pub count : n ≡ countIn form s
+  pub part : t ≡ shifted form s
 
-      pub write-judged : (chip : ℕ) (image : List ℕ) (r : Answer) → firstMet (recordCauses l (sheetFrom s)) ≡ 0
-          → image ≡ imageOf l (sheetFrom s) out
-          → chip ≡ sheetFrom s .chip → r ≡ judgeAnswer image (newest l chip) → r .number ≡ writeNumber l s out
-      unfolding judgeAnswer
-      write-judged chip image r z ei ec er =
-          ap (λ (x : Answer). x .number) er ∙ answer-number (firstMet (judgeCauses image (newest l chip))) image (newest l chip)
-          ∙ ap₂ (λ (x : List ℕ) (c : ℕ). firstMet (judgeCauses x (newest l c))) ei ec
-          ∙ sym (later ∙ after-accepted (recordCauses l (sheetFrom s)) _ (record-numbered l (sheetFrom s)) z)
+-- as the code finds it
+pub passed : (form : Form) (l : Layout) (s out : List ℕ) {whole : Bool} → whole ≡ isSheet form s → not whole ≡ false
+    → {n : ℕ} → n ≡ countIn form s → n ≤ 255 → {wrong : Bool} → wrong ≡ wrongOutput form l (length out) → wrong ≡ false
+    → {t : List ℕ} → t ≡ shifted form s → Passed form l s out n t
+passed form l s out ew w en small er r et = record {
+  is = sym ew ∙ not-false _ w;
+  few = few form s _ en small;
+  right = sym er ∙ r;
+  count = en;
+  part = et;
+}
 
--- ## What a call leaves
+module _ {form : Form} {l : Layout} {s out : List ℕ} {n : ℕ} {t : List ℕ} (p : Passed form l s out n t) where
+  pub passed-counted : Counted n t
+  passed-counted = handed-on form s (p .is) (p .count) (p .part)
 
-pub kept : (l : Layout) (s out : List ℕ) (n : ℕ) → n ≡ writeNumber l s out → (n ≡ 0 → ⊥)
-    → (n ≡ writeNumber l s out) × (out ≡ written l s out)
-unfolding written
-kept l s out n e z = (e, sym (pick-false _ _ _ (ne-eqb (writeNumber l s out) 0 (λ h. z (e ∙ h)))))
+  pub passed-writable : firstMet (recordCauses l (plainFrom n t)) ≡ 0 → Writable l n t out
+  unfolding wrongOutput
+  passed-writable z =
+      record { is = passed-counted; right = or-false (isBeyond form (l .size)) _ (p .right) .1; number = z }
 
-pub copied : (l : Layout) (s out image : List ℕ) → 0 ≡ writeNumber l s out → image ≡ imageOf l (sheetFrom s) out
-    → (0 ≡ writeNumber l s out) × (image ≡ written l s out)
-unfolding written
-copied l s out image e i = (e, i ∙ sym (pick-true _ _ _ (eq-eqb (writeNumber l s out) 0 (sym e))))
+  later : writeNumber form l s out
+      ≡ firstMet (recordCauses l (sheetFrom form s)
+      ++ judgeCauses (imageOf l (sheetFrom form s) out) (newest l (sheetFrom form s .chip)))
+  unfolding writeNumber writeCauses firstMet
+  later =
+      pick-false (not (isSheet form s)) _ _ (ap not (p .is)) ∙ pick-false (tooManyBlocks form s) _ _ (p .few)
+      ∙ pick-false (wrongOutput form l (length out)) _ _ (p .right)
+
+  same : plainFrom n t ≡ sheetFrom form s
+  same = ap₂ plainFrom (p .count) (p .part)
+
+  pub write-record : (m : ℕ) → m ≡ firstMet (recordCauses l (plainFrom n t)) → (m ≡ 0 → ⊥)
+      → (m ≡ writeNumber form l s out) × (out ≡ written form l s out)
+  write-record m em z =
+      kept form l s out m
+      (sym (later ∙ after-refused (recordCauses l (sheetFrom form s)) _ m z
+      (sym (em ∙ ap (λ (q : Plain). firstMet (recordCauses l q)) same)))) z
+
+  -- the reader's number is left
+  pub write-issued : firstMet (recordCauses l (plainFrom n t)) ≡ 0 → {r : ℕ} {left : List ℕ}
+      → r ≡ issueNumber l (plainFrom n t) out → left ≡ issued l (plainFrom n t) out
+      → (r ≡ writeNumber form l s out) × (left ≡ written form l s out)
+  unfolding issueNumber issued written
+  write-issued z er el =
+      let number : issueNumber l (sheetFrom form s) out ≡ writeNumber form l s out
+      = sym (later ∙ after-accepted (recordCauses l (sheetFrom form s)) _ (record-numbered l (sheetFrom form s))
+      (ap (λ (q : Plain). firstMet (recordCauses l q)) (sym same) ∙ z)) in (
+        er ∙ ap (λ (q : Plain). issueNumber l q out) same ∙ number,
+        el ∙ ap (λ (q : Plain). issued l q out) same
+            ∙ ap (λ (k : ℕ). pick (eqb k 0) (imageOf l (sheetFrom form s) out) out) number,
+      )
+
+-- ## The built image judged
+
+module _ (l : Layout) (p : Plain) (out : List ℕ) {built : List ℕ} (eb : built ≡ imageOf l p out) {chip : ℕ} (ec : chip ≡ p .chip)
+    {r : Answer} (er : r ≡ judgeAnswer built (newest l chip)) where
+  number : r .number ≡ issueNumber l p out
+  unfolding judgeAnswer issueNumber
+  number =
+      ap (λ (x : Answer). x .number) er ∙ answer-number (firstMet (judgeCauses built (newest l chip))) built (newest l chip)
+      ∙ ap₂ (λ (x : List ℕ) (c : ℕ). firstMet (judgeCauses x (newest l c))) eb ec
+
+  pub issue-refused : (r .number ≡ 0 → ⊥) → (r .number ≡ issueNumber l p out) × (out ≡ issued l p out)
+  unfolding issued
+  issue-refused z = (number, sym (pick-false _ _ _ (ne-eqb (issueNumber l p out) 0 (λ e. z (number ∙ e)))))
+
+  pub issue-copied : r .number ≡ 0 → length built ≡ length out → {left : List ℕ} → left ≡ laid out 0 built
+      → (0 ≡ issueNumber l p out) × (left ≡ issued l p out)
+  unfolding issued
+  issue-copied z long el = (
+    sym z ∙ number,
+    el ∙ laid-whole out built long ∙ eb ∙ sym (pick-true _ _ _ (eq-eqb (issueNumber l p out) 0 (sym number ∙ z))),
+  )

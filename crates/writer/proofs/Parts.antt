@@ -1,11 +1,11 @@
 -- The first of some entries and the parts that are left, in the terms of the code. Assumes nothing.
-use Prim.Native.Nat.{ℕ, zero, suc, _+_, _-_, _≤_, _<_}
+use Prim.Native.Nat.{ℕ, zero, suc, _-_, _≤_, _<_}
 use mathlib.Core.Path.{_≡_, refl, sym, ap, ap₂, _∙_}
 use mathlib.Core.List.{List, [], _∷_}
 use native.Mathlib.Omega.{arith}
-use native.Mathlib.Numerals.{sub-one, add-one}
-use lib.ListN.{length, take, drop, length-drop, drop-of-length-le}
-use lib.Seq.{length-take-le, drop-cons}
+use native.Mathlib.Numerals.{sub-one}
+use lib.ListN.{length, take, drop, length-drop}
+use lib.Seq.{length-take-le}
 use Rattle.rom.specs.Bytes.{byteAt, wordAt}
 use Rattle.leaf.proofs.Cuts.{rest-part}
 use Rattle.sheet.specs.Lists.{sum}
@@ -75,11 +75,3 @@ module _ (n : ℕ) (ks ss bs : List ℕ) (kind size : ℕ) (h : 0 < n) (p : Part
       ∙ ap₂ (λ (k s : ℕ). entry k (take s bs) ∷ entriesFrom (n - 1) (drop 2 ks) (drop 1 ss) (drop (byteAt ss 0) bs)) (sym ek) (sym es)
 
 -- ## A sum, byte by byte
-
-pub sum-more : (s : List ℕ) (i : ℕ) → i < length s → sum (drop i s) ≡ byteAt s i + sum (drop (i + 1) s)
-unfolding sum
-sum-more s i h = rw (drop-cons s i 0, add-one)
-
-pub sum-none : (s : List ℕ) (i : ℕ) → length s ≤ i → sum (drop i s) ≡ 0
-unfolding sum
-sum-none s i h = rw (drop-of-length-le s {i = i} h)

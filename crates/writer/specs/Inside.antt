@@ -2,20 +2,22 @@
 use Prim.Native.Nat.{ℕ, _+_, _-_, _*_, _≤_}
 use mathlib.Core.Path.{_≡_}
 use mathlib.Core.List.{List, [], _∷_, _++_}
-use mathlib.Core.Bool.{true, false}
+use mathlib.Core.Bool.{false}
 use lib.ListN.{length, take, set, replicate}
-use lib.Dec.{ltb}
+use lib.Dec.{eqb, ltb}
 use Rattle.rom.specs.declared.Layout.{Layout}
-use Rattle.rom.specs.Geometry.{otherSize, imageLength, leavesEnd, checkedLength, idCrcAt}
+use Rattle.rom.specs.Geometry.{wrongLength, imageLength, leavesEnd, checkedLength, idCrcAt}
 use Rattle.rom.specs.Bytes.{pick}
 use Rattle.rom.specs.Store.{wordBytes, put}
 use Rattle.rom.specs.Refusal.{Cause, _⇒_, firstMet}
 use Rattle.format.specs.Chips.{rowOf}
 use Rattle.crc.specs.Crc.{sromCrc, idCrc}
+use Rattle.reader.specs.Reading.{judgeCauses}
 use Rattle.sheet.specs.Lists.{sum}
-use Rattle.sheet.specs.Record.{Entry}
-use Rattle.sheet.specs.Sheet.{entriesFrom, sheetFrom, isSheet}
-use Rattle.sheet.specs.Image.{leafStart, isWhole, encodes, leafOf}
+use Rattle.sheet.specs.Layout.{headLength}
+use Rattle.sheet.specs.Record.{Entry, Plain}
+use Rattle.sheet.specs.Sheet.{sizesIn, entriesFrom, plainFrom}
+use Rattle.sheet.specs.Image.{leafStart, isWhole, encodes, leafOf, imageOf, newest}
 use Rattle.sheet.specs.Write.{isBad, anyBad, recordCauses}
 
 -- ## Bytes laid into others
@@ -68,15 +70,36 @@ pub record Holds (room : List ℕ) (to n : ℕ) (kinds sizes bodies : List ℕ) 
   pub good : anyBad row (entriesFrom n kinds sizes bodies) ≡ false
   pub fits : to + length (encodes (entriesFrom n kinds sizes bodies)) ≤ length room
 
--- a sheet that passes 24, 7, 25 and 26, for an image of the smaller size
-pub record Writable (l : Layout) (s : List ℕ) : Type 0 where
-  pub is : isSheet s ≡ true
-  pub small : otherSize (l .size) ≡ false
-  pub number : firstMet (recordCauses l (sheetFrom s)) ≡ 0
+-- a sheet of n blocks, from where its places count as in a narrow one, whose length and sum are right
+pub record Counted (n : ℕ) (s : List ℕ) : Type 0 where
+  pub total : ℕ
+  pub long : length s ≡ headLength + 3 * n + total
+  pub sums : total ≡ sum (take n (sizesIn n s))
 
--- a sheet whose entries images of its chip hold, and room for its leaf
-pub record Roomy (s room : List ℕ) : Type 0 where
-  pub is : isSheet s ≡ true
-  pub good : anyBad (rowOf (sheetFrom s .chip)) (sheetFrom s .entries) ≡ false
+-- one that passes 7, 25 and 26, for an output of the right length
+pub record Writable (l : Layout) (n : ℕ) (s out : List ℕ) : Type 0 where
+  pub is : Counted n s
+  pub right : wrongLength (l .size) (length out) ≡ false
+  pub number : firstMet (recordCauses l (plainFrom n s)) ≡ 0
+
+-- one whose entries images of its chip hold, and room for its leaf
+pub record Roomy (n : ℕ) (s room : List ℕ) : Type 0 where
+  pub is : Counted n s
+  pub good : anyBad (rowOf (plainFrom n s .chip)) (plainFrom n s .entries) ≡ false
   pub head : 4 ≤ length room
-  pub fits : length (leafOf (sheetFrom s)) ≤ length room
+  pub fits : length (leafOf (plainFrom n s)) ≤ length room
+
+-- ## What stands before the entries
+
+-- the block count does not matter for it
+abbrev pub headIn : List ℕ → Plain
+headIn s = plainFrom 0 s
+
+-- ## What is written out
+
+-- the newest reader's number for controller 0 of a record's image, and an output after it
+unfoldable pub issueNumber : Layout → Plain → List ℕ → ℕ
+issueNumber l p out = firstMet (judgeCauses (imageOf l p out) (newest l (p .chip)))
+
+unfoldable pub issued : Layout → Plain → List ℕ → List ℕ
+issued l p out = pick (eqb (issueNumber l p out) 0) (imageOf l p out) out

@@ -2,38 +2,15 @@
 use block::KIND_21041;
 use block::KIND_COMPACT;
 use block::chip;
+use forms::count_at;
 use rom::ByteOffset;
 use rom::refusal;
 ghost use mathlib.Core.Path.{_≡_};
 ghost use Prim.Native.Nat.{_<_};
-ghost use lib.ListN.{length};
-ghost use Rattle.rom.specs.Bytes.{byteAt};
 ghost use Rattle.rom.specs.Refusal.{firstMet};
-ghost use Rattle.sheet.specs.Lists.{sum};
 ghost use Rattle.sheet.specs.Sheet.{entriesFrom};
 ghost use Rattle.sheet.specs.Write.{isOtherFamily, isBadBody, isBad};
 ghost use Rattle.writer.specs.Inside.{entry, Parts, openingSize, entryCauses};
-
-// A byte as a count, 0 past the end.
-pub(crate) fn count_at(bytes: &[u8], at: usize) -> usize
-    ensures { λ r. ⌜ (r ≡ byteAt (now (bytes .entry)) at) × (r < 256) ⌝ }
-{
-    rom::byte_at(bytes, ByteOffset(at)) as usize
-}
-
-// The sum of body sizes.
-pub(crate) fn sum_of(sizes: &[u8]) -> usize
-    requires { ⌜ length (now sizes) < 256 ⌝ }
-    ensures { λ r. ⌜ r ≡ sum (now (sizes .entry)) ⌝ }
-{
-    let mut total: usize = 0;
-    let mut i = 0;
-    while i < sizes.len() {
-        total += count_at(sizes, i);
-        i += 1;
-    }
-    total
-}
 
 // A 21041 has blocks of its own kind only, and no other chip has those.
 fn is_other_family(row: usize, kind: u16) -> bool

@@ -1,7 +1,7 @@
 // The leaf writer (document 01, 'Leaf and blocks'): it is lent the image from byte 30 on.
-use super::entries::count_at;
 use super::entries::opening_size;
 use block::chip;
+use forms::count_at;
 use rom::ByteOffset;
 use rom::store::put_bytes;
 use rom::store::put_word;
@@ -11,7 +11,7 @@ ghost use lib.ListN.{length};
 ghost use Rattle.rom.specs.Store.{put};
 ghost use Rattle.format.specs.Chips.{rowOf};
 ghost use Rattle.sheet.specs.Layout.{headLength};
-ghost use Rattle.sheet.specs.Sheet.{entriesFrom, sheetFrom};
+ghost use Rattle.sheet.specs.Sheet.{entriesFrom, plainFrom};
 ghost use Rattle.sheet.specs.Image.{openingOf, encode, encodes, leafHeadOf, leafOf};
 ghost use Rattle.writer.specs.Inside.{entry, Fits, Holds, Roomy};
 
@@ -72,39 +72,39 @@ fn put_entries(
 }
 
 // Writes the connection type, for the 21140 the control byte, and the block count.
-fn put_head(room: &mut [u8], row: usize, sheet: &[u8])
-    requires { ⌜ (row ≡ rowOf (sheetFrom (now sheet) .chip)) × (4 ≤ length (now room)) × (headLength ≤ length (now sheet)) ⌝ }
-    ensures { λ _. ⌜ now (room .exit) ≡ put (now (room .entry)) 0 (leafHeadOf (sheetFrom (now (sheet .entry)))) ⌝ }
+fn put_head(room: &mut [u8], row: usize, shifted: &[u8], blocks: u8)
+    requires { ⌜ (row ≡ rowOf (plainFrom blocks (now shifted) .chip)) × (4 ≤ length (now room)) × (headLength ≤ length (now shifted)) ⌝ }
+    ensures { λ _. ⌜ now (room .exit) ≡ put (now (room .entry)) 0 (leafHeadOf (plainFrom blocks (now (shifted .entry)))) ⌝ }
 {
     put_word(
         room,
         ByteOffset(0),
-        rom::word_at(sheet, ByteOffset(sheet::CONNECTION_AT)),
+        rom::word_at(shifted, ByteOffset(sheet::CONNECTION_AT)),
     );
     if row == chip::ROW_21140 {
-        room[2] = sheet[sheet::CONTROL_AT];
-        room[3] = sheet[sheet::COUNT_AT];
+        room[2] = shifted[sheet::CONTROL_AT];
+        room[3] = blocks;
         return;
     }
-    room[2] = sheet[sheet::COUNT_AT];
+    room[2] = blocks;
 }
 
-// Writes the leaf of a sheet at the room's front.
-pub(crate) fn put_leaf(room: &mut [u8], sheet: &[u8])
-    requires { ⌜ Roomy (now sheet) (now room) ⌝ }
-    ensures { λ _. ⌜ now (room .exit) ≡ put (now (room .entry)) 0 (leafOf (sheetFrom (now (sheet .entry)))) ⌝ }
+// Writes the leaf of a sheet of so many blocks at the room's front.
+pub(crate) fn put_leaf(room: &mut [u8], shifted: &[u8], blocks: u8)
+    requires { ⌜ Roomy blocks (now shifted) (now room) ⌝ }
+    ensures { λ _. ⌜ now (room .exit) ≡ put (now (room .entry)) 0 (leafOf (plainFrom blocks (now (shifted .entry)))) ⌝ }
 {
-    let row = chip::row_of(rom::word_at(sheet, ByteOffset(sheet::CHIP_AT)));
-    put_head(room, row, sheet);
-    let count = count_at(sheet, sheet::COUNT_AT);
+    let row = chip::row_of(rom::word_at(shifted, ByteOffset(sheet::CHIP_AT)));
+    put_head(room, row, shifted, blocks);
+    let count = blocks as usize;
     let sizes = sheet::HEAD_LENGTH + 2 * count;
     let bodies = sheet::HEAD_LENGTH + 3 * count;
     put_entries(
         room,
         header::header_length(row),
         count,
-        &sheet[sheet::HEAD_LENGTH..],
-        &sheet[sizes..],
-        &sheet[bodies..],
+        &shifted[sheet::HEAD_LENGTH..],
+        &shifted[sizes..],
+        &shifted[bodies..],
     );
 }

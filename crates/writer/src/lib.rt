@@ -9,18 +9,18 @@ use rom::Layout;
 use rom::refusal;
 use rom::store::put_bytes;
 use rom::store::put_word;
+use sheet::Form;
 ghost use mathlib.Core.Path.{_≡_};
-ghost use mathlib.Core.Bool.{true, false};
-ghost use mathlib.Core.List.{_++_};
-ghost use Prim.Native.Nat.{_-_, _≤_};
+ghost use mathlib.Core.Bool.{false};
+ghost use Prim.Native.Nat.{_≤_};
 ghost use lib.ListN.{length};
-ghost use Rattle.rom.specs.Geometry.{smallSize, otherSize, boardLength};
+ghost use Rattle.rom.specs.Geometry.{largeSize, wrongLength, imageLength};
 ghost use Rattle.rom.specs.Refusal.{firstMet};
 ghost use Rattle.sheet.specs.Layout.{headLength};
-ghost use Rattle.sheet.specs.Sheet.{isSheet, sheetFrom};
-ghost use Rattle.sheet.specs.Image.{leafStart, frontWith, boardOf, imageOf};
+ghost use Rattle.sheet.specs.Sheet.{plainFrom};
+ghost use Rattle.sheet.specs.Image.{frontWith, imageOf};
 ghost use Rattle.sheet.specs.Write.{strayControl, wrongOutput, recordCauses, writeNumber, written};
-ghost use Rattle.writer.specs.Inside.{Writable, zeros, frameOf, withIdCrc, withSromCrc};
+ghost use Rattle.writer.specs.Inside.{headIn, Counted, Writable, zeros, frameOf, withIdCrc, withSromCrc, issueNumber, issued};
 
 // Where ID byte 17 stands in an image, before the version.
 const LAST_ID_AT: usize = rom::ID_CRC_AT + 1;
@@ -29,21 +29,6 @@ const LAST_ID_AT: usize = rom::ID_CRC_AT + 1;
 const CONTROLLERS: u8 = 1;
 
 const LEAF_OFFSET_AT: usize = rom::CONTROLLERS_AT + 1;
-
-// Whether a sheet's length is right, and its total the sum of its body sizes.
-fn is_sheet(sheet: &[u8]) -> bool
-    ensures { λ r. ⌜ r ≡ isSheet (now (sheet .entry)) ⌝ }
-{
-    let count = entries::count_at(sheet, sheet::COUNT_AT);
-    let total = entries::count_at(sheet, sheet::TOTAL_AT);
-    if sheet.len() != sheet::HEAD_LENGTH + 3 * count + total {
-        return false;
-    }
-    let sizes = sheet::HEAD_LENGTH + 2 * count;
-    let bodies = sheet::HEAD_LENGTH + 3 * count;
-    let sum = entries::sum_of(&sheet[sizes..bodies]);
-    total == sum
-}
 
 // A control byte not 0 on a chip but the 21140.
 fn stray_control(row: usize, control: u8) -> bool
@@ -55,20 +40,21 @@ fn stray_control(row: usize, control: u8) -> bool
     control != 0
 }
 
-// Refusals 7, 25 and 26, from what the sheet means.
-fn record_refusal(sheet: &[u8], layout: Layout) -> u8
-    requires { ⌜ isSheet (now sheet) ≡ true ⌝ }
-    ensures { λ r. ⌜ r ≡ firstMet (recordCauses layout (sheetFrom (now (sheet .entry)))) ⌝ }
+// Refusals 7, 25 and 26, from what a sheet of so many blocks means. Here and below a sheet is handed on from where its places
+// count as in a narrow one.
+fn record_refusal(shifted: &[u8], blocks: u8, layout: Layout) -> u8
+    requires { ⌜ Counted blocks (now shifted) ⌝ }
+    ensures { λ r. ⌜ r ≡ firstMet (recordCauses layout (plainFrom blocks (now (shifted .entry)))) ⌝ }
 {
-    let row = chip::row_of(rom::word_at(sheet, ByteOffset(sheet::CHIP_AT)));
+    let row = chip::row_of(rom::word_at(shifted, ByteOffset(sheet::CHIP_AT)));
     if chip::CHIP_COUNT <= row {
         return refusal::CHIP;
     }
-    let stray = stray_control(row, rom::byte_at(sheet, ByteOffset(sheet::CONTROL_AT)));
+    let stray = stray_control(row, rom::byte_at(shifted, ByteOffset(sheet::CONTROL_AT)));
     if stray {
         return refusal::SHEET_ENTRY;
     }
-    let count = entries::count_at(sheet, sheet::COUNT_AT);
+    let count = blocks as usize;
     let sizes = sheet::HEAD_LENGTH + 2 * count;
     let bodies = sheet::HEAD_LENGTH + 3 * count;
     let start = sheet::LEAF_START + header::header_length(row);
@@ -77,143 +63,150 @@ fn record_refusal(sheet: &[u8], layout: Layout) -> u8
         row,
         start,
         count,
-        &sheet[sheet::HEAD_LENGTH..],
-        &sheet[sizes..],
-        &sheet[bodies..],
+        &shifted[sheet::HEAD_LENGTH..],
+        &shifted[sizes..],
+        &shifted[bodies..],
     )
 }
 
-fn blank() -> [u8; rom::SMALL_LENGTH]
-    ensures { λ r. ⌜ r ≡ zeros smallSize ⌝ }
-{
-    [0; rom::SMALL_LENGTH]
-}
-
 // What stands before the leaf, but for the ID CRC: one controller, and its leaf at 30.
-fn front(sheet: &[u8]) -> [u8; rom::SMALL_LENGTH]
-    requires { ⌜ headLength ≤ length (now sheet) ⌝ }
-    ensures { λ r. ⌜ r ≡ frontWith 0 (sheetFrom (now (sheet .entry))) ++ zeros (smallSize - leafStart) ⌝ }
+fn front(shifted: &[u8]) -> [u8; sheet::LEAF_START]
+    requires { ⌜ headLength ≤ length (now shifted) ⌝ }
+    ensures { λ r. ⌜ r ≡ frontWith 0 (headIn (now (shifted .entry))) ⌝ }
 {
-    let mut image = blank();
+    let mut bytes = [0; sheet::LEAF_START];
     put_bytes(
-        &mut image,
+        &mut bytes,
         ByteOffset(0),
-        &sheet[sheet::ID_AT..sheet::LAST_ID_AT],
+        &shifted[sheet::ID_AT..sheet::LAST_ID_AT],
     );
     put_bytes(
-        &mut image,
+        &mut bytes,
         ByteOffset(LAST_ID_AT),
-        &sheet[sheet::LAST_ID_AT..sheet::ADDRESS_AT],
+        &shifted[sheet::LAST_ID_AT..sheet::ADDRESS_AT],
     );
-    image[rom::CONTROLLER_COUNT_AT] = CONTROLLERS;
+    bytes[rom::CONTROLLER_COUNT_AT] = CONTROLLERS;
     put_bytes(
-        &mut image,
+        &mut bytes,
         ByteOffset(rom::ADDRESS_AT),
-        &sheet[sheet::ADDRESS_AT..sheet::CHIP_AT],
+        &shifted[sheet::ADDRESS_AT..sheet::CHIP_AT],
     );
     put_word(
-        &mut image,
+        &mut bytes,
         ByteOffset(LEAF_OFFSET_AT),
         sheet::LEAF_START as u16,
     );
-    image
+    bytes
 }
 
-// The board but for its leaf and CRCs.
-fn frame(sheet: &[u8], layout: Layout) -> [u8; rom::SMALL_LENGTH]
-    requires { ⌜ (headLength ≤ length (now sheet)) × (otherSize (layout .size) ≡ false) ⌝ }
-    ensures { λ r. ⌜ r ≡ frameOf layout (frontWith 0 (sheetFrom (now (sheet .entry)))) (sheetFrom (now (sheet .entry)) .maker) ⌝ }
+// Lays the board into zeros, but for its leaf and CRCs.
+fn put_frame(image: &mut [u8], shifted: &[u8], layout: Layout)
+    requires { ⌜ (headLength ≤ length (now shifted)) × (now image ≡ zeros (imageLength (layout .size))) ⌝ }
+    ensures { λ _. ⌜ now (image .exit) ≡
+        frameOf layout (frontWith 0 (headIn (now (shifted .entry)))) (headIn (now (shifted .entry)) .maker) ⌝ }
 {
-    let mut image = front(sheet);
+    put_bytes(image, ByteOffset(0), &front(shifted));
     put_bytes(
-        &mut image,
+        image,
         ByteOffset(layout.leaves_end()),
-        &sheet[sheet::MAKER_AT..sheet::HEAD_LENGTH],
+        &shifted[sheet::MAKER_AT..sheet::HEAD_LENGTH],
     );
-    image
 }
 
-// The image with its ID CRC.
-fn identify(image: [u8; rom::SMALL_LENGTH]) -> [u8; rom::SMALL_LENGTH]
-    ensures { λ r. ⌜ r ≡ withIdCrc image ⌝ }
+// Lays in the ID CRC.
+fn identify(image: &mut [u8], size: u16)
+    requires { ⌜ wrongLength size (length (now image)) ≡ false ⌝ }
+    ensures { λ _. ⌜ now (image .exit) ≡ withIdCrc (now (image .entry)) ⌝ }
 {
-    let checksum = crc::id_crc(&image, rom::SMALL_SIZE).value;
-    let mut whole = image;
-    whole[rom::ID_CRC_AT] = checksum as u8;
-    whole
+    let checksum = crc::id_crc(image, size).value;
+    image[rom::ID_CRC_AT] = checksum as u8;
 }
 
-// The image with its SROM CRC.
-fn seal(image: [u8; rom::SMALL_LENGTH], layout: Layout) -> [u8; rom::SMALL_LENGTH]
-    requires { ⌜ otherSize (layout .size) ≡ false ⌝ }
-    ensures { λ r. ⌜ r ≡ withSromCrc layout image ⌝ }
+// Lays in the SROM CRC.
+fn seal(image: &mut [u8], layout: Layout)
+    requires { ⌜ wrongLength (layout .size) (length (now image)) ≡ false ⌝ }
+    ensures { λ _. ⌜ now (image .exit) ≡ withSromCrc layout (now (image .entry)) ⌝ }
 {
-    let checksum = crc::srom_crc(&image, layout).value;
-    let mut whole = image;
-    put_word(&mut whole, ByteOffset(layout.checked_length()), checksum);
-    whole
+    let checksum = crc::srom_crc(image, layout).value;
+    put_word(image, ByteOffset(layout.checked_length()), checksum);
 }
 
-// The board of a sheet. The image from byte 30 on is lent to the leaf writer.
-fn board(sheet: &[u8], layout: Layout) -> [u8; rom::SMALL_LENGTH]
-    requires { ⌜ Writable layout (now sheet) ⌝ }
-    ensures { λ r. ⌜ r ≡ boardOf layout (sheetFrom (now (sheet .entry))) ++ zeros (smallSize - boardLength layout) ⌝ }
+// Lays the image of a sheet into zeros, with what an output holds behind the board: a Magic Packet block. The image from byte 30
+// on is lent to the leaf writer.
+fn build(image: &mut [u8], shifted: &[u8], blocks: u8, layout: Layout, output: &[u8])
+    requires { ⌜ Writable layout blocks (now shifted) (now output) × (now image ≡ zeros (imageLength (layout .size))) ⌝ }
+    ensures { λ _. ⌜ now (image .exit) ≡ imageOf layout (plainFrom blocks (now (shifted .entry))) (now (output .entry)) ⌝ }
 {
-    let mut image = identify(frame(sheet, layout));
-    leaf_writer::put_leaf(&mut image[sheet::LEAF_START..], sheet);
-    seal(image, layout)
-}
-
-// The image of a sheet, with what an output holds behind the board: a Magic Packet block.
-fn build(sheet: &[u8], layout: Layout, output: &[u8]) -> [u8; rom::SMALL_LENGTH]
-    requires { ⌜ Writable layout (now sheet) × (wrongOutput layout (length (now output)) ≡ false) ⌝ }
-    ensures { λ r. ⌜ r ≡ imageOf layout (sheetFrom (now (sheet .entry))) (now (output .entry)) ⌝ }
-{
-    let mut image = board(sheet, layout);
+    put_frame(image, shifted, layout);
+    identify(image, layout.size);
+    leaf_writer::put_leaf(&mut image[sheet::LEAF_START..], shifted, blocks);
+    seal(image, layout);
     let end = layout.board_length();
-    put_bytes(&mut image, ByteOffset(end), &output[end..]);
-    image
+    put_bytes(image, ByteOffset(end), &output[end..]);
 }
 
-// Whether sheets are not written to images of the stated size, or the output has another length.
-fn is_wrong_output(layout: Layout, length: usize) -> bool
-    ensures { λ r. ⌜ r ≡ wrongOutput layout length ⌝ }
+// Builds the image of a sheet in zeros, and writes it out where the newest reader, which judges it for controller 0, accepts it.
+fn issue(built: &mut [u8], shifted: &[u8], blocks: u8, layout: Layout, image: &mut [u8]) -> u8
+    requires { ⌜ Writable layout blocks (now shifted) (now image) × (now built ≡ zeros (imageLength (layout .size))) ⌝ }
+    ensures { λ r. ⌜ r ≡ issueNumber layout (plainFrom blocks (now (shifted .entry))) (now (image .entry)) ⌝ }
+    ensures { λ r. ⌜ now (image .exit) ≡ issued layout (plainFrom blocks (now (shifted .entry))) (now (image .entry)) ⌝ }
 {
-    if layout.size != rom::SMALL_SIZE {
+    build(built, shifted, blocks, layout, image);
+    let arguments = Arguments {
+        chip: rom::word_at(shifted, ByteOffset(sheet::CHIP_AT)),
+        controller: 0,
+        level: block::NEWEST_LEVEL,
+        layout,
+    };
+    let judged = reader::judge(built, arguments).number;
+    if judged != refusal::ACCEPTED {
+        return judged;
+    }
+    put_bytes(image, ByteOffset(0), built);
+    refusal::ACCEPTED
+}
+
+// Whether sheets of the form are not written to images of the stated size, or the output has another length.
+fn is_wrong_output(form: Form, layout: Layout, length: usize) -> bool
+    ensures { λ r. ⌜ r ≡ wrongOutput form layout length ⌝ }
+{
+    let beyond = forms::is_beyond(form, layout.size);
+    if beyond {
         return true;
     }
     rom::is_wrong_length(layout.size, length)
 }
 
+fn blank() -> [u8; rom::LARGE_LENGTH]
+    ensures { λ r. ⌜ r ≡ zeros largeSize ⌝ }
+{
+    [0; rom::LARGE_LENGTH]
+}
+
 // Writes the image of a sheet, or answers the first refusal and leaves the image as it was. Told of a Magic Packet block, it
 // keeps the image's own. The newest reader judges the image, for controller 0, before any of it is written out.
-pub fn write(sheet: &[u8], layout: Layout, image: &mut [u8]) -> u8
-    ensures { λ r. ⌜ r ≡ writeNumber layout (now (sheet .entry)) (now (image .entry)) ⌝ }
-    ensures { λ r. ⌜ now (image .exit) ≡ written layout (now (sheet .entry)) (now (image .entry)) ⌝ }
+pub fn write(sheet: &[u8], form: Form, layout: Layout, image: &mut [u8]) -> u8
+    ensures { λ r. ⌜ r ≡ writeNumber form layout (now (sheet .entry)) (now (image .entry)) ⌝ }
+    ensures { λ r. ⌜ now (image .exit) ≡ written form layout (now (sheet .entry)) (now (image .entry)) ⌝ }
 {
-    let whole = is_sheet(sheet);
+    let whole = forms::is_sheet(sheet, form);
     if !whole {
         return refusal::SHEET;
     }
-    let wrong = is_wrong_output(layout, image.len());
+    let count = forms::count_in(sheet, form);
+    if sheet::MOST_STATED < count {
+        return refusal::SHEET_TOO_LARGE;
+    }
+    let wrong = is_wrong_output(form, layout, image.len());
     if wrong {
         return refusal::IMAGE_LENGTH;
     }
-    let number = record_refusal(sheet, layout);
+    let blocks = count as u8;
+    let shifted = forms::shifted(sheet, form);
+    let number = record_refusal(shifted, blocks, layout);
     if number != refusal::ACCEPTED {
         return number;
     }
-    let built = build(sheet, layout, image);
-    let arguments = Arguments {
-        chip: rom::word_at(sheet, ByteOffset(sheet::CHIP_AT)),
-        controller: 0,
-        level: block::NEWEST_LEVEL,
-        layout,
-    };
-    let judged = reader::judge(&built, arguments).number;
-    if judged != refusal::ACCEPTED {
-        return judged;
-    }
-    put_bytes(image, ByteOffset(0), &built);
-    refusal::ACCEPTED
+    let mut room = blank();
+    issue(&mut room[..image.len()], shifted, blocks, layout, image)
 }

@@ -2,14 +2,15 @@
 //! over the same inputs: `cargo run --release -p bench`. With `only CALL SIDE PASSES` it prints nothing
 //! and makes one side's passes over the inputs of one call, for tools/instructions to count.
 
-use library::{Answer, Layout, Made, Magic, Walk};
+use library::{Answer, Form, Layout, Made, Magic, Walk};
 use second::crc;
 use second::images::block::{self, Phy};
 use second::images::{Card, Image, MagicBlock};
 use second::layout::{LARGE, SMALL};
 use second::random::Random;
 use second::reader::{self, Arguments, HIGHEST_COUNT};
-use second::{magic, sheet, walk};
+use second::sheet::{self, LONGEST_WIDE_SHEET};
+use second::{magic, walk};
 use std::{env, hint::black_box, time::Instant};
 
 const IMAGE_COUNT: usize = 1_000;
@@ -18,7 +19,7 @@ const ROUNDS: usize = 200;
 fn main() {
     if only().is_none() {
         println!(
-            "{:<15}{:>12}{:>12}{:>8}",
+            "{:<19}{:>12}{:>12}{:>8}",
             "call", "library ns", "second ns", "ratio"
         );
     }
@@ -43,11 +44,7 @@ fn main() {
     contest_reading("longest", newest_21041, &longest);
     contest_reading("magic", newest.laid_out(Layout::MAGIC), &waking);
     contest_reading("power", newest, &powered);
-    let tidy = images(|random| {
-        let mut card = typical_card();
-        card.private[..18].copy_from_slice(&random.bytes::<18>());
-        card
-    });
+    let tidy = images(tidy_card);
     let fixed = images(|random| Card {
         private: random.row(SMALL.into()),
         ..fixed_card()
@@ -56,21 +53,24 @@ fn main() {
     contest_walking("typical", newest, &tidy);
     contest_walking("longest", newest_21041, &longest);
     contest_walking("fixed", newest, &fixed);
-    contest_sheets("typical", 21143, &tidy);
-    contest_sheets("longest", 21041, &longest);
+    let narrow = (Form::Narrow, Layout::PLAIN);
+    contest_sheets("typical", 21143, narrow, &tidy);
+    contest_sheets("longest", 21041, narrow, &longest);
     // How the cost of making grows with the blocks.
     for count in [10, 20, 40] {
         let leaf = images(|random| Card::one_byte_blocks(random, count));
-        contest_making(&count.to_string(), 21041, &leaf);
+        contest_making(&count.to_string(), 21041, narrow, &leaf);
     }
+    contest_wide_sheets(&tidy);
+    contest_converting(&tidy);
     // How the cost of the others does in a ROM of the larger size, up to the most.
     let newest_large = newest_21041.laid_out(Layout::LARGE_PLAIN);
     for count in [10, 50, 100, 255] {
         let name = format!("{LARGE} {count}");
-        if only().is_some_and(|(call, ..)| !call.ends_with(&name)) {
+        if !is_asked(&["read", "view", "load", "look"], &name) {
             continue;
         }
-        let leaf = images(|random| Card::one_byte_blocks(random, count).sized(LARGE));
+        let leaf = large_leaf(count);
         contest_reading(&name, newest_large, &leaf);
         contest_walking(&name, newest_large, &leaf);
     }
@@ -92,6 +92,13 @@ fn typical_card() -> Card {
         block::reset(&[0x0821, 0x0001]),
     ];
     Card::tidy(21143, 0x0800, blocks)
+}
+
+/// The same in a card whose private bytes are those of the ID block alone.
+fn tidy_card(random: &mut Random) -> Card {
+    let mut card = typical_card();
+    card.private[..18].copy_from_slice(&random.bytes::<18>());
+    card
 }
 
 /// A leaf as a newer 21143 board has it: the media of the typical one, and two power blocks.
@@ -242,47 +249,132 @@ fn settled(image: &[u8], arguments: Arguments) -> Walk {
     walked.walk
 }
 
+/// The form of a sheet, and the layout of its image.
+type Served = (Form, Layout);
+
+/// What is timed of sheets and images.
+const SHEET_CALLS: [&str; 2] = ["write", "make"];
+
 /// Making the sheets of tidy images, and writing them.
-fn contest_sheets(leaf: &str, chip: u16, images: &[Image]) {
-    let sheet = |image: &Image| {
-        let mut buffer = [0; 500];
-        let made = sheet::make(image, chip, Layout::PLAIN, &mut buffer);
-        assert_eq!(made.number, 0, "the {leaf} leaf is tidy");
-        buffer[..made.length].to_vec()
-    };
-    let sheets: Vec<_> = images.iter().map(sheet).collect();
+fn contest_sheets(leaf: &str, chip: u16, served: Served, images: &[Image]) {
+    if !is_asked(&SHEET_CALLS, leaf) {
+        return;
+    }
     contest(
         &format!("write {leaf}"),
-        &sheets,
-        writing(library::write),
-        writing(sheet::fast::write),
+        &sheets(chip, served, images),
+        writing(served, library::write),
+        writing(served, sheet::fast::write),
     );
-    contest_making(leaf, chip, images);
+    contest_making(leaf, chip, served, images);
 }
 
 /// Making the sheets of tidy images.
-fn contest_making(leaf: &str, chip: u16, images: &[Image]) {
+fn contest_making(leaf: &str, chip: u16, served: Served, images: &[Image]) {
     contest(
         &format!("make {leaf}"),
         images,
-        making(chip, library::make_sheet),
-        making(chip, sheet::fast::make),
+        making(chip, served, library::make_sheet),
+        making(chip, served, sheet::fast::make),
     );
 }
 
+/// The same of wide sheets: of the typical leaf in both sizes, and how their cost grows with the blocks
+/// in the larger one, up to the most.
+fn contest_wide_sheets(tidy: &[Image]) {
+    contest_sheets("wide", 21143, (Form::Wide, Layout::PLAIN), tidy);
+    let large = (Form::Wide, Layout::LARGE_PLAIN);
+    if is_asked(&SHEET_CALLS, "wide 512") {
+        let leaf = images(|random| tidy_card(random).sized(LARGE));
+        contest_sheets("wide 512", 21143, large, &leaf);
+    }
+    for count in [5, 50, 100, 200, 255] {
+        let name = format!("wide 512 {count}");
+        if is_asked(&SHEET_CALLS, &name) {
+            contest_sheets(&name, 21041, large, &large_leaf(count));
+        }
+    }
+}
+
+/// Widening and narrowing the sheets of the typical leaf, and of so many blocks up to the most that a
+/// narrow sheet has.
+fn contest_converting(tidy: &[Image]) {
+    let calls = ["widen", "narrow"];
+    if is_asked(&calls, "typical") {
+        let small = (Form::Wide, Layout::PLAIN);
+        contest_conversions("typical", &sheets(21143, small, tidy));
+    }
+    for count in [50, 100, 200, 255] {
+        let name = count.to_string();
+        if is_asked(&calls, &name) {
+            let large = (Form::Wide, Layout::LARGE_PLAIN);
+            contest_conversions(&name, &sheets(21041, large, &large_leaf(count)));
+        }
+    }
+}
+
+/// Leaves of so many blocks of one byte, in the larger size.
+fn large_leaf(count: usize) -> Vec<Image> {
+    images(|random| Card::one_byte_blocks(random, count).sized(LARGE))
+}
+
+/// Widening these wide sheets when they are narrow, and narrowing them.
+fn contest_conversions(leaf: &str, wide: &[Vec<u8>]) {
+    let narrowed = |sheet: &Vec<u8>| {
+        let mut buffer = [0; LONGEST_WIDE_SHEET];
+        let made = sheet::narrow(sheet, &mut buffer);
+        assert_eq!(made.number, 0, "the {leaf} sheet can be narrowed");
+        buffer[..made.length].to_vec()
+    };
+    let narrow: Vec<_> = wide.iter().map(narrowed).collect();
+    contest(
+        &format!("widen {leaf}"),
+        &narrow,
+        converting(library::widen),
+        converting(sheet::fast::widen),
+    );
+    contest(
+        &format!("narrow {leaf}"),
+        wide,
+        converting(library::narrow),
+        converting(sheet::fast::narrow),
+    );
+}
+
+/// The sheets of tidy images.
+fn sheets(chip: u16, (form, layout): Served, images: &[Image]) -> Vec<Vec<u8>> {
+    let sheet = |image: &Image| {
+        let mut buffer = [0; LONGEST_WIDE_SHEET];
+        let made = sheet::make(image, chip, form, layout, &mut buffer);
+        assert_eq!(made.number, 0, "the leaf is tidy");
+        buffer[..made.length].to_vec()
+    };
+    images.iter().map(sheet).collect()
+}
+
 /// A call with an image of its own.
-fn writing(write: impl Fn(&[u8], Layout, &mut [u8]) -> u8) -> impl FnMut(&[u8]) -> u8 {
-    let mut image = [0; SMALL as usize];
-    move |sheet| write(sheet, Layout::PLAIN, black_box(&mut image))
+fn writing(
+    (form, layout): Served,
+    write: impl Fn(&[u8], Form, Layout, &mut [u8]) -> u8,
+) -> impl FnMut(&[u8]) -> u8 {
+    let mut image = vec![0; layout.size.into()];
+    move |sheet| write(sheet, form, layout, black_box(&mut image))
 }
 
 /// A call with a buffer of its own.
 fn making(
     chip: u16,
-    make: impl Fn(&[u8], u16, Layout, &mut [u8]) -> Made,
+    (form, layout): Served,
+    make: impl Fn(&[u8], u16, Form, Layout, &mut [u8]) -> Made,
 ) -> impl FnMut(&[u8]) -> Made {
-    let mut buffer = [0; 500];
-    move |image| make(image, chip, Layout::PLAIN, black_box(&mut buffer))
+    let mut buffer = [0; LONGEST_WIDE_SHEET];
+    move |image| make(image, chip, form, layout, black_box(&mut buffer))
+}
+
+/// The same of a conversion.
+fn converting(convert: impl Fn(&[u8], &mut [u8]) -> Made) -> impl FnMut(&[u8]) -> Made {
+    let mut buffer = [0; LONGEST_WIDE_SHEET];
+    move |sheet| convert(sheet, black_box(&mut buffer))
 }
 
 /// A call with arrays of its own.
@@ -303,6 +395,12 @@ fn only() -> Option<(String, String, usize)> {
         }
         _ => None,
     }
+}
+
+/// Whether the arguments name one of these calls over a leaf, or none.
+fn is_asked(calls: &[&str], leaf: &str) -> bool {
+    let is_it = |named: String| calls.iter().any(|call| named == format!("{call} {leaf}"));
+    only().is_none_or(|(named, ..)| is_it(named))
 }
 
 /// Prints a line of the table: the best of the rounds for each side, which take turns.
@@ -327,7 +425,7 @@ fn contest<A, B>(
         second_best = second_best.min(nanoseconds(inputs, &mut second));
     }
     let ratio = library_best / second_best;
-    println!("{call:<15}{library_best:>12.1}{second_best:>12.1}{ratio:>8.2}");
+    println!("{call:<19}{library_best:>12.1}{second_best:>12.1}{ratio:>8.2}");
 }
 
 /// The mean time of one call in one pass over the inputs.

@@ -1,7 +1,10 @@
 //! The bench tool `./card`, run from the root of the repository.
 
-use second::layout::{Layout, SIZES, SMALL};
-use second::reader::{Arguments, EXTENDED, POWER, starts};
+use second::crc::{magic_crc, srom_crc};
+use second::layout::{LARGE, Layout, SIZES, SMALL, magic_offset};
+use second::magic::{CRC_OFFSET, LAST_RESERVED, RESERVED};
+use second::reader::{Arguments, EXTENDED, POWER, controller_offset, first_leaf, starts};
+use second::sheet::Form;
 use std::fs;
 use std::ops::Range;
 use std::path::{Path, PathBuf};
@@ -12,6 +15,26 @@ use std::process::Command;
 pub struct Run {
     pub written: String,
     pub status: i32,
+}
+
+impl Run {
+    /// What a refused call says, and that it leaves no file.
+    pub fn assert_refused(&self, number: u8, out: &Path) {
+        let refused = format!("REFUSED {number}: ");
+        let Run { written, status } = self;
+        assert!(written.starts_with(&refused), "{number}\n{written}");
+        assert_eq!(*status, 1, "{written}");
+        assert!(!out.exists(), "{}", out.display());
+    }
+
+    /// What is said first of a file that is written, and what it holds.
+    pub fn assert_written(&self, out: &Path, bytes: &[u8]) {
+        let accepted = format!("ACCEPTED  {} bytes are written\n", bytes.len());
+        let Run { written, status } = self;
+        assert!(written.starts_with(&accepted), "{written}");
+        assert_eq!(*status, 0, "{written}");
+        assert_eq!(fs::read(out).unwrap(), bytes, "{}", out.display());
+    }
 }
 
 pub fn root() -> PathBuf {
@@ -90,6 +113,60 @@ pub fn card(words: &str) -> Run {
     shell(&format!("./card {words}"), Path::new("/nowhere"))
 }
 
+/// What is shown of a refusal that the layout has a say in, and of the CRC and the reserved bytes of the
+/// Magic Packet block.
+pub fn reasons(image: &[u8], layout: Layout, number: u8) -> Vec<String> {
+    if number == 1 {
+        let length = image.len();
+        return vec![format!(
+            "the image has {length} bytes; a ROM has {SMALL} or {LARGE}"
+        )];
+    }
+    let leaf_limit = layout.leaf_limit();
+    let magic = magic_offset(layout.size);
+    match number {
+        3 => {
+            let at = layout.srom_crc_offset();
+            let stored = u16::from_le_bytes([image[at], image[at + 1]]);
+            let computed = srom_crc(image, layout).value;
+            let (high, last) = (at + 1, at - 1);
+            vec![format!(
+                "SROM CRC, bytes {at} and {high}: 0x{stored:04x} stored, 0x{computed:04x} of bytes 0 to {last}"
+            )]
+        }
+        5 | 6 => {
+            let most = layout.most_controllers();
+            let count = image[19];
+            let at = controller_offset(count.into());
+            let reserved = image.get(at).unwrap_or(&0);
+            vec![format!(
+                "controller count (1 to {most}), byte 19: {count}; reserved byte (0), byte {at}: 0x{reserved:02x}"
+            )]
+        }
+        10 => {
+            let least = first_leaf(image[19].into());
+            vec![format!(
+                "a leaf of this card starts at byte {least} or later, and ends before byte {leaf_limit}"
+            )]
+        }
+        13 => vec![format!("leaves end before byte {leaf_limit}")],
+        29 => {
+            let at = magic + CRC_OFFSET;
+            let (stored, computed) = (image[at], magic_crc(image, layout.size).value);
+            vec![format!(
+                "Magic CRC, byte {at}: 0x{stored:02x} stored, 0x{computed:02x} of the block's other bytes"
+            )]
+        }
+        30 => RESERVED
+            .chain([LAST_RESERVED])
+            .map(|inside| magic + inside)
+            .filter(|&at| image[at] != 0)
+            .map(|at| format!("reserved byte, byte {at}: 0x{:02x}", image[at]))
+            .collect(),
+        _ => vec![],
+    }
+}
+
 /// The fixed connection types by their names in 000 ('Selected Connection Type'), but without '(Twisted Pair)', '(Symbol
 /// Scrambler)' and '(Fiber)', and with 'full duplex' for 'Full_Duplex' and 'link pass' for 'Link Pass'.
 const FIXED_NAMES: [(u16, &str); 18] = [
@@ -160,42 +237,88 @@ pub fn temporary(name: &str) -> PathBuf {
 }
 
 /// The sample images: each file's name, the newest reader's arguments for its chip and layout, and its
-/// bytes, as samples/README.md lists them. Each row names a file, and each image has one row.
+/// bytes, as samples/README.md lists them.
 pub fn samples() -> Vec<(String, Arguments, Vec<u8>)> {
-    let folder = root().join("samples");
-    let readme = fs::read_to_string(folder.join("README.md")).unwrap();
-    let sample = |row: &str| {
-        let mut cells = row.split(" | ").map(|cell| cell.trim_start_matches("| "));
-        let name = cells.next().unwrap().to_string();
-        let chip = cells.next().and_then(|chip| chip.parse().ok());
-        let chip = chip.unwrap_or_else(|| panic!("samples/README.md has no chip in: {row}"));
-        let layout = match cells.next() {
-            Some("128 plain") => Layout::PLAIN,
-            Some("128 magic") => Layout::MAGIC,
-            Some("512 plain") => Layout::LARGE_PLAIN,
-            Some("512 magic") => Layout::LARGE_MAGIC,
-            _ => panic!("samples/README.md has no layout in: {row}"),
+    let image = |row: Row| {
+        let [chip, layout, ..] = row.cells.as_slice() else {
+            panic!("samples/README.md has no chip and layout for {}", row.name);
         };
-        let arguments = Arguments::newest(chip).laid_out(layout);
-        let image = fs::read(folder.join(&name));
-        let image = image.unwrap_or_else(|error| panic!("samples/{name}: {error}"));
-        (name, arguments, image)
+        let arguments = Arguments::newest(chip.parse().unwrap()).laid_out(layout_named(layout));
+        (row.name, arguments, row.bytes)
     };
-    // The first row has the titles.
-    let rows = readme.lines().filter(|line| line.starts_with("| ")).skip(1);
-    let samples: Vec<_> = rows.map(sample).collect();
-    let mut names: Vec<_> = samples.iter().map(|(name, ..)| name.clone()).collect();
-    names.sort();
-    assert_eq!(images(&folder), names, "samples/README.md has other rows");
-    samples
+    rows(".rom").into_iter().map(image).collect()
 }
 
-/// The names of a folder's images, sorted.
-fn images(folder: &Path) -> Vec<String> {
+/// The sample sheets: each file's name, its form, the layout that it is written in, and its bytes.
+pub fn sample_sheets() -> Vec<(String, Form, Layout, Vec<u8>)> {
+    let sheet = |row: Row| {
+        let [_, form, layout, ..] = row.cells.as_slice() else {
+            panic!("samples/README.md has no form and layout for {}", row.name);
+        };
+        let form = match form.as_str() {
+            "narrow" => Form::Narrow,
+            "wide" => Form::Wide,
+            _ => panic!("samples/README.md has no form for {}", row.name),
+        };
+        (row.name, form, layout_named(layout), row.bytes)
+    };
+    rows(".sheet").into_iter().map(sheet).collect()
+}
+
+fn layout_named(name: &str) -> Layout {
+    match name {
+        "128 plain" => Layout::PLAIN,
+        "128 magic" => Layout::MAGIC,
+        "512 plain" => Layout::LARGE_PLAIN,
+        "512 magic" => Layout::LARGE_MAGIC,
+        _ => panic!("samples/README.md has a layout {name}"),
+    }
+}
+
+/// A row of samples/README.md: the file's name, the cells behind it, and the file's bytes.
+struct Row {
+    name: String,
+    cells: Vec<String>,
+    bytes: Vec<u8>,
+}
+
+/// The rows of the files whose names end so. Each row names a file, and each such file has one row.
+fn rows(ending: &str) -> Vec<Row> {
+    let folder = root().join("samples");
+    let readme = fs::read_to_string(folder.join("README.md")).unwrap();
+    let row = |line: &str| {
+        let cells = line.split(" | ").map(|cell| cell.trim_start_matches("| "));
+        let mut cells = cells.map(str::to_string);
+        let name = cells.next().unwrap();
+        let bytes = fs::read(folder.join(&name));
+        let bytes = bytes.unwrap_or_else(|error| panic!("samples/{name}: {error}"));
+        Row {
+            name,
+            cells: cells.collect(),
+            bytes,
+        }
+    };
+    let is_named = |line: &&str| {
+        let name = line.strip_prefix("| ").and_then(|it| it.split(' ').next());
+        name.is_some_and(|name| name.ends_with(ending))
+    };
+    let rows: Vec<_> = readme.lines().filter(is_named).map(row).collect();
+    let mut names: Vec<_> = rows.iter().map(|row| row.name.clone()).collect();
+    names.sort();
+    assert_eq!(
+        files(&folder, ending),
+        names,
+        "samples/README.md has other rows"
+    );
+    rows
+}
+
+/// The names of a folder's files that end so, sorted.
+fn files(folder: &Path, ending: &str) -> Vec<String> {
     let names = fs::read_dir(folder).unwrap();
     let mut names: Vec<_> = names
         .map(|entry| entry.unwrap().file_name().into_string().unwrap())
-        .filter(|name| name.ends_with(".rom"))
+        .filter(|name| name.ends_with(ending))
         .collect();
     names.sort();
     names

@@ -1,23 +1,21 @@
 //! What the bench tool says of a card, held to the second implementation.
 
 use card::{
-    PowerBlock, Run, asked, card, fixed_name, options, power_blocks, samples, size_by_length,
+    PowerBlock, asked, card, fixed_name, options, power_blocks, reasons, samples, size_by_length,
     temporary, words,
 };
-use second::crc::{lay_srom_crc, magic_crc, srom_crc};
-use second::images::{Card, MagicBlock, Sample, WRONG_SIZES, block};
-use second::layout::{LARGE, LAYOUTS, Layout, SHEET_LAYOUTS, SIZES, SMALL, magic_offset};
-use second::magic::{CRC_OFFSET, LAST_RESERVED, Magic, RESERVED, read_magic, write_magic};
+use second::crc::{lay_srom_crc, srom_crc};
+use second::images::{Card, Sample, WRONG_SIZES, block};
+use second::layout::{LAYOUTS, Layout, SIZES, SMALL};
+use second::magic::{Magic, read_magic, write_magic};
 use second::random::Random;
 use second::reader::{
     Answer, Arguments, CHIPS, COMPACT, MEDIA_21041, NEWEST_LEVEL, NO_DEFAULT, connections,
-    controller_offset, first_leaf, header_size, read_all, starts,
+    controller_offset, header_size, read_all, starts,
 };
-use second::sheet;
 use second::walk::{Autosense, NONE, Way};
 use std::collections::{BTreeMap, BTreeSet};
 use std::fs;
-use std::path::Path;
 
 fn kind_words(kind: u16) -> String {
     match kind {
@@ -79,60 +77,6 @@ fn shared_modes(image: &[u8], arguments: Arguments) -> Vec<String> {
     let shared: u8 = (0..8).map(|bit| 1 << bit).filter(is_shared).sum();
     let sharing = blocks.iter().filter(|it| it.mode & shared != 0);
     sharing.map(|it| modes(it, it.mode & shared)).collect()
-}
-
-/// What is shown of a refusal that the layout has a say in, and of the CRC and the reserved bytes of the
-/// Magic Packet block.
-fn reasons(image: &[u8], layout: Layout, number: u8) -> Vec<String> {
-    if number == 1 {
-        let length = image.len();
-        return vec![format!(
-            "the image has {length} bytes; a ROM has {SMALL} or {LARGE}"
-        )];
-    }
-    let leaf_limit = layout.leaf_limit();
-    let magic = magic_offset(layout.size);
-    match number {
-        3 => {
-            let at = layout.srom_crc_offset();
-            let stored = u16::from_le_bytes([image[at], image[at + 1]]);
-            let computed = srom_crc(image, layout).value;
-            let (high, last) = (at + 1, at - 1);
-            vec![format!(
-                "SROM CRC, bytes {at} and {high}: 0x{stored:04x} stored, 0x{computed:04x} of bytes 0 to {last}"
-            )]
-        }
-        5 | 6 => {
-            let most = layout.most_controllers();
-            let count = image[19];
-            let at = controller_offset(count.into());
-            let reserved = image.get(at).unwrap_or(&0);
-            vec![format!(
-                "controller count (1 to {most}), byte 19: {count}; reserved byte (0), byte {at}: 0x{reserved:02x}"
-            )]
-        }
-        10 => {
-            let least = first_leaf(image[19].into());
-            vec![format!(
-                "a leaf of this card starts at byte {least} or later, and ends before byte {leaf_limit}"
-            )]
-        }
-        13 => vec![format!("leaves end before byte {leaf_limit}")],
-        29 => {
-            let at = magic + CRC_OFFSET;
-            let (stored, computed) = (image[at], magic_crc(image, layout.size).value);
-            vec![format!(
-                "Magic CRC, byte {at}: 0x{stored:02x} stored, 0x{computed:02x} of the block's other bytes"
-            )]
-        }
-        30 => RESERVED
-            .chain([LAST_RESERVED])
-            .map(|inside| magic + inside)
-            .filter(|&at| image[at] != 0)
-            .map(|at| format!("reserved byte, byte {at}: 0x{:02x}", image[at]))
-            .collect(),
-        _ => vec![],
-    }
 }
 
 /// What the lines of `reasons` begin with, and that about another layout.
@@ -358,8 +302,8 @@ fn random_cards() {
     }
 }
 
-/// Every command that shows the verdict of a reading says where another layout would accept; but `sheet` of no other size, since
-/// "Sheets and their writer keep to 128 bytes".
+/// Every command that shows the verdict of a reading says where another layout would accept; but a narrow `sheet` of no other
+/// size, since "the old form gets 1 for any but 128 bytes".
 #[test]
 fn other_layout() {
     let folder = temporary("other_layout");
@@ -389,6 +333,10 @@ fn other_layout() {
                 (
                     format!("sheet samples/{name} {chip} {out} --force{options}"),
                     of_sheet,
+                ),
+                (
+                    format!("sheet samples/{name} {chip} {out} --wide --force{options}"),
+                    line.as_ref(),
                 ),
                 (
                     format!("map samples/{name} {chip} {out} --force{options}"),
@@ -499,155 +447,6 @@ fn named_modes() {
     assert!(named.len() > 10 && most > Some(2), "{named:?}");
 }
 
-/// The sheet of every sample in every layout, and the image of that sheet, with the sample's own block
-/// where it has one: the second implementation's bytes, or no file.
-#[test]
-fn sheets() {
-    let folder = temporary("sheets");
-    let mut counts = [0, 0];
-    for (name, own, image) in samples() {
-        for layout in LAYOUTS {
-            let made = folder.join(&name).with_extension("sheet");
-            let written = folder.join(&name);
-            let is_made = is_sheet_made(&name, &image, own.laid_out(layout), &made, &written);
-            counts[usize::from(layout.magic)] += usize::from(is_made);
-        }
-    }
-    assert!(
-        counts[0] >= 10 && counts[1] >= 1,
-        "{counts:?} samples have a sheet"
-    );
-}
-
-/// Whether a sample has a sheet; it is written, and so is its image, over what was there.
-fn is_sheet_made(
-    name: &str,
-    image: &[u8],
-    arguments: Arguments,
-    made: &Path,
-    written: &Path,
-) -> bool {
-    let Arguments { chip, layout, .. } = arguments;
-    let _ = fs::remove_file(made);
-    let options = options(layout, image);
-    let words = format!("samples/{name} {chip} {}{options}", made.display());
-    let run = card(&format!("sheet {words}"));
-    let mut buffer = [0; 1024];
-    let answer = sheet::make(image, chip, layout, &mut buffer);
-    if answer.number != 0 {
-        assert_refused(&run, answer.number, made);
-        let is_told = run.written.contains(&keeps_to(image));
-        assert_eq!(is_told, answer.number == 1, "{}", run.written);
-        return false;
-    }
-    let bytes = &buffer[..answer.length];
-    assert_written(&run, made, bytes);
-    let from = if layout.magic {
-        format!(" --magic samples/{name}")
-    } else {
-        String::new()
-    };
-    let words = format!("{} {} --force{from}", made.display(), written.display());
-    let run = card(&format!("write {words}"));
-    let mut output = if layout.magic {
-        image.to_vec()
-    } else {
-        vec![0; SMALL.into()]
-    };
-    assert_eq!(sheet::write(bytes, layout, &mut output), 0, "{name}");
-    assert_written(&run, written, &output);
-    true
-}
-
-/// What is shown of an image that has no sheet for its length.
-fn keeps_to(image: &[u8]) -> String {
-    let length = image.len();
-    format!("  the image has {length} bytes; sheets keep to size {SMALL}\n")
-}
-
-/// A byte behind the leaf that is not 0, the last before the maker's bytes: a sheet would lose it.
-#[test]
-fn untidy_images() {
-    let folder = temporary("untidy_images");
-    let (file, out) = (folder.join("card.rom"), folder.join("card.sheet"));
-    for layout in SHEET_LAYOUTS {
-        let mut made = Card::tidy(21143, 0x0800, vec![]);
-        made.magic = MagicBlock::of_layout(&mut Random::new(1), layout);
-        let limit = layout.leaf_limit();
-        made.private[limit - 1] = 1;
-        let image = made.image();
-        fs::write(&file, &image).unwrap();
-        let (file, words) = (file.display(), out.display());
-        let options = options(layout, &image);
-        let run = card(&format!("sheet {file} 21143 {words}{options}"));
-        assert_refused(&run, 27, &out);
-        let line = format!("  a byte behind the leaf's last, before byte {limit}, is not 0");
-        assert_eq!(run.written.lines().nth(1), Some(&*line));
-    }
-}
-
-/// What a refused call says, and that it leaves no file.
-fn assert_refused(run: &Run, number: u8, out: &Path) {
-    let refused = format!("REFUSED {number}: ");
-    assert!(
-        run.written.starts_with(&refused),
-        "{number}\n{}",
-        run.written
-    );
-    assert_eq!(run.status, 1, "{}", run.written);
-    assert!(!out.exists(), "{}", out.display());
-}
-
-/// What is said first of a file that is written, and what it holds.
-fn assert_written(run: &Run, out: &Path, bytes: &[u8]) {
-    let accepted = format!("ACCEPTED  {} bytes are written\n", bytes.len());
-    assert!(run.written.starts_with(&accepted), "{}", run.written);
-    assert_eq!(run.status, 0, "{}", run.written);
-    assert_eq!(fs::read(out).unwrap(), bytes, "{}", out.display());
-}
-
-/// A sheet written beside each sample's block: "the writer, told of the block, keeps bytes 96 to 127,
-/// judged with the rest", also where those are refused, or the image has another length.
-#[test]
-fn kept_blocks() {
-    let folder = temporary("kept_blocks");
-    let sheet_file = folder.join("card.sheet");
-    let words = format!(
-        "samples/magic-21143.rom 21143 {} --magic",
-        sheet_file.display()
-    );
-    assert_eq!(card(&format!("sheet {words}")).status, 0);
-    let bytes = fs::read(&sheet_file).unwrap();
-    let mut numbers = BTreeSet::new();
-    for (name, _, mut image) in samples() {
-        let out = folder.join(&name);
-        let words = format!(
-            "{} {} --magic samples/{name}",
-            sheet_file.display(),
-            out.display()
-        );
-        let run = card(&format!("write {words}"));
-        let number = sheet::write(&bytes, Layout::MAGIC, &mut image);
-        numbers.insert(number);
-        if number == 0 {
-            assert_written(&run, &out, &image);
-        } else {
-            assert_refused(&run, number, &out);
-            let reasons = match number {
-                1 => vec![keeps_to(&image)],
-                _ => reasons(&image, Layout::MAGIC, number),
-            };
-            for reason in reasons {
-                assert!(run.written.contains(&reason), "{name}\n{}", run.written);
-            }
-        }
-    }
-    assert!(
-        numbers.is_superset(&BTreeSet::from([0, 1, 29, 30])),
-        "{numbers:?}"
-    );
-}
-
 /// A new block in every sample: the second implementation's bytes, what the block then says, and
 /// whether the card is laid out for one.
 #[test]
@@ -672,10 +471,10 @@ fn magic_blocks() {
         let layout = Layout::new(size_by_length(&image), true);
         let number = write_magic(magic, &mut image, layout.size);
         if number != 0 {
-            assert_refused(&run, number, &out);
+            run.assert_refused(number, &out);
             continue;
         }
-        assert_written(&run, &out, &image);
+        run.assert_written(&out, &image);
         let [password, address, command] = magic_lines(magic);
         let mut lines = vec![
             "Magic Packet block".to_string(),

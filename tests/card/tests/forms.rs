@@ -3,8 +3,10 @@
 
 use card::{root, samples, shell, temporary};
 use second::forms::{FORMS, Form};
-use second::layout::SMALL;
+use second::layout::{Layout, SMALL};
 use second::random::Random;
+use second::sheet::{Form::Wide, LONGEST_WIDE_SHEET};
+use second::sheets::Sheet;
 use std::fs;
 use std::io::Write;
 use std::path::Path;
@@ -106,6 +108,26 @@ fn a_large_image_is_read_in_each_form() {
         }
     }
     assert!(count >= 6 * FORMS.len() - 4, "{count} texts");
+}
+
+/// The longest sheet in each form of text is written to the image of the sheet itself.
+#[test]
+fn a_long_sheet_is_read_in_each_form() {
+    let folder = temporary("sheet_forms");
+    let longest = Sheet::longest(&mut Random::new(1), Layout::LARGE_PLAIN).bytes(Wide);
+    assert_eq!(longest.len(), LONGEST_WIDE_SHEET);
+    fs::write(folder.join("raw"), &longest).unwrap();
+    let written = |file: &str, out: &str| {
+        let line = format!("./card write $TMP/{file} $TMP/{out} --wide --size 512 --force");
+        let run = shell(&line, &folder);
+        assert_eq!(run.status, 0, "{}", run.written);
+        fs::read(folder.join(out)).unwrap()
+    };
+    let image = written("raw", "raw.rom");
+    for form in FORMS {
+        fs::write(folder.join("text"), form.text(&longest)).unwrap();
+        assert_eq!(written("text", "text.rom"), image, "{form:?}");
+    }
 }
 
 /// A program, the words that have it print a file, and the form that it prints.

@@ -1,8 +1,9 @@
 //! Transcripts of the bench tool: each line that begins with `$ ` is run at the root, and what it
 //! writes and its exit status must be as stored. `TRANSCRIPTS=write cargo test -p card` stores
 //! them anew, so they guard against change alone; tests/facts.rs holds verdicts in every layout,
-//! header fields, counts, tables, Magic Packet blocks, modes of power blocks, named blocks, walks,
-//! columns and sheets to the second implementation, and tests/sentences.rs what is said of older drivers.
+//! header fields, counts, tables, Magic Packet blocks, modes of power blocks, named blocks, walks and
+//! columns to the second implementation, tests/sheets.rs sheets of both forms, and tests/sentences.rs
+//! what is said of older drivers.
 
 use card::{root, shell, temporary};
 use std::fs;
@@ -58,6 +59,8 @@ transcripts! {
     size,
     usage,
     walk,
+    /// Document 02, request 7: sheets of both forms, made, written and converted, and taken for the other form.
+    wide,
 }
 
 /// The transcripts that are stored are those that are replayed.
@@ -77,7 +80,7 @@ fn every_transcript() {
 #[test]
 fn every_refusal() {
     let stored = fs::read_to_string(folder().join("refusals.txt")).unwrap();
-    for number in 1..=32 {
+    for number in 1..=33 {
         let is_number = ![22, 28].contains(&number);
         let is_caused = stored.contains(&format!("REFUSED {number}: "));
         let can_be_caused = is_number && ![12, 20, 21].contains(&number);

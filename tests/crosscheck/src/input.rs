@@ -5,7 +5,7 @@ use library::compare::{self, Difference, Pair};
 use library::lent::hex;
 use library::levels::{Choice, Older};
 use library::twins::Twins;
-use library::{Layout, Magic};
+use library::{Form, Layout, Magic};
 use second::calls::{Call, Step};
 use second::reader::Arguments;
 use std::fmt::{self, Display, Formatter};
@@ -49,13 +49,21 @@ pub enum Input {
     /// To an image with these bytes.
     Write {
         sheet: Vec<u8>,
+        form: Form,
         layout: Layout,
         image: Vec<u8>,
     },
     MakeSheet {
         image: Vec<u8>,
         chip: u16,
+        form: Form,
         layout: Layout,
+        length: usize,
+    },
+    /// From this form to the other.
+    Convert {
+        sheet: Vec<u8>,
+        form: Form,
         length: usize,
     },
 }
@@ -64,9 +72,7 @@ impl Input {
     /// Makes the calls of both implementations, or of both levels or types, as far as the first
     /// difference.
     pub fn compare(&self, tally: &mut Tally) -> Result<(), Difference> {
-        if let Some(layout) = self.layout() {
-            tally.count_under(layout);
-        }
+        tally.count_under(self.layout());
         match self {
             Self::SromCrc(image, layout) => {
                 tally.count(Name::SromCrc, compare::srom_crc(image, *layout)?);
@@ -115,27 +121,41 @@ impl Input {
             } => compare_twins(image, *arguments, reports, tally)?,
             Self::Write {
                 sheet,
+                form,
                 layout,
                 image,
             } => {
-                let (number, _) = compare::write(sheet, *layout, image)?;
-                tally.count(Name::Write, number);
+                let (number, _) = compare::write(sheet, *form, *layout, image)?;
+                tally.count_sheet(*form, Name::Write, number);
             }
             Self::MakeSheet {
                 image,
                 chip,
+                form,
                 layout,
                 length,
             } => {
-                let (made, _) = compare::make_sheet(image, *chip, *layout, *length)?;
-                tally.count(Name::MakeSheet, made.number);
+                let (made, _) = compare::make_sheet(image, *chip, *form, *layout, *length)?;
+                tally.count_sheet(*form, Name::MakeSheet, made.number);
+            }
+            Self::Convert {
+                sheet,
+                form,
+                length,
+            } => {
+                let (made, _) = compare::convert(sheet, *form, *length)?;
+                let name = match form {
+                    Form::Narrow => Name::Widen,
+                    Form::Wide => Name::Narrow,
+                };
+                tally.count_sheet(*form, name, made.number);
             }
         }
         Ok(())
     }
 
     /// The layout that is stated, or that of the first load; the calls of a Magic Packet block have one
-    /// with it. None for steps without a load.
+    /// with it. None for steps without a load, and for conversions.
     fn layout(&self) -> Option<Layout> {
         match self {
             Self::SromCrc(_, layout)
@@ -150,6 +170,7 @@ impl Input {
             | Self::Levels { arguments, .. }
             | Self::Twins { arguments, .. } => Some(arguments.layout),
             Self::Walk(steps) => steps.iter().find_map(|(step, _)| loaded(step)),
+            Self::Convert { .. } => None,
         }
     }
 
@@ -178,7 +199,7 @@ fn compare_steps(steps: &[(Step, usize)], tally: &mut Tally) -> Result<(), Diffe
     tally.count(Name::Fresh, 0);
     for (step, times) in steps {
         if let Some(layout) = loaded(step) {
-            tally.count_under(layout);
+            tally.count_under(Some(layout));
         }
         let name = match step {
             Step::Load(..) => Name::Load,

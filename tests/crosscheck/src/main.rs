@@ -2,7 +2,8 @@
 //! looks under 0x8800, with random, damaged and sequenced inputs:
 //! `cargo run --release -p crosscheck -- SECONDS SEED [ROUNDS]`. Where ROUNDS is given, it decides
 //! instead of the clock. The status is 0, 1 at a difference, which is shown with the smallest input
-//! found for it, or where either size has less than a third of the calls, and 2 for wrong arguments.
+//! found for it, or where either size has less than a third of the calls, or either form of the calls
+//! with sheets, and 2 for wrong arguments.
 
 mod input;
 mod rounds;
@@ -74,7 +75,7 @@ fn main() -> ExitCode {
         differing = inputs.find(|input| input.compare(&mut tally).is_err());
         rounds += 1;
     }
-    print!("{}", tally.table());
+    print!("{}\n{}", tally.table(), tally.told());
     println!(
         "\nseed {}, rounds {rounds}, calls {}, differences {}",
         options.seed,
@@ -82,12 +83,14 @@ fn main() -> ExitCode {
         usize::from(differing.is_some()),
     );
     let Some(input) = differing else {
-        let rare = tally.rare_sizes();
-        if !rare.is_empty() {
-            println!("less than a third of the calls state a size of {rare:?}");
-            return ExitCode::from(1);
+        let (sizes, forms) = (tally.rare_sizes(), tally.rare_forms());
+        if !sizes.is_empty() {
+            println!("less than a third of the calls state a size of {sizes:?}");
         }
-        return ExitCode::SUCCESS;
+        if !forms.is_empty() {
+            println!("less than a third of the calls with sheets are {forms:?}");
+        }
+        return ExitCode::from(u8::from(!sizes.is_empty() || !forms.is_empty()));
     };
     println!("\nround {rounds} differs; the smallest input found:");
     let (input, difference) = smallest(input);

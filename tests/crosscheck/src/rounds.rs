@@ -6,19 +6,23 @@ use library::levels::Older;
 use second::calls::{self, Habits, Step};
 use second::crc::lay_crcs;
 use second::images::{Card, DAMAGES, Image, MagicBlock, Sample, WRONG_SIZES, block, random_image};
-use second::layout::{LAYOUTS, Layout, SHEET_LAYOUTS, SIZES, is_of_size};
+use second::layout::{LAYOUTS, Layout, SIZES, is_of_size};
 use second::random::Random;
 use second::reader::{Arguments, NEWEST_LEVEL, read_all};
-use second::sheet;
+use second::sheet::{self, FORMS, Form, LONGEST_WIDE_SHEET, served};
+use second::sheets::converted::convert_damages;
 use second::sheets::tidy::{TIDY_DAMAGES, damaged, tidy, untidy};
-use second::sheets::{SHEET_DAMAGES, Sheet, unserved};
+use second::sheets::{Sheet, sheet_damages, unserved};
 use second::walk::AUTOSENSE;
 
 /// One round in so many walks until no look is left, at either size.
 const SPENT_RARITY: u64 = 2_048;
 
-/// More elements than any block count, and more bytes than any sheet of a tidy image.
+/// More elements than any block count.
 const ROOMY: usize = 450;
+
+/// More bytes than any sheet of a tidy image.
+const ROOMY_BUFFER: usize = LONGEST_WIDE_SHEET + 40;
 
 /// Known levels and two that are none.
 const LEVELS: [u8; 10] = [0, 1, 2, 3, 4, 5, 6, 7, 8, 255];
@@ -53,11 +57,14 @@ impl Iterator for Rounds {
         for layout in LAYOUTS {
             inputs.extend(levels(random, layout));
         }
-        for layout in SHEET_LAYOUTS {
-            inputs.extend(writings(random, layout));
+        for (form, layout) in served() {
+            inputs.extend(writings(random, form, layout));
         }
         inputs.push(twins(random));
-        inputs.extend(makings(random));
+        for form in FORMS {
+            inputs.extend(makings(random, form));
+            inputs.extend(conversions(random, form));
+        }
         if self.number.is_multiple_of(SPENT_RARITY) {
             inputs.extend(SIZES.map(|size| spent(random, size)));
         }
@@ -301,31 +308,32 @@ fn spent(random: &mut Random, size: u16) -> Input {
     Input::Walk(steps)
 }
 
-/// One sheet in a layout, to an image of mostly its size and with a Magic Packet block that is mostly
-/// right; of a valid one the image and its sheet in buffers of a near length.
-fn writings(random: &mut Random, layout: Layout) -> Vec<Input> {
+/// One sheet of a form in a layout, to an image of mostly its size and with a Magic Packet block that is
+/// mostly right; of a valid one the image and its sheet in buffers of a near length.
+fn writings(random: &mut Random, form: Form, layout: Layout) -> Vec<Input> {
+    let damages = sheet_damages(form);
     let sheet = match random.below(8) {
-        0..2 => Sheet::valid(random, layout).bytes(),
+        0..2 => Sheet::valid(random, layout).bytes(form),
         2..5 => {
-            let number = random.pick(&SHEET_DAMAGES);
-            Sheet::damaged(random, number, layout)
+            let number = random.pick(&damages);
+            Sheet::damaged(random, number, form, layout)
         }
         5 => {
             let mut sheet = Sheet::valid(random, layout);
-            let later = 2 + random.below(SHEET_DAMAGES.len() - 2);
+            let later = 2 + random.below(damages.len() - 2);
             let earlier = 1 + random.below(later - 1);
             for place in [later, earlier] {
-                sheet.damage(random, SHEET_DAMAGES[place], layout);
+                sheet.damage(random, damages[place], form, layout);
             }
-            sheet.bytes()
+            sheet.bytes(form)
         }
         6 => {
-            let mut sheet = Sheet::valid(random, layout).bytes();
+            let mut sheet = Sheet::valid(random, layout).bytes(form);
             let offset = random.below(sheet.len());
             sheet[offset] = changed(random, sheet[offset]);
             sheet
         }
-        _ => Sheet::wild(random),
+        _ => Sheet::wild(random, form),
     };
     let block = match random.below(4) {
         0 => MagicBlock::any(random),
@@ -335,41 +343,43 @@ fn writings(random: &mut Random, layout: Layout) -> Vec<Input> {
     block.lay(&mut output);
     let mut inputs = Vec::new();
     let mut image = output.clone();
-    if sheet::write(&sheet, layout, &mut image) == 0 {
-        let chip = u16::from_le_bytes([sheet[sheet::CHIP], sheet[sheet::CHIP + 1]]);
+    if sheet::write(&sheet, form, layout, &mut image) == 0 {
         let exact = sheet.len();
-        for length in [exact - 1, exact, exact + 1, ROOMY] {
+        for length in [exact - 1, exact, exact + 1, ROOMY_BUFFER] {
             inputs.push(Input::MakeSheet {
                 image: image.clone(),
-                chip,
+                chip: form.chip(&sheet),
+                form,
                 layout,
                 length,
             });
         }
     }
     let (layout, image) = match random.one_in(8) {
-        true => unserved(random, layout.magic),
+        true => unserved(random, form, layout.magic),
         false => (layout, output),
     };
     inputs.push(Input::Write {
         sheet,
+        form,
         layout,
         image,
     });
     inputs
 }
 
-/// The sheet of an image that is damaged, not tidy, of any bytes, or of a size that has no sheets.
-fn makings(random: &mut Random) -> [Input; 2] {
+/// The sheet in a form of an image that is damaged, not tidy, of any bytes, or of a size that the form
+/// does not serve.
+fn makings(random: &mut Random, form: Form) -> [Input; 2] {
     let (image, arguments) = match random.below(9) {
         0..3 => {
             let number = random.pick(&TIDY_DAMAGES);
-            let sample = damaged(random, number);
+            let sample = damaged(random, number, form);
             (sample.card.image(), sample.arguments)
         }
-        3..5 => untidy(random),
+        3..5 => untidy(random, form),
         5..7 => {
-            let sample = tidy(random);
+            let sample = tidy(random, form);
             let mut image = sample.card.image();
             change_byte(random, &mut image, sample.arguments.layout);
             (image, sample.arguments)
@@ -383,12 +393,46 @@ fn makings(random: &mut Random) -> [Input; 2] {
             (sample.card.image(), sample.arguments)
         }
     };
-    [ROOMY, random.below(ROOMY)].map(|length| Input::MakeSheet {
+    [ROOMY_BUFFER, random.below(ROOMY_BUFFER)].map(|length| Input::MakeSheet {
         image: image.clone(),
         chip: arguments.chip,
+        form,
         layout: arguments.layout,
         length,
     })
+}
+
+/// A sheet that is read in a form and converted, in buffers of a near length where it can be: one that
+/// each form can say, one that is refused, one to be written, and one with a byte changed.
+fn conversions(random: &mut Random, form: Form) -> Vec<Input> {
+    let mut sheet = match random.below(4) {
+        0 => Sheet::convertible(random).bytes(form),
+        1 | 2 => {
+            let number = random.pick(convert_damages(form));
+            Sheet::unconvertible(random, number, form)
+        }
+        _ => {
+            let layout = random.pick(form.layouts());
+            Sheet::valid(random, layout).bytes(form)
+        }
+    };
+    if let (true, false) = (random.one_in(8), sheet.is_empty()) {
+        let offset = random.below(sheet.len());
+        sheet[offset] = changed(random, sheet[offset]);
+    }
+    let roomy = sheet.len() + 2;
+    let exact = sheet::convert(&sheet, form, &mut vec![0; roomy]).length;
+    let short = random.below(exact.max(1));
+    let lengths = match exact {
+        0 => vec![0, roomy],
+        _ => vec![short, exact - 1, exact, exact + 1],
+    };
+    let conversion = |length| Input::Convert {
+        sheet: sheet.clone(),
+        form,
+        length,
+    };
+    lengths.into_iter().map(conversion).collect()
 }
 
 #[cfg(test)]

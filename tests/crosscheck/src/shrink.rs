@@ -1,6 +1,6 @@
 //! The smallest input that still differs, found greedily: calls and blocks are dropped, layouts made
-//! plain and of the smaller size, rows of bytes cut and bytes lowered, most often to 0, as long as the
-//! difference stays.
+//! plain and of the smaller size, sheets narrow, rows of bytes cut and bytes lowered, most often to 0, as
+//! long as the difference stays.
 
 use crate::input::Input;
 use second::calls::{Call, Step, block_count};
@@ -8,7 +8,9 @@ use second::crc::{lay_crcs, lay_magic_crc};
 use second::images::without_block;
 use second::layout::{Layout, SMALL, is_of_size};
 use second::reader::Arguments;
-use second::sheet::{COUNT, KINDS, TOTAL};
+use second::sheet::{COUNT, Form, KINDS, narrow};
+use std::iter;
+use std::ops::Range;
 
 /// Passes over all edits, and calls in all of them, after which the input is small enough.
 const MOST_PASSES: usize = 64;
@@ -24,10 +26,16 @@ enum Edit {
     Plain { index: usize, mends: bool },
     /// States the smaller size, cuts the image to it, and mends its CRCs or not.
     Small { index: usize, mends: bool },
+    /// Takes a sheet for narrow, and narrows its bytes or not.
+    Narrow { mends: bool },
     /// Lowers an array's length, an entry or how often a step is taken.
     Number { index: usize, lower: Lower },
-    /// Drops a block of an image or of a sheet.
-    Block { row: usize, number: usize },
+    /// Drops so many blocks of an image or of a sheet.
+    Block {
+        row: usize,
+        first: usize,
+        blocks: usize,
+    },
     /// Cuts a row of bytes.
     Cut { row: usize, lower: Lower },
     /// Lowers a byte, and mends the CRCs of its image.
@@ -72,7 +80,7 @@ enum Sort {
     Block(u16),
     /// An image of which a CRC is asked, with its stated size.
     Bare(u16),
-    Sheet,
+    Sheet(Form),
     Other,
 }
 
@@ -84,7 +92,7 @@ impl<'a> Row<'a> {
     fn block_count(&self) -> usize {
         match self.sort {
             Sort::Image(arguments) => block_count(self.bytes, arguments),
-            Sort::Sheet => self.bytes.first().copied().unwrap_or(0).into(),
+            Sort::Sheet(form) => block_sizes(self.bytes, form).map_or(0, |sizes| sizes.len()),
             Sort::Block(_) | Sort::Bare(_) | Sort::Other => 0,
         }
     }
@@ -94,7 +102,7 @@ impl<'a> Row<'a> {
         match self.sort {
             Sort::Image(arguments) => Some(arguments.layout.size),
             Sort::Block(size) | Sort::Bare(size) => Some(size),
-            Sort::Sheet | Sort::Other => None,
+            Sort::Sheet(_) | Sort::Other => None,
         }
     }
 
@@ -112,7 +120,7 @@ impl<'a> Row<'a> {
                     self.bytes.copy_from_slice(&image);
                 }
             }
-            Sort::Sheet => drop_from_sheet(self.bytes, number),
+            Sort::Sheet(form) => drop_from_sheet(self.bytes, form, number),
             Sort::Block(_) | Sort::Bare(_) | Sort::Other => {}
         }
     }
@@ -130,7 +138,7 @@ impl<'a> Row<'a> {
         match self.sort {
             Sort::Image(arguments) => lay_crcs(self.bytes, arguments.layout),
             Sort::Block(_) => lay_magic_crc(self.bytes),
-            Sort::Bare(_) | Sort::Sheet | Sort::Other => {}
+            Sort::Bare(_) | Sort::Sheet(_) | Sort::Other => {}
         }
     }
 }
@@ -166,14 +174,8 @@ pub fn shrink(mut input: Input, mut differs: impl FnMut(&Input) -> bool) -> Inpu
 fn edits(input: &Input) -> Vec<Edit> {
     let mut input = input.clone();
     let mut edits = Vec::new();
-    let list = list_length(&input);
-    let mut calls = list;
-    while calls > 0 {
-        // From the last, so that the places before a dropped call stay.
-        let firsts = (0..list).step_by(calls).rev();
-        edits.extend(firsts.map(|first| Edit::Drop { first, calls }));
-        calls /= 2;
-    }
+    let drops = runs(list_length(&input));
+    edits.extend(drops.map(|(first, calls)| Edit::Drop { first, calls }));
     for (index, layout) in layouts(&mut input).iter().enumerate() {
         if layout.magic {
             edits.extend([true, false].map(|mends| Edit::Plain { index, mends }));
@@ -184,13 +186,20 @@ fn edits(input: &Input) -> Vec<Edit> {
             edits.extend([true, false].map(|mends| Edit::Small { index, mends }));
         }
     }
+    if let Some(Form::Wide) = written_form(&mut input) {
+        edits.extend([true, false].map(|mends| Edit::Narrow { mends }));
+    }
     let numbers = numbers(&mut input).len();
     for index in 0..numbers {
         edits.extend(LOWER.map(|lower| Edit::Number { index, lower }));
     }
     for (index, row) in rows(&mut input).iter().enumerate() {
-        let blocks = (0..row.block_count()).rev();
-        edits.extend(blocks.map(|number| Edit::Block { row: index, number }));
+        let drops = runs(row.block_count());
+        edits.extend(drops.map(|(first, blocks)| Edit::Block {
+            row: index,
+            first,
+            blocks,
+        }));
         edits.extend(LOWER.map(|lower| Edit::Cut { row: index, lower }));
         let mendings: &[bool] = match row.has_crcs() {
             true => &[true, false],
@@ -208,6 +217,17 @@ fn edits(input: &Input) -> Vec<Edit> {
         }
     }
     edits
+}
+
+/// Where runs of a list of so many start, and how long they are: all of it, halves, and so on down to
+/// single ones; from the last, so that the places before a dropped run stay.
+fn runs(list: usize) -> impl Iterator<Item = (usize, usize)> {
+    let lengths = iter::successors(Some(list), |length| Some(length / 2));
+    let lengths = lengths.take_while(|&length| length > 0);
+    lengths.flat_map(move |length| {
+        let firsts = (0..list).step_by(length).rev();
+        firsts.map(move |first| (first, length))
+    })
 }
 
 impl Edit {
@@ -231,14 +251,16 @@ impl Edit {
                     rows(input).iter_mut().for_each(Row::mend);
                 }
             }
+            Self::Narrow { mends } => take_for_narrow(input, mends),
             Self::Number { index, lower } => {
                 if let Some(number) = numbers(input).get_mut(index) {
                     **number = lower.of(**number);
                 }
             }
-            Self::Block { row, number } => {
+            Self::Block { row, first, blocks } => {
                 if let Some(row) = rows(input).get_mut(row) {
-                    row.drop_block(number);
+                    let dropped = (first..first + blocks).rev();
+                    dropped.for_each(|number| row.drop_block(number));
                 }
             }
             Self::Cut { row, lower } => {
@@ -287,25 +309,60 @@ fn drop_calls(input: &mut Input, first: usize, calls: usize) {
     }
 }
 
+/// The form of a call that writes or makes a sheet.
+fn written_form(input: &mut Input) -> Option<Form> {
+    match input {
+        Input::Write { form, .. } | Input::MakeSheet { form, .. } => Some(*form),
+        _ => None,
+    }
+}
+
+/// The same call for the narrow form, with its sheet narrowed or not.
+fn take_for_narrow(input: &mut Input, mends: bool) {
+    match input {
+        Input::Write { sheet, form, .. } => {
+            *form = Form::Narrow;
+            let mut buffer = vec![0; sheet.len()];
+            let made = narrow(sheet, &mut buffer);
+            if mends && made.number == 0 {
+                *sheet = buffer[..made.length].to_vec();
+            }
+        }
+        Input::MakeSheet { form, .. } => *form = Form::Narrow,
+        _ => {}
+    }
+}
+
+/// Where the sizes of a sheet's blocks stand, and behind them the bodies; none where it is too short for
+/// them.
+fn block_sizes(sheet: &[u8], form: Form) -> Option<Range<usize>> {
+    let head = form.place(KINDS);
+    let (count, _) = form.sizes(sheet.get(..head)?);
+    let sizes = head + 2 * count..head + 3 * count;
+    (sizes.end <= sheet.len()).then_some(sizes)
+}
+
 /// Takes a block out of a sheet, its kind, its size and its body, where the sheet has room for all
 /// three.
-fn drop_from_sheet(sheet: &mut Vec<u8>, number: usize) {
-    let count = sheet.first().copied().unwrap_or(0).into();
-    let (sizes, bodies) = (KINDS + 2 * count, KINDS + 3 * count);
-    if number >= count || bodies > sheet.len() {
+fn drop_from_sheet(sheet: &mut Vec<u8>, form: Form, number: usize) {
+    let Some(sizes) = block_sizes(sheet, form).filter(|sizes| number < sizes.len()) else {
         return;
-    }
-    let size = usize::from(sheet[sizes + number]);
-    let before = sheet[sizes..sizes + number].iter();
-    let body = bodies + before.map(|&size| usize::from(size)).sum::<usize>();
+    };
+    let (count, total) = form.sizes(sheet);
+    let size = usize::from(sheet[sizes.start + number]);
+    let before = sheet[sizes.start..sizes.start + number].iter();
+    let body = sizes.end + before.map(|&size| usize::from(size)).sum::<usize>();
     if body + size > sheet.len() {
         return;
     }
+    let kind = form.place(KINDS) + 2 * number;
     sheet.drain(body..body + size);
-    sheet.remove(sizes + number);
-    sheet.drain(KINDS + 2 * number..KINDS + 2 * number + 2);
-    sheet[COUNT] -= 1;
-    sheet[TOTAL] = sheet[TOTAL].wrapping_sub(size as u8);
+    sheet.remove(sizes.start + number);
+    sheet.drain(kind..kind + 2);
+    let width = form.width();
+    for (place, size) in [(COUNT, count - 1), (form.total(), total.wrapping_sub(size))] {
+        sheet[place..place + width].copy_from_slice(&size.to_le_bytes()[..width]);
+    }
 }
 
 fn numbers(input: &mut Input) -> Vec<&mut usize> {
@@ -313,7 +370,7 @@ fn numbers(input: &mut Input) -> Vec<&mut usize> {
         Input::Read { kinds, offsets, .. } => vec![kinds, offsets],
         Input::View { entry, .. } => vec![entry],
         Input::Walk(steps) => steps.iter_mut().map(|(_, times)| times).collect(),
-        Input::MakeSheet { length, .. } => vec![length],
+        Input::MakeSheet { length, .. } | Input::Convert { length, .. } => vec![length],
         _ => Vec::new(),
     }
 }
@@ -334,9 +391,11 @@ fn layouts(input: &mut Input) -> Vec<&mut Layout> {
             });
             layouts.collect()
         }
-        Input::IdCrc(..) | Input::MagicCrc(..) | Input::ReadMagic(..) | Input::WriteMagic(..) => {
-            Vec::new()
-        }
+        Input::IdCrc(..)
+        | Input::MagicCrc(..)
+        | Input::ReadMagic(..)
+        | Input::WriteMagic(..)
+        | Input::Convert { .. } => Vec::new(),
     }
 }
 
@@ -376,12 +435,14 @@ fn rows(input: &mut Input) -> Vec<Row<'_>> {
         }
         Input::Write {
             sheet,
+            form,
             layout,
             image,
         } => {
             let block = Sort::Block(layout.size);
-            vec![Row::new(sheet, Sort::Sheet), Row::new(image, block)]
+            vec![Row::new(sheet, Sort::Sheet(*form)), Row::new(image, block)]
         }
+        Input::Convert { sheet, form, .. } => vec![Row::new(sheet, Sort::Sheet(*form))],
         Input::Walk(steps) => {
             let rows = steps.iter_mut().filter_map(|(step, _)| match step {
                 Step::Load(image, arguments) => Some(Row::new(image, Sort::Image(*arguments))),
@@ -424,10 +485,9 @@ mod tests {
     use second::magic::read_magic;
     use second::random::Random;
     use second::reader::read_all;
-    use second::sheet::write;
+    use second::sheet::{convert, served, write};
     use second::sheets::{Sheet, output};
     use second::walk::{Autosense, Way};
-    use std::iter;
 
     const ARGUMENTS: Arguments = Arguments::newest(21143);
 
@@ -631,34 +691,72 @@ mod tests {
         }
     }
 
-    /// A difference at accepted sheets with a block: one block is left.
+    /// A difference at accepted sheets with a block: one block is left, in the narrow form.
     #[test]
     fn dropped_blocks() {
         let mut random = Random::new(2);
-        let drawn = iter::repeat_with(|| Input::Write {
-            sheet: Sheet::valid(&mut random, Layout::MAGIC).bytes(),
-            layout: Layout::MAGIC,
-            image: output(&mut random, Layout::MAGIC),
-        });
-        let has_block = |input: &Input| match input {
-            Input::Write {
-                sheet,
+        for (form, layout) in served() {
+            let drawn = iter::repeat_with(|| Input::Write {
+                sheet: Sheet::valid(&mut random, layout).bytes(form),
+                form,
                 layout,
-                image,
-            } => write(sheet, *layout, &mut image.clone()) == 0 && sheet[COUNT] > 0,
+                image: output(&mut random, layout),
+            });
+            let has_block = |input: &Input| match input {
+                Input::Write {
+                    sheet,
+                    form,
+                    layout,
+                    image,
+                } => write(sheet, *form, *layout, &mut image.clone()) == 0 && sheet[COUNT] > 0,
+                _ => false,
+            };
+            for input in drawn.filter(has_block).take(8) {
+                let Input::Write {
+                    sheet,
+                    form,
+                    layout,
+                    image,
+                } = shrink(input, has_block)
+                else {
+                    panic!("another call");
+                };
+                assert_eq!((sheet[COUNT], form), (1, Form::Narrow), "{sheet:02x?}");
+                assert_eq!((layout, image), (Layout::PLAIN, vec![0; SMALL.into()]));
+            }
+        }
+    }
+
+    /// A difference at sheets that cannot be narrowed: no block is left that can be left out, and only
+    /// sizes are not 0.
+    #[test]
+    fn too_large_sheets() {
+        let mut random = Random::new(8);
+        let is_too_large = |input: &Input| match input {
+            Input::Convert { sheet, form, .. } => convert(sheet, *form, &mut []).number == 33,
             _ => false,
         };
-        for input in drawn.filter(has_block).take(20) {
-            let Input::Write {
+        for _ in 0..20 {
+            let input = Input::Convert {
+                sheet: Sheet::too_large(&mut random).bytes(Form::Wide),
+                form: Form::Wide,
+                length: 99,
+            };
+            let Input::Convert {
                 sheet,
-                layout,
-                image,
-            } = shrink(input, has_block)
+                form,
+                length,
+            } = shrink(input, is_too_large)
             else {
                 panic!("another call");
             };
-            assert_eq!((sheet[COUNT], layout), (1, Layout::PLAIN), "{sheet:02x?}");
-            assert_eq!(image, vec![0; SMALL.into()]);
+            assert_eq!((form, length), (Form::Wide, 0));
+            let (count, total) = form.sizes(&sheet);
+            let is_least = count == 256 || (256..=510).contains(&total);
+            assert!(is_least, "{count} blocks and {total} bytes");
+            let sizes = block_sizes(&sheet, form).expect("it has them");
+            let is_zero = |bytes: &[u8]| bytes.iter().all(|&byte| byte == 0);
+            assert!(is_zero(&sheet[4..sizes.start]) && is_zero(&sheet[sizes.end..]));
         }
     }
 

@@ -1,10 +1,12 @@
 //! What was called and answered, as tables.
 
+use library::Form;
 use library::twins::Shown;
 use second::layout::{LAYOUTS, Layout, SIZES};
 use second::reader::NEWEST_LEVEL;
+use second::sheet::FORMS;
 
-const HIGHEST_REFUSAL: usize = 32;
+const HIGHEST_REFUSAL: usize = 33;
 
 /// The exported calls.
 #[derive(Debug, Clone, Copy)]
@@ -22,10 +24,12 @@ pub enum Name {
     Clear,
     Write,
     MakeSheet,
+    Widen,
+    Narrow,
 }
 
 /// Their names without `srom_`, in the same order.
-const NAMES: [&str; 13] = [
+const NAMES: [&str; 15] = [
     "crc",
     "id_crc",
     "magic_crc",
@@ -39,18 +43,30 @@ const NAMES: [&str; 13] = [
     "clear",
     "write",
     "make_sheet",
+    "widen",
+    "narrow",
 ];
 
-/// The layouts that calls are counted under, and behind them all whose size no ROM has.
-const LAYOUT_CLASSES: usize = LAYOUTS.len() + 1;
+/// The refusals of sheets that are told at the end: all that the converters give, and 33 of the writer.
+const TOLD: [(Name, &[usize]); 3] = [
+    (Name::Widen, &[24, 12]),
+    (Name::Narrow, &[24, 33, 12]),
+    (Name::Write, &[33]),
+];
 
-/// How often each call answered each number, and how often in each layout, what demand 3's lists
-/// showed, and what looks under an empty connection word showed.
+/// The layouts that calls are counted under, behind them all whose size no ROM has, and then those that
+/// state no layout.
+const LAYOUT_CLASSES: usize = LAYOUTS.len() + 2;
+
+/// How often each call answered each number, and how often in each layout, those with sheets in each
+/// form too, what demand 3's lists showed, and what looks under an empty connection word showed.
 pub struct Tally {
     numbers: [[u64; HIGHEST_REFUSAL + 1]; NAMES.len()],
     /// The calls in each layout, and the one that the next calls count under.
     layouts: [u64; LAYOUT_CLASSES],
     layout: usize,
+    /// The calls with sheets of each form, in each layout; a conversion's form is the one that is read.
+    forms: [[u64; LAYOUT_CLASSES]; FORMS.len()],
     /// Views that handed back an empty part; they have no number.
     empty_views: u64,
     pub levels: [Level; NEWEST_LEVEL as usize],
@@ -88,6 +104,7 @@ impl Default for Tally {
             numbers: [[0; HIGHEST_REFUSAL + 1]; NAMES.len()],
             layouts: [0; LAYOUT_CLASSES],
             layout: 0,
+            forms: [[0; LAYOUT_CLASSES]; FORMS.len()],
             empty_views: 0,
             levels: Default::default(),
             fixed: Fixed::default(),
@@ -97,14 +114,23 @@ impl Default for Tally {
 }
 
 impl Tally {
-    /// The layout that the next calls count under.
-    pub fn count_under(&mut self, layout: Layout) {
-        self.layout = layout.index().unwrap_or(LAYOUTS.len());
+    /// The layout that the next calls count under, if they state one.
+    pub fn count_under(&mut self, layout: Option<Layout>) {
+        self.layout = match layout {
+            Some(layout) => layout.index().unwrap_or(LAYOUTS.len()),
+            None => LAYOUTS.len() + 1,
+        };
     }
 
     pub fn count(&mut self, name: Name, number: u8) {
         self.numbers[name as usize][usize::from(number)] += 1;
         self.layouts[self.layout] += 1;
+    }
+
+    /// Counts a call with a sheet of this form.
+    pub fn count_sheet(&mut self, form: Form, name: Name, number: u8) {
+        self.count(name, number);
+        self.forms[form as usize][self.layout] += 1;
     }
 
     pub fn count_view(&mut self, is_empty: bool) {
@@ -129,13 +155,38 @@ impl Tally {
         SIZES.into_iter().filter(is_rare).collect()
     }
 
+    /// The forms that less than a third of the calls with sheets have.
+    pub fn rare_forms(&self) -> Vec<Form> {
+        let of_form = |form: Form| self.forms[form as usize].iter().sum::<u64>();
+        let all: u64 = FORMS.map(of_form).iter().sum();
+        let is_rare = |&form: &Form| 3 * of_form(form) < all;
+        FORMS.into_iter().filter(is_rare).collect()
+    }
+
+    /// How often the refusals came that sheets of two forms bring, a line for each call.
+    pub fn told(&self) -> String {
+        let line = |(name, numbers): (Name, &[usize])| {
+            let often = |number: &usize| {
+                let often = self.numbers[name as usize][*number];
+                format!("{number} {often} times")
+            };
+            let often: Vec<_> = numbers.iter().map(often).collect();
+            format!(
+                "{} refused with {}\n",
+                NAMES[name as usize],
+                often.join(", ")
+            )
+        };
+        TOLD.map(line).concat()
+    }
+
     pub fn calls(&self) -> u64 {
         self.numbers.iter().flatten().sum::<u64>() + self.empty_views
     }
 
     /// The numbers that were answered, a row for each, with a column for each call; then the calls in
-    /// each layout; then the lists of demand 3, a row for each older level; then those of them under a
-    /// fixed type; then the looks under 0xFFFF.
+    /// each layout, and those with sheets of each form; then the lists of demand 3, a row for each older
+    /// level; then those of them under a fixed type; then the looks under 0xFFFF.
     pub fn table(&self) -> String {
         let mut table = row("number", NAMES.map(String::from));
         for number in 0..=HIGHEST_REFUSAL {
@@ -155,9 +206,12 @@ impl Tally {
             false => size.to_string(),
         });
         let [first, second, third, fourth] = titles;
-        let titles = [first, second, third, fourth, "other".into()];
+        let titles = [first, second, third, fourth, "other".into(), "none".into()];
         table += &row("\nlayout", titles);
         table += &row("calls", self.layouts.map(cell));
+        for (form, calls) in ["narrow", "wide"].into_iter().zip(self.forms) {
+            table += &row(form, calls.map(cell));
+        }
         let titles = ["lists", "conditions", "removed", "looks", "selected"];
         table += &row("\nolder", titles.map(String::from));
         for (level, seen) in self.levels.iter().enumerate() {

@@ -67,14 +67,16 @@ fn lists_under_a_fixed_type() {
 fn calls_of_every_layout() {
     let text = String::from_utf8(run(&["0", "1", "20"]).stdout).expect("the table is text");
     let (_, behind) = text.split_once("\nlayout").expect("a table of layouts");
-    let rows: Vec<Vec<_>> = behind
-        .lines()
-        .take(2)
-        .map(|row| row.split_whitespace().collect())
+    let titles = behind.lines().next().expect("a row of titles");
+    let titles: Vec<_> = titles.split_whitespace().collect();
+    assert_eq!(titles.join(" "), "128 128 magic 512 512 magic other none");
+    let (_, rest) = behind.split_once("\ncalls").expect("a row of calls");
+    let row = rest.lines().next().expect("it has cells");
+    let calls: Vec<u64> = row
+        .split_whitespace()
+        .map(|it| it.parse().unwrap())
         .collect();
-    assert_eq!(rows[0].join(" "), "128 128 magic 512 512 magic other");
-    let calls: Vec<u64> = rows[1][1..].iter().map(|it| it.parse().unwrap()).collect();
-    let [small, small_magic, large, large_magic, other] = calls[..] else {
+    let [small, small_magic, large, large_magic, other, _] = calls[..] else {
         panic!("an empty cell: {calls:?}");
     };
     let all: u64 = calls.iter().sum();
@@ -83,4 +85,30 @@ fn calls_of_every_layout() {
         assert!(3 * (plain + magic) >= all, "{calls:?}");
         assert!(plain > 0 && magic > 0 && other > 0, "{calls:?}");
     }
+}
+
+/// Document 02, request 7, "The writer and the sheet maker take both": calls with sheets are drawn in both
+/// forms, each in at least a third of them, in every layout and without one; "24, 33 and 12 only", and 33
+/// of the writer, are told at the end.
+#[test]
+fn calls_of_both_forms() {
+    let [narrow, wide] = ["narrow", "wide"].map(cells);
+    assert_eq!((narrow.len(), wide.len()), (6, 6));
+    let [of_narrow, of_wide] = [&narrow, &wide].map(|calls| calls.iter().sum::<u64>());
+    assert!(of_narrow <= 2 * of_wide && of_wide <= 2 * of_narrow);
+    let text = String::from_utf8(run(&["0", "1", "400"]).stdout).expect("the table is text");
+    let (_, told) = text
+        .split_once("\n\nwiden ")
+        .expect("what is told at the end");
+    let words: Vec<_> = told
+        .lines()
+        .take(3)
+        .flat_map(str::split_whitespace)
+        .collect();
+    let numbers = words.iter().filter_map(|word| word.parse::<u64>().ok());
+    let numbers: Vec<_> = numbers.collect();
+    let [24, a, 12, b, 24, c, 33, d, 12, e, 33, f] = numbers[..] else {
+        panic!("{told}");
+    };
+    assert!([a, b, c, d, e, f].iter().all(|&often| often > 20), "{told}");
 }

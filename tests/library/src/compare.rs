@@ -2,7 +2,9 @@
 //! stands between guards.
 
 use crate::lent::{Lent, hex};
-use crate::{Answer, Arguments, Checksum, Layout, Made, Magic, MagicAnswer, Part, Walk, Walked};
+use crate::{
+    Answer, Arguments, Checksum, Form, Layout, Made, Magic, MagicAnswer, Part, Walk, Walked,
+};
 use second::calls::{Call, Step};
 use second::walk::Autosense;
 use second::{crc, magic, reader, sheet};
@@ -188,18 +190,23 @@ pub fn view(image: &[u8], arguments: Arguments, entry: usize) -> Result<Part, Di
     )
 }
 
-/// The number that both answered, and the image after the writing of a sheet to it.
-pub fn write(sheet: &[u8], layout: Layout, before: &[u8]) -> Result<(u8, Vec<u8>), Difference> {
+/// The number that both answered, and the image after the writing of a sheet of a form to it.
+pub fn write(
+    sheet: &[u8],
+    form: Form,
+    layout: Layout,
+    before: &[u8],
+) -> Result<(u8, Vec<u8>), Difference> {
     let (lent, mut lent_image) = (Lent::new(sheet), Lent::new(before));
     let mut image = before.to_vec();
     let number = judge(
         || {
             let (sheet, before) = (hex(sheet), hex(before));
-            format!("srom_write {layout:?}\nsheet   {sheet}\nto      {before}")
+            format!("srom_write {form:?}, {layout:?}\nsheet   {sheet}\nto      {before}")
         },
         [
-            crate::write(lent.elements(), layout, lent_image.elements_mut()),
-            sheet::write(sheet, layout, &mut image),
+            crate::write(lent.elements(), form, layout, lent_image.elements_mut()),
+            sheet::write(sheet, form, layout, &mut image),
         ],
         [
             lent.fault("sheet", sheet),
@@ -213,24 +220,53 @@ pub fn write(sheet: &[u8], layout: Layout, before: &[u8]) -> Result<(u8, Vec<u8>
 pub fn make_sheet(
     image: &[u8],
     chip: u16,
+    form: Form,
     layout: Layout,
     length: usize,
 ) -> Result<(Made, Vec<u8>), Difference> {
-    let (lent, mut lent_buffer) = (Lent::new(image), Lent::pattern(length));
+    lay_sheet(
+        || format!("srom_make_sheet for the {chip}, {form:?}, {layout:?}"),
+        |image, buffer| crate::make_sheet(image, chip, form, layout, buffer),
+        |image, buffer| sheet::make(image, chip, form, layout, buffer),
+        ("image", image),
+        length,
+    )
+}
+
+/// The same after the conversion of a sheet that is read in a form.
+pub fn convert(sheet: &[u8], form: Form, length: usize) -> Result<(Made, Vec<u8>), Difference> {
+    let name = match form {
+        Form::Narrow => "srom_widen",
+        Form::Wide => "srom_narrow",
+    };
+    lay_sheet(
+        || name.into(),
+        |sheet, buffer| crate::convert(sheet, form, buffer),
+        |sheet, buffer| sheet::convert(sheet, form, buffer),
+        ("sheet", sheet),
+        length,
+    )
+}
+
+/// What both answered, and the buffer of so many bytes after a call that lays a sheet into it, of
+/// bytes with a name.
+fn lay_sheet(
+    call: impl FnOnce() -> String,
+    library: impl FnOnce(&[u8], &mut [u8]) -> Made,
+    second: impl FnOnce(&[u8], &mut [u8]) -> Made,
+    (name, bytes): (&str, &[u8]),
+    length: usize,
+) -> Result<(Made, Vec<u8>), Difference> {
+    let (lent, mut lent_buffer) = (Lent::new(bytes), Lent::pattern(length));
     let mut buffer = lent_buffer.elements().to_vec();
     let made = judge(
-        || {
-            let image = hex(image);
-            format!(
-                "srom_make_sheet for the {chip}, {layout:?}, in {length} bytes\nimage   {image}"
-            )
-        },
+        || format!("{} in {length} bytes\n{name:<7} {}", call(), hex(bytes)),
         [
-            crate::make_sheet(lent.elements(), chip, layout, lent_buffer.elements_mut()),
-            sheet::make(image, chip, layout, &mut buffer),
+            library(lent.elements(), lent_buffer.elements_mut()),
+            second(bytes, &mut buffer),
         ],
         [
-            lent.fault("image", image),
+            lent.fault(name, bytes),
             lent_buffer.fault("buffer", &buffer),
         ],
     )?;

@@ -2,6 +2,7 @@
 //! implementation.
 
 pub mod compare;
+pub mod families;
 pub mod lent;
 pub mod levels;
 pub mod twins;
@@ -10,7 +11,7 @@ pub use second::crc::Checksum;
 pub use second::layout::Layout;
 pub use second::magic::{Magic, MagicAnswer};
 pub use second::reader::{Answer, Arguments};
-pub use second::sheet::Made;
+pub use second::sheet::{Form, Made};
 pub use second::walk::{Walk, Walked};
 
 /// Where a part of the image starts, and how many bytes it has: 0 and 0 for none.
@@ -59,6 +60,7 @@ mod archive {
         pub fn srom_write(
             sheet: *const u8,
             sheet_length: usize,
+            wide: bool,
             layout: Layout,
             image: *mut u8,
             image_length: usize,
@@ -67,7 +69,20 @@ mod archive {
             image: *const u8,
             image_length: usize,
             chip: u16,
+            wide: bool,
             layout: Layout,
+            buffer: *mut u8,
+            buffer_length: usize,
+        ) -> Made;
+        pub fn srom_widen(
+            sheet: *const u8,
+            sheet_length: usize,
+            buffer: *mut u8,
+            buffer_length: usize,
+        ) -> Made;
+        pub fn srom_narrow(
+            sheet: *const u8,
+            sheet_length: usize,
             buffer: *mut u8,
             buffer_length: usize,
         ) -> Made;
@@ -162,15 +177,16 @@ pub fn clear(walk: Walk) -> Walked {
     archive::srom_clear(walk)
 }
 
-/// Writes the image that a sheet describes, and answers the number; a refusal leaves the image as
-/// it is. Where the layout has a Magic Packet block, the image's own is kept.
-pub fn write(sheet: &[u8], layout: Layout, image: &mut [u8]) -> u8 {
+/// Writes the image that a sheet of a form describes, and answers the number; a refusal leaves the
+/// image as it is. Where the layout has a Magic Packet block, the image's own is kept.
+pub fn write(sheet: &[u8], form: Form, layout: Layout, image: &mut [u8]) -> u8 {
     // SAFETY: the call only reads the bytes at `sheet`, and writes no more than those at `image`;
     // the two slices lend it all of these, apart from each other.
     unsafe {
         archive::srom_write(
             sheet.as_ptr(),
             sheet.len(),
+            form.is_wide(),
             layout,
             image.as_mut_ptr(),
             image.len(),
@@ -178,9 +194,9 @@ pub fn write(sheet: &[u8], layout: Layout, image: &mut [u8]) -> u8 {
     }
 }
 
-/// Makes the sheet of a tidy image, in the first bytes of the buffer; a refusal leaves the buffer
-/// as it is.
-pub fn make_sheet(image: &[u8], chip: u16, layout: Layout, buffer: &mut [u8]) -> Made {
+/// Makes the sheet of a tidy image in a form, in the first bytes of the buffer; a refusal leaves the
+/// buffer as it is.
+pub fn make_sheet(image: &[u8], chip: u16, form: Form, layout: Layout, buffer: &mut [u8]) -> Made {
     // SAFETY: the call only reads the bytes at `image`, and writes no more than those at `buffer`;
     // the two slices lend it all of these, apart from each other.
     unsafe {
@@ -188,7 +204,37 @@ pub fn make_sheet(image: &[u8], chip: u16, layout: Layout, buffer: &mut [u8]) ->
             image.as_ptr(),
             image.len(),
             chip,
+            form.is_wide(),
             layout,
+            buffer.as_mut_ptr(),
+            buffer.len(),
+        )
+    }
+}
+
+/// The wide sheet of a narrow one, in the first bytes of the buffer; a refusal leaves the buffer as
+/// it is.
+pub fn widen(sheet: &[u8], buffer: &mut [u8]) -> Made {
+    convert(sheet, Form::Narrow, buffer)
+}
+
+/// The narrow sheet of a wide one, in the same way.
+pub fn narrow(sheet: &[u8], buffer: &mut [u8]) -> Made {
+    convert(sheet, Form::Wide, buffer)
+}
+
+/// The sheet in the other form than this one, which it is read in.
+pub fn convert(sheet: &[u8], form: Form, buffer: &mut [u8]) -> Made {
+    let call = match form {
+        Form::Narrow => archive::srom_widen,
+        Form::Wide => archive::srom_narrow,
+    };
+    // SAFETY: the call only reads the bytes at `sheet`, and writes no more than those at `buffer`;
+    // the two slices lend it all of these, apart from each other.
+    unsafe {
+        call(
+            sheet.as_ptr(),
+            sheet.len(),
             buffer.as_mut_ptr(),
             buffer.len(),
         )

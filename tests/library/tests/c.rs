@@ -12,7 +12,7 @@ use second::random::Random;
 use second::reader::{
     self, Answer, Arguments, CHIPS, COMPACT, MEDIA_21041, NEWEST_LEVEL, NO_DEFAULT,
 };
-use second::sheet::{self, LONGEST_SHEET, Made};
+use second::sheet::{self, FORMS, Form, LONGEST_SHEET, LONGEST_WIDE_SHEET, Made};
 use second::walk::{
     AUTOSENSE, AUTOSENSE_NWAY, AUTOSENSE_ONCE, Autosense, EMPTY_CONNECTION, NONE, ROW_LENGTH, Rows,
     Walk, Walked, Way,
@@ -194,7 +194,7 @@ fn header_is_cpp17() {
 
 /// The header's names for document 01's refusals, by their numbers, and document 02's from 29 on. There is no 28, and 22 "is
 /// retired".
-const REFUSALS: [&str; 31] = [
+const REFUSALS: [&str; 32] = [
     "ACCEPTED",
     "BAD_IMAGE_LENGTH",
     "BAD_VERSION",
@@ -226,6 +226,7 @@ const REFUSALS: [&str; 31] = [
     "BAD_MAGIC_RESERVED",
     "REPEATED_MODE",
     "NO_FIXED_MEDIUM",
+    "SHEET_TOO_LARGE",
 ];
 
 /// Each number that the header names is the second implementation's, or the documents'.
@@ -235,6 +236,7 @@ fn header_numbers() {
         ("SMALL_SIZE".to_owned(), SMALL.into()),
         ("LARGE_SIZE".to_owned(), LARGE.into()),
         ("LONGEST_SHEET".to_owned(), LONGEST_SHEET),
+        ("LONGEST_WIDE_SHEET".to_owned(), LONGEST_WIDE_SHEET),
         ("NEWEST_LEVEL".to_owned(), NEWEST_LEVEL.into()),
         ("NONE".to_owned(), NONE.into()),
         ("KIND_COMPACT".to_owned(), COMPACT.into()),
@@ -355,26 +357,54 @@ fn header_rows() {
     assert_eq!(ROW_LENGTH, 256);
 }
 
-/// Document 01, 'The sheet': the manual's table has a row for each field, at the byte where the second implementation has it.
+/// Document 01, 'The sheet', and document 02, request 7: the manual's table has a row for each field, and a column for each form,
+/// at the byte where the second implementation has it.
 #[test]
 fn header_sheet_layout() {
-    let expected = [
-        sheet::COUNT.to_string(),
-        sheet::TOTAL.to_string(),
-        range(sheet::ID, 16),
-        (sheet::ID + 16).to_string(),
-        sheet::VERSION.to_string(),
-        range(sheet::ADDRESS, 6),
-        sheet::DEVICE.to_string(),
-        pair(sheet::CHIP),
-        pair(sheet::CONNECTION),
-        sheet::CONTROL.to_string(),
-        pair(sheet::MAKER),
-        sheet::KINDS.to_string(),
-        format!("{} + 2N", sheet::KINDS),
-        format!("{} + 3N", sheet::KINDS),
-    ];
-    assert_eq!(header_places("Sheets", 0), expected);
+    for (column, form) in FORMS.into_iter().enumerate() {
+        let size = |first: usize| match form {
+            Form::Narrow => first.to_string(),
+            Form::Wide => pair(first),
+        };
+        let place = |narrow| form.place(narrow);
+        let expected = [
+            size(sheet::COUNT),
+            size(form.total()),
+            range(place(sheet::ID), 16),
+            (place(sheet::ID) + 16).to_string(),
+            place(sheet::VERSION).to_string(),
+            range(place(sheet::ADDRESS), 6),
+            place(sheet::DEVICE).to_string(),
+            pair(place(sheet::CHIP)),
+            pair(place(sheet::CONNECTION)),
+            place(sheet::CONTROL).to_string(),
+            pair(place(sheet::MAKER)),
+            place(sheet::KINDS).to_string(),
+            format!("{} + 2N", place(sheet::KINDS)),
+            format!("{} + 3N", place(sheet::KINDS)),
+        ];
+        assert_eq!(header_places("Sheets", column), expected, "{form:?}");
+    }
+}
+
+/// What the manual says of the longest sheets is what the second implementation finds.
+#[test]
+fn header_longest_sheets() {
+    let header = fs::read_to_string(root().join("include/srom.h")).unwrap();
+    let header = header.replace("\n * ", " ");
+    let [narrow, wide] = FORMS.map(|form| form.longest(Layout::PLAIN));
+    let large = Form::Wide.longest(Layout::LARGE_PLAIN);
+    assert_eq!(
+        [narrow, wide, large],
+        [34 + 3 * 91 + 91, 400, 36 + 3 * 255 + 471]
+    );
+    for said in [
+        "34 + 3 * 91 + 91, which is SROM_LONGEST_SHEET, and 400 in the wide form",
+        "36 + 3 * 255 + 471, which is SROM_LONGEST_WIDE_SHEET",
+        "of an image of 128 bytes that has 400",
+    ] {
+        assert!(header.contains(said), "{said}");
+    }
 }
 
 /// What tests/fields.c prints of a walk.
@@ -394,6 +424,12 @@ fn walk_fields(walk: &Walk) -> String {
         walk.looks,
         walk.switches
     )
+}
+
+/// What tests/fields.c prints of a sheet that was made.
+fn made_fields(made: Made, buffer: &[u8]) -> String {
+    let sheet = hex(&buffer[..made.length]);
+    format!("made {} {} {sheet}", made.number, made.length)
 }
 
 /// What tests/fields.c prints for an image, from the second implementation.
@@ -440,16 +476,26 @@ fn fields_expected(image: &[u8], arguments: Arguments) -> Vec<String> {
         };
         expected.push(format!("walked {number}{}", walk_fields(&walk.walk())));
     }
-    let mut buffer = [0; 1024];
-    let made = sheet::make(image, chip, layout, &mut buffer);
-    expected.push(format!("made {} {}", made.number, made.length));
-    let mut copy = image.to_vec();
-    copy.iter_mut()
-        .take(90)
-        .skip(30)
-        .for_each(|byte| *byte = 0xFF);
-    let number = sheet::write(&buffer[..made.length], layout, &mut copy);
-    expected.push(format!("written {number} {}", hex(&copy)));
+    for form in FORMS {
+        let mut buffer = [0; 2048];
+        let made = sheet::make(image, chip, form, layout, &mut buffer);
+        expected.push(made_fields(made, &buffer));
+        let sheet = &buffer[..made.length];
+        let mut copy = image.to_vec();
+        copy.iter_mut()
+            .take(90)
+            .skip(30)
+            .for_each(|byte| *byte = 0xFF);
+        let number = sheet::write(sheet, form, layout, &mut copy);
+        expected.push(format!("written {number} {}", hex(&copy)));
+        for room in [60, 2048] {
+            for read in FORMS {
+                let mut other = vec![0; room];
+                let made = sheet::convert(sheet, read, &mut other);
+                expected.push(made_fields(made, &other));
+            }
+        }
+    }
     expected
 }
 

@@ -1,9 +1,7 @@
 //! The CRC calls of the library against the second implementation.
 
-mod families;
-
-use families::{Family, Numbers, numbers_table, row, show, tallies};
 use library::compare::{self, agreed};
+use library::families::{Family, Numbers, numbers_table, show, tallies, total_row};
 use library::lent::hex;
 use second::crc::{self, ID_CRC_OFFSET, ID_LAST_OFFSET, lay_crcs};
 use second::images::{Image, WRONG_SIZES};
@@ -192,13 +190,9 @@ fn library_answers_as_second() {
         total
             .iter_mut()
             .zip(answered)
-            .for_each(|(total, it)| *total += it.0.iter().flatten().sum::<usize>());
+            .for_each(|(total, it)| *total += it.calls());
     }
-    show(&row(
-        "calls",
-        &total,
-        &total.iter().sum::<usize>().to_string(),
-    ));
+    show(&total_row("calls", &total));
     assert!(wrong.is_empty(), "{wrong:?}");
 }
 

@@ -8,7 +8,7 @@
 #include <stdlib.h>
 #include <string.h>
 
-enum { ROOM = 2048, ROW = 256 };
+enum { ROOM = 2048, ROW = 256, TOO_SHORT = 60 };
 
 static void show_checksum(srom_checksum checksum)
 {
@@ -72,17 +72,28 @@ static void show_magic(const uint8_t *image, size_t length, uint16_t size)
     }
 }
 
-/* The sheet, and its image, written over a copy of the one that it was made of. */
-static void show_sheet(const uint8_t *image, size_t length, uint16_t chip, srom_layout layout)
+static void show_made(srom_made made, const uint8_t *buffer)
 {
-    static uint8_t buffer[ROOM], copy[ROOM];
-    srom_made made = srom_make_sheet(image, length, chip, layout, buffer, ROOM);
-    printf("made %u %zu\n", made.number, made.length);
+    printf("made %u %zu", made.number, made.length);
+    show_bytes(buffer, made.length);
+    printf("\n");
+}
+
+/* The sheet in a form, its image, written over a copy of the one that it was made of, and the sheet in both forms again. */
+static void show_sheet(const uint8_t *image, size_t length, uint16_t chip, bool wide, srom_layout layout)
+{
+    static uint8_t sheet[ROOM], other[ROOM], copy[ROOM];
+    srom_made made = srom_make_sheet(image, length, chip, wide, layout, sheet, ROOM);
+    show_made(made, sheet);
     memcpy(copy, image, ROOM);
     memset(copy + 30, 0xFF, 60);
-    printf("written %u", srom_write(buffer, made.length, layout, copy, length));
+    printf("written %u", srom_write(sheet, made.length, wide, layout, copy, length));
     show_bytes(copy, length);
     printf("\n");
+    for (size_t room = TOO_SHORT; room <= ROOM; room += ROOM - TOO_SHORT) {
+        show_made(srom_widen(sheet, made.length, other, room), other);
+        show_made(srom_narrow(sheet, made.length, other, room), other);
+    }
 }
 
 int main(int count, char **words)
@@ -116,6 +127,7 @@ int main(int count, char **words)
         report[k] = walk.looks == 1;
     walk = show_walked(srom_look(walk, report, ROW));
     show_walked(srom_clear(walk));
-    show_sheet(image, length, arguments.chip, arguments.layout);
+    show_sheet(image, length, arguments.chip, false, arguments.layout);
+    show_sheet(image, length, arguments.chip, true, arguments.layout);
     return 0;
 }

@@ -1,9 +1,7 @@
 //! The Magic Packet block of the library against the second implementation, and both returns.
 
-mod families;
-
-use families::{Family, Numbers, numbers_table, row, show, tallies};
 use library::compare::{self, agreed};
+use library::families::{Family, Numbers, numbers_table, show, tallies, total_row};
 use library::lent::hex;
 use library::{Magic, MagicAnswer};
 use second::crc::lay_magic_crc;
@@ -139,16 +137,8 @@ fn library_reads_and_writes_as_second() {
         [&WRITE_NUMBERS, &WRITE_NUMBERS, &[1]],
         &mut wrong,
     ));
-    let calls = |tally: &Tally| {
-        let numbers = tally.reads.0.iter().chain(&tally.writes.0);
-        numbers.flatten().sum::<usize>()
-    };
-    let cells = tallies.each_ref().map(calls);
-    show(&row(
-        "calls",
-        &cells,
-        &cells.iter().sum::<usize>().to_string(),
-    ));
+    let calls = |tally: &Tally| tally.reads.calls() + tally.writes.calls();
+    show(&total_row("calls", &tallies.each_ref().map(calls)));
     assert!(wrong.is_empty(), "{wrong:?}");
 }
 

@@ -1,9 +1,7 @@
 //! Reading and the block view of the library against the second implementation.
 
-mod families;
-
-use families::{Family, Numbers, numbers_table, row, show, tallies};
 use library::compare::{self, agreed};
+use library::families::{Family, Numbers, numbers_table, seen_rows, show, tallies, total_row};
 use second::calls::{block_count, near_lengths};
 use second::crc::lay_crcs;
 use second::images::{Card, DAMAGES, Sample, WRONG_SIZES, random_image};
@@ -26,9 +24,6 @@ const LEVELS: [u8; 10] = [0, 1, 2, 3, 4, 5, 6, 7, 8, 255];
 
 /// Of a longer table so many entries are viewed, its first and its last among them.
 const MOST_VIEWS: usize = 12;
-
-/// Each of what [`Tally::seen`] counts is met so often.
-const LEAST_SEEN: usize = 1_000;
 
 /// What is counted of leaves that are accepted.
 const SEEN: [&str; 5] = ["power 1", "power 2+", "high", "blocks 92+", "blocks 255"];
@@ -313,17 +308,11 @@ fn library_reads_as_second() {
     let numbers = tallies.each_ref().map(|tally| &tally.numbers);
     let can_answer = [&READ_NUMBERS[..], &READ_NUMBERS, &[1]];
     let mut table = numbers_table("read", &names, numbers, can_answer, &mut wrong);
-    for (place, title) in SEEN.into_iter().enumerate() {
-        let cells = tallies.each_ref().map(|tally| tally.seen[place]);
-        let total: usize = cells.iter().sum();
-        table += &row(title, &cells, &total.to_string());
-        if total < LEAST_SEEN {
-            wrong.push(format!("{title}: only {total} leaves"));
-        }
-    }
+    let seen = tallies.each_ref().map(|tally| &tally.seen[..]);
+    table += &seen_rows(&SEEN, seen, &mut wrong);
     let cells = tallies.each_ref().map(|tally| tally.calls);
     let calls: usize = cells.iter().sum();
-    table += &row("calls", &cells, &calls.to_string());
+    table += &total_row("calls", &cells);
     show(&table);
     assert!(wrong.is_empty(), "{wrong:?}");
     assert!(calls >= LEAST_CALLS, "only {calls} calls were compared");

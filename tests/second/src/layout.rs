@@ -21,9 +21,6 @@ pub const LAYOUTS: [Layout; 4] = [
     Layout::LARGE_MAGIC,
 ];
 
-/// Those that sheets are of: "Sheets and their writer keep to 128 bytes for now" (request 6).
-pub const SHEET_LAYOUTS: [Layout; 2] = [Layout::PLAIN, Layout::MAGIC];
-
 /// The size that is stated of an image, and whether it has a Magic Packet block. The library's C
 /// interface has the same layout.
 #[repr(C)]

@@ -210,6 +210,7 @@ pub(crate) enum Refusal {
     MagicReserved = 30,
     RepeatedMode = 31,
     NoFixedMedium = 32,
+    SheetTooLarge = 33,
 }
 
 impl Refusal {

@@ -1,23 +1,23 @@
-//! The sheet, its writer and its maker (document 01, "The sheet"; document 02, request 1, for the
-//! layout with a Magic Packet block, and request 6, by which sheets keep to the smaller ROM), with a
-//! plain record between the sheet's bytes and the image's.
+//! The sheet in its two forms, its writer, its maker and its converters (document 01, "The sheet";
+//! document 02, request 1, for the layout with a Magic Packet block, and request 7, for the wide form
+//! and the larger ROM), with a plain record between the sheet's bytes and the image's.
 
 pub mod fast;
 
 use crate::crc::{ID_LAST_OFFSET, lay_board_crcs};
-use crate::layout::{Layout, SMALL, is_of_size};
+use crate::layout::{LAYOUTS, Layout, is_of_size};
 use crate::reader::{
     ADDRESS_OFFSET, Arguments, CHIPS, COMPACT, CONTROLLERS_OFFSET, COUNT_OFFSET, EXT, EXTENDED,
-    MEDIA_21041, Refusal, VERSION_OFFSET, field, first_block, header_size, kind, leaf, refuse_if,
-    word,
+    HIGHEST_COUNT, MEDIA_21041, Refusal, VERSION_OFFSET, field, first_block, header_size, kind,
+    leaf, refuse_if, word,
 };
 
 /// Where the writer puts the leaf, and where a tidy image has it.
 pub const TIDY_LEAF: usize = 30;
 
-/// The places of the sheet's fields.
+/// The places of the narrow sheet's fields; [`Form::total`] and [`Form::place`] say where the wide one
+/// has them. N stands first in both.
 pub const COUNT: usize = 0;
-pub const TOTAL: usize = 1;
 pub const ID: usize = 2;
 pub const VERSION: usize = 19;
 pub const ADDRESS: usize = 20;
@@ -31,11 +31,113 @@ pub const KINDS: usize = 34;
 /// The longest body of an extended block: its length, of seven bits, counts the type too.
 pub const LONGEST_BODY: usize = !EXTENDED as usize - 1;
 
-/// The longest sheet of an accepted image: as many blocks as a leaf can hold, of one byte each.
-pub const LONGEST_SHEET: usize = KINDS + 4 * Layout::PLAIN.most_blocks();
+/// The sizes of a 21041 block, without EXT and with it.
+pub const MEDIA_SIZES: [usize; 2] = [1, 7];
 
-/// What the sheet maker answers: number 0 and the sheet's length, or the refusal's number and 0.
-/// The library's C interface has the same layout.
+/// The longest sheets of accepted images in each form, of the largest ROM that it serves.
+pub const LONGEST_SHEET: usize = Form::Narrow.longest(Layout::PLAIN);
+pub const LONGEST_WIDE_SHEET: usize = Form::Wide.longest(Layout::LARGE_PLAIN);
+
+/// The forms of a sheet: "In the wide sheet N and T are words, and all that follows stands two bytes
+/// later" (document 02, request 7).
+#[derive(Debug, Clone, Copy, PartialEq, Eq)]
+pub enum Form {
+    Narrow,
+    Wide,
+}
+
+pub const FORMS: [Form; 2] = [Form::Narrow, Form::Wide];
+
+/// Each form with each layout that it serves.
+pub fn served() -> impl Iterator<Item = (Form, Layout)> {
+    let with_layouts = |form: Form| form.layouts().iter().map(move |&layout| (form, layout));
+    FORMS.into_iter().flat_map(with_layouts)
+}
+
+impl Form {
+    /// The form as the C interface names it.
+    pub const fn of(wide: bool) -> Self {
+        if wide { Self::Wide } else { Self::Narrow }
+    }
+
+    pub const fn is_wide(self) -> bool {
+        matches!(self, Self::Wide)
+    }
+
+    pub const fn other(self) -> Self {
+        Self::of(!self.is_wide())
+    }
+
+    /// How many bytes N has, and T.
+    pub const fn width(self) -> usize {
+        match self {
+            Self::Narrow => 1,
+            Self::Wide => 2,
+        }
+    }
+
+    /// The highest N and T that it can say.
+    pub const fn most(self) -> usize {
+        (1 << (8 * self.width())) - 1
+    }
+
+    /// Where T stands.
+    pub const fn total(self) -> usize {
+        COUNT + self.width()
+    }
+
+    /// Where a field behind T stands that the narrow form has at this place.
+    pub const fn place(self, narrow: usize) -> usize {
+        narrow - ID + 2 * self.width()
+    }
+
+    /// The length of a sheet with so many blocks and body bytes.
+    pub const fn length(self, count: usize, total: usize) -> usize {
+        self.place(KINDS) + 3 * count + total
+    }
+
+    /// The length of the longest sheet of an accepted image. It has as many blocks as a leaf can
+    /// hold, since one more adds 3 bytes beside its body, and of these as many with EXT as have room,
+    /// in a leaf of the 21041's, whose blocks stand whole in the sheet.
+    pub const fn longest(self, layout: Layout) -> usize {
+        let [plain, ext] = MEDIA_SIZES;
+        let blocks = layout.most_blocks();
+        let places = layout.leaf_limit() - TIDY_LEAF - 3;
+        let with_ext = (places - blocks * plain) / (ext - plain);
+        self.length(blocks, blocks * plain + with_ext * (ext - plain))
+    }
+
+    /// The layouts that it serves: "both ROM sizes in the wide one; the old form gets 1 for any but
+    /// 128 bytes".
+    pub const fn layouts(self) -> &'static [Layout] {
+        match self {
+            Self::Narrow => &[Layout::PLAIN, Layout::MAGIC],
+            Self::Wide => &LAYOUTS,
+        }
+    }
+
+    /// Whether an image has the stated size, and the form serves it.
+    pub fn serves(self, image: &[u8], layout: Layout) -> bool {
+        self.layouts().contains(&layout) && is_of_size(image, layout.size)
+    }
+
+    /// N and T, of a sheet that is long enough to have both.
+    pub fn sizes(self, sheet: &[u8]) -> (usize, usize) {
+        let number = |place: usize| {
+            let bytes = sheet[place..place + self.width()].iter().rev();
+            bytes.fold(0, |number, &byte| number << 8 | usize::from(byte))
+        };
+        (number(COUNT), number(self.total()))
+    }
+
+    /// The chip of a sheet that is long enough to have one.
+    pub fn chip(self, sheet: &[u8]) -> u16 {
+        word(sheet, self.place(CHIP))
+    }
+}
+
+/// What the sheet maker and the converters answer: number 0 and the sheet's length, or the refusal's
+/// number and 0. The library's C interface has the same layout.
 #[repr(C)]
 #[derive(Debug, Clone, Copy, PartialEq, Eq)]
 pub struct Made {
@@ -65,38 +167,55 @@ struct Body {
     bytes: Vec<u8>,
 }
 
-/// Writes the image that a sheet describes, and answers the number; a refusal leaves the image as
-/// it is. What stands behind the board's part in the image is kept, and judged with the rest.
-pub fn write(sheet: &[u8], layout: Layout, image: &mut [u8]) -> u8 {
-    let written = try_write(sheet, layout, image);
+/// Writes the image that a sheet of a form describes, and answers the number; a refusal leaves the
+/// image as it is. What stands behind the board's part in the image is kept, and judged with the rest.
+pub fn write(sheet: &[u8], form: Form, layout: Layout, image: &mut [u8]) -> u8 {
+    let written = try_write(sheet, form, layout, image);
     if let Ok(written) = &written {
         image.copy_from_slice(written);
     }
     Refusal::number(&written)
 }
 
-/// Makes the sheet of a tidy image, in the first bytes of the buffer; a refusal leaves the buffer
-/// as it is.
-pub fn make(image: &[u8], chip: u16, layout: Layout, buffer: &mut [u8]) -> Made {
-    let made = try_make(image, chip, layout, buffer.len());
-    if let Ok(sheet) = &made {
-        buffer[..sheet.len()].copy_from_slice(sheet);
-    }
+/// Makes the sheet of a tidy image in a form, in the first bytes of the buffer; a refusal leaves the
+/// buffer as it is.
+pub fn make(image: &[u8], chip: u16, form: Form, layout: Layout, buffer: &mut [u8]) -> Made {
+    lay_sheet(try_make(image, chip, form, layout), buffer)
+}
+
+/// The wide sheet of a narrow one, in the first bytes of the buffer; a refusal leaves the buffer as
+/// it is.
+pub fn widen(sheet: &[u8], buffer: &mut [u8]) -> Made {
+    convert(sheet, Form::Narrow, buffer)
+}
+
+/// The narrow sheet of a wide one, in the same way.
+pub fn narrow(sheet: &[u8], buffer: &mut [u8]) -> Made {
+    convert(sheet, Form::Wide, buffer)
+}
+
+/// The sheet in the other form than this one, which it is read in.
+pub fn convert(sheet: &[u8], form: Form, buffer: &mut [u8]) -> Made {
+    lay_sheet(try_convert(sheet, form), buffer)
+}
+
+/// Lays a sheet into the buffer, where it was not refused and the buffer is long enough.
+fn lay_sheet(sheet: Result<Vec<u8>, Refusal>, buffer: &mut [u8]) -> Made {
+    let laid = sheet.and_then(|sheet| {
+        let place = buffer.get_mut(..sheet.len()).ok_or(Refusal::ShortArray)?;
+        place.copy_from_slice(&sheet);
+        Ok(sheet.len())
+    });
     Made {
-        number: Refusal::number(&made),
-        length: made.map_or(0, |sheet| sheet.len()),
+        number: Refusal::number(&laid),
+        length: laid.unwrap_or(0),
     }
 }
 
-/// Whether sheets are of such images: "Sheets and their writer keep to 128 bytes for now" (document
-/// 02, request 6).
-pub(crate) fn is_served(image: &[u8], layout: Layout) -> bool {
-    layout.size == SMALL && is_of_size(image, layout.size)
-}
-
-fn try_write(sheet: &[u8], layout: Layout, output: &[u8]) -> Result<Vec<u8>, Refusal> {
-    let record = Record::of_sheet(sheet).ok_or(Refusal::SheetLengthOrSum)?;
-    refuse_if(!is_served(output, layout), Refusal::ImageLength)?;
+fn try_write(sheet: &[u8], form: Form, layout: Layout, output: &[u8]) -> Result<Vec<u8>, Refusal> {
+    let record = Record::of_sheet(sheet, form).ok_or(Refusal::SheetLengthOrSum)?;
+    refuse_if(record.blocks.len() > HIGHEST_COUNT, Refusal::SheetTooLarge)?;
+    refuse_if(!form.serves(output, layout), Refusal::ImageLength)?;
     refuse_if(!CHIPS.contains(&record.chip), Refusal::Chip)?;
     refuse_if(record.has_wrong_form(), Refusal::KindOrBody)?;
     let leaf_bytes = record.leaf();
@@ -111,13 +230,8 @@ fn try_write(sheet: &[u8], layout: Layout, output: &[u8]) -> Result<Vec<u8>, Ref
     Ok(image)
 }
 
-fn try_make(
-    image: &[u8],
-    chip: u16,
-    layout: Layout,
-    buffer_length: usize,
-) -> Result<Vec<u8>, Refusal> {
-    refuse_if(!is_served(image, layout), Refusal::ImageLength)?;
+fn try_make(image: &[u8], chip: u16, form: Form, layout: Layout) -> Result<Vec<u8>, Refusal> {
+    refuse_if(!form.serves(image, layout), Refusal::ImageLength)?;
     let newest = Arguments::newest(chip).laid_out(layout);
     let (header, blocks) = leaf(image, newest, usize::MAX)?;
     let start = header.first_block - header_size(chip);
@@ -130,20 +244,28 @@ fn try_make(
             .iter()
             .all(|&byte| byte == 0);
     refuse_if(!is_tidy, Refusal::NotTidy)?;
-    let sheet = Record::of_image(image, chip, layout).sheet();
-    refuse_if(buffer_length < sheet.len(), Refusal::ShortArray)?;
-    Ok(sheet)
+    Ok(Record::of_image(image, chip, layout).sheet(form))
+}
+
+fn try_convert(sheet: &[u8], form: Form) -> Result<Vec<u8>, Refusal> {
+    let record = Record::of_sheet(sheet, form).ok_or(Refusal::SheetLengthOrSum)?;
+    let other = form.other();
+    refuse_if(
+        record.blocks.len().max(record.body_bytes()) > other.most(),
+        Refusal::SheetTooLarge,
+    )?;
+    Ok(record.sheet(other))
 }
 
 impl Record {
     /// None where the length is not the one that the sizes give, or the total is not their sum.
-    fn of_sheet(sheet: &[u8]) -> Option<Self> {
-        let (head, arrays) = sheet.split_at_checked(KINDS)?;
-        let count = usize::from(head[COUNT]);
+    fn of_sheet(sheet: &[u8], form: Form) -> Option<Self> {
+        let (head, arrays) = sheet.split_at_checked(form.place(KINDS))?;
+        let (count, total) = form.sizes(head);
         let (kinds, rest) = arrays.split_at_checked(2 * count)?;
         let (sizes, mut bodies) = rest.split_at_checked(count)?;
         let sum: usize = sizes.iter().map(|&size| usize::from(size)).sum();
-        if usize::from(head[TOTAL]) != sum || bodies.len() != sum {
+        if total != sum || bodies.len() != sum {
             return None;
         }
         let blocks = sizes.iter().enumerate().map(|(number, &size)| {
@@ -156,14 +278,14 @@ impl Record {
         });
         Some(Self {
             blocks: blocks.collect(),
-            id: field(head, ID),
-            version: head[VERSION],
-            address: field(head, ADDRESS),
-            device: head[DEVICE],
-            chip: word(head, CHIP),
-            connection: word(head, CONNECTION),
-            control: head[CONTROL],
-            maker: field(head, MAKER),
+            id: field(head, form.place(ID)),
+            version: head[form.place(VERSION)],
+            address: field(head, form.place(ADDRESS)),
+            device: head[form.place(DEVICE)],
+            chip: form.chip(head),
+            connection: word(head, form.place(CONNECTION)),
+            control: head[form.place(CONTROL)],
+            maker: field(head, form.place(MAKER)),
         })
     }
 
@@ -227,10 +349,16 @@ impl Record {
         lay_board_crcs(image, layout);
     }
 
-    /// The sheet's bytes, the sizes first.
-    fn sheet(&self) -> Vec<u8> {
-        let sizes: Vec<_> = self.blocks.iter().map(|body| body.bytes.len()).collect();
-        let mut sheet = vec![self.blocks.len() as u8, sizes.iter().sum::<usize>() as u8];
+    fn body_bytes(&self) -> usize {
+        self.blocks.iter().map(|body| body.bytes.len()).sum()
+    }
+
+    /// The sheet's bytes in a form, the sizes first.
+    fn sheet(&self, form: Form) -> Vec<u8> {
+        let mut sheet = Vec::new();
+        for size in [self.blocks.len(), self.body_bytes()] {
+            sheet.extend(&size.to_le_bytes()[..form.width()]);
+        }
         sheet.extend(self.id);
         sheet.push(self.version);
         sheet.extend(self.address);
@@ -240,7 +368,7 @@ impl Record {
         sheet.push(self.control);
         sheet.extend(self.maker);
         sheet.extend(self.blocks.iter().flat_map(|body| body.kind.to_le_bytes()));
-        sheet.extend(sizes.iter().map(|&size| size as u8));
+        sheet.extend(self.blocks.iter().map(|body| body.bytes.len() as u8));
         sheet.extend(self.blocks.iter().flat_map(|body| &body.bytes));
         sheet
     }
@@ -273,11 +401,8 @@ impl Body {
             0..COMPACT => chip == 21041 || bytes.len() > LONGEST_BODY,
             COMPACT => chip == 21041 || bytes.len() != 4 || bytes[0] & EXTENDED != 0,
             MEDIA_21041 => {
-                let right = match bytes.first() {
-                    Some(code) if code & EXT != 0 => 7,
-                    _ => 1,
-                };
-                chip != 21041 || bytes.len() != right
+                let has_ext = bytes.first().is_some_and(|code| code & EXT != 0);
+                chip != 21041 || bytes.len() != MEDIA_SIZES[usize::from(has_ext)]
             }
             _ => true,
         }

@@ -1,6 +1,7 @@
-//! Sheets to test with: a builder that lays every field as it is told, and random sheets that the
-//! writer accepts.
+//! Sheets to test with: a builder that lays every field as it is told, in either form, and random
+//! sheets that the writer accepts.
 
+pub mod converted;
 mod damage;
 pub mod tidy;
 
@@ -10,10 +11,18 @@ use crate::images::{
 use crate::layout::{LARGE, Layout, SMALL};
 use crate::random::Random;
 use crate::reader::{CHIPS, COMPACT, header_size};
+use crate::sheet::{Form, MEDIA_SIZES};
 
 /// The refusals that one damaged field of a sheet can cause, in the writer's order: all but the one
 /// for the output's size.
-pub const SHEET_DAMAGES: [u8; 12] = [24, 7, 25, 26, 2, 11, 14, 15, 16, 17, 18, 31];
+pub const SHEET_DAMAGES: [u8; 13] = [24, 33, 7, 25, 26, 2, 11, 14, 15, 16, 17, 18, 31];
+
+/// Those of [`SHEET_DAMAGES`] that a sheet of this form can meet: a narrow one cannot say too many
+/// blocks.
+pub fn sheet_damages(form: Form) -> Vec<u8> {
+    let is_met = |&number: &u8| form.is_wide() || number != 33;
+    SHEET_DAMAGES.into_iter().filter(is_met).collect()
+}
 
 /// All that a sheet says. The counts, sizes and sums are laid as the blocks have them.
 #[derive(Debug, Clone)]
@@ -47,14 +56,13 @@ impl Sheet {
         }
     }
 
-    /// The sheet's bytes.
-    pub fn bytes(&self) -> Vec<u8> {
-        let sizes = self.blocks.iter().map(|(_, body)| body.len() as u8);
-        let sizes: Vec<_> = sizes.collect();
-        let total = sizes
-            .iter()
-            .fold(0, |sum: u8, &size| sum.wrapping_add(size));
-        let mut bytes = vec![self.blocks.len() as u8, total];
+    /// The sheet's bytes in a form, which takes the low bits of a count or a sum that is too large for
+    /// it.
+    pub fn bytes(&self, form: Form) -> Vec<u8> {
+        let mut bytes = Vec::new();
+        for size in [self.blocks.len(), self.body_bytes()] {
+            bytes.extend(&size.to_le_bytes()[..form.width()]);
+        }
         bytes.extend(self.id);
         bytes.push(self.version);
         bytes.extend(&self.address.to_be_bytes()[2..]);
@@ -64,16 +72,20 @@ impl Sheet {
         bytes.push(self.control);
         bytes.extend(self.maker);
         bytes.extend(self.blocks.iter().flat_map(|(kind, _)| kind.to_le_bytes()));
-        bytes.extend(sizes);
+        bytes.extend(self.blocks.iter().map(|(_, body)| body.len() as u8));
         bytes.extend(self.blocks.iter().flat_map(|(_, body)| body));
         bytes
     }
 
-    /// The card whose image the writer must write, behind which this block is kept.
-    pub fn card(&self, magic: Option<MagicBlock>) -> Card {
+    pub fn body_bytes(&self) -> usize {
+        self.blocks.iter().map(|(_, body)| body.len()).sum()
+    }
+
+    /// The card whose image of so many bytes the writer must write, behind which this block is kept.
+    pub fn card(&self, size: u16, magic: Option<MagicBlock>) -> Card {
         let mut leaf = Leaf::new(TIDY_LEAF, self.chip, self.connection, self.whole_blocks());
         leaf.control = self.control;
-        let mut card = Card::new(1, vec![leaf]);
+        let mut card = Card::new(1, vec![leaf]).sized(size);
         card.private[..16].copy_from_slice(&self.id[..16]);
         card.private[17] = self.id[16];
         card.version = self.version;
@@ -87,15 +99,35 @@ impl Sheet {
         card
     }
 
-    /// A random sheet of any chip that the writer accepts in a layout that sheets are of, once in a
-    /// while the one with the most blocks.
+    /// A random sheet of any chip that the writer accepts in a layout, in a form that serves it, once
+    /// in a while the longest.
     pub fn valid(random: &mut Random, layout: Layout) -> Self {
         let chip = random.pick(&CHIPS);
-        let room = layout.leaf_limit() - TIDY_LEAF - header_size(chip);
-        let mut blocks = images::blocks(random, chip, room);
         if chip == 21041 && random.one_in(8) {
-            blocks = Card::longest(random, layout).leaves.remove(0).blocks;
+            return Self::longest(random, layout);
         }
+        let room = layout.leaf_limit() - TIDY_LEAF - header_size(chip);
+        let blocks = images::blocks(random, chip, room);
+        Self::with_blocks(random, chip, &blocks)
+    }
+
+    /// The longest sheet of a layout: of the most blocks, as many have EXT as there is room for.
+    pub fn longest(random: &mut Random, layout: Layout) -> Self {
+        let leaf = Card::longest(random, layout).leaves.remove(0);
+        let [plain, ext] = MEDIA_SIZES;
+        let more = (layout.leaf_limit() - leaf.end()) / (ext - plain);
+        let mut blocks = leaf.blocks;
+        let first = random.below(blocks.len());
+        for number in 0..more {
+            let index = (first + number) % blocks.len();
+            let code = blocks[index][0];
+            blocks[index] = block::media(code, Some(random.bytes()));
+        }
+        Self::with_blocks(random, leaf.chip, &blocks)
+    }
+
+    /// A sheet with these whole blocks, and any values in the other fields that the writer accepts.
+    fn with_blocks(random: &mut Random, chip: u16, blocks: &[Vec<u8>]) -> Self {
         let connection = images::connection(random, chip);
         Self {
             id: random.bytes(),
@@ -104,28 +136,27 @@ impl Sheet {
             device: random.byte(),
             control: if chip == 21140 { random.byte() } else { 0 },
             maker: random.bytes(),
-            ..Self::new(chip, connection, &blocks)
+            ..Self::new(chip, connection, blocks)
         }
     }
 
-    /// The bytes of a sheet in which one field is damaged so that the writer refuses it with this
-    /// number, one of [`SHEET_DAMAGES`], in a layout.
-    pub fn damaged(random: &mut Random, number: u8, layout: Layout) -> Vec<u8> {
+    /// The bytes of a sheet in a form in which one field is damaged so that the writer refuses it with
+    /// this number, one of [`sheet_damages`], in a layout.
+    pub fn damaged(random: &mut Random, number: u8, form: Form, layout: Layout) -> Vec<u8> {
         loop {
             let mut sheet = Self::valid(random, layout);
             if number == 24 {
-                let mut bytes = sheet.bytes();
-                damage::missum(random, &mut bytes, sheet.blocks.len());
-                return bytes;
+                return sheet.missummed(random, form);
             }
-            if sheet.damage(random, number, layout) {
-                return sheet.bytes();
+            if sheet.damage(random, number, form, layout) {
+                return sheet.bytes(form);
             }
         }
     }
 
-    /// The bytes of a sheet with any kinds, sizes and bodies, and with sums that are mostly right.
-    pub fn wild(random: &mut Random) -> Vec<u8> {
+    /// The bytes of a sheet in a form with any kinds, sizes and bodies, and with sums that are mostly
+    /// right.
+    pub fn wild(random: &mut Random, form: Form) -> Vec<u8> {
         let chip = random.pick(&CHIPS);
         let mut sheet = Self::valid(random, Layout::PLAIN);
         sheet.chip = chip;
@@ -153,7 +184,11 @@ impl Sheet {
         };
         let blocks = (0..4).map(body).collect::<Vec<_>>();
         sheet.blocks = blocks[..random.below(5)].to_vec();
-        let mut bytes = sheet.bytes();
+        if form.is_wide() && random.one_in(8) {
+            let count = random.below(300);
+            sheet.blocks = sheet.blocks.into_iter().cycle().take(count).collect();
+        }
+        let mut bytes = sheet.bytes(form);
         if random.one_in(16) {
             let length = random.below(bytes.len() + 1);
             bytes.truncate(length);
@@ -191,19 +226,20 @@ pub fn output(random: &mut Random, layout: Layout) -> Image {
     image
 }
 
-/// An output that no sheet is written to, with what is stated of it: another length, another stated
-/// size, or both, often the larger ROM as it should be.
-pub fn unserved(random: &mut Random, magic: bool) -> (Layout, Image) {
-    if random.one_in(3) {
+/// An output that no sheet of a form is written to, with what is stated of it: another length, another
+/// stated size, or both, for the narrow form often the larger ROM as it should be.
+pub fn unserved(random: &mut Random, form: Form, magic: bool) -> (Layout, Image) {
+    if !form.is_wide() && random.one_in(3) {
         let layout = Layout::new(LARGE, magic);
         return (layout, output(random, layout));
     }
     loop {
         let sizes = [random.pick(&WRONG_SIZES), SMALL, LARGE];
         let (stated, length) = (random.pick(&sizes), random.pick(&sizes));
-        if (stated, length) != (SMALL, SMALL) {
-            let length = usize::from(length).min(2 * usize::from(LARGE));
-            return (Layout::new(stated, magic), random.row(length));
+        let length = usize::from(length).min(2 * usize::from(LARGE));
+        let (layout, image) = (Layout::new(stated, magic), random.row(length));
+        if !form.serves(&image, layout) {
+            return (layout, image);
         }
     }
 }
@@ -216,134 +252,4 @@ fn body(block: &[u8], chip: u16) -> (u16, Vec<u8>) {
 }
 
 #[cfg(test)]
-mod tests {
-    use super::*;
-    use crate::images::MAGIC_DAMAGES;
-    use crate::layout::SHEET_LAYOUTS;
-    use crate::sheet::write;
-
-    /// "Writing a sheet": each valid sheet is accepted, with the image that the builder of images
-    /// lays, and behind it the block that the output held.
-    #[test]
-    fn valid_sheets_are_accepted() {
-        let mut random = Random::new(1);
-        for layout in SHEET_LAYOUTS {
-            let mut last_places = 0;
-            for _ in 0..10_000 {
-                let sheet = Sheet::valid(&mut random, layout);
-                let magic = MagicBlock::of_layout(&mut random, layout);
-                let mut image = random.row(layout.size.into());
-                if let Some(block) = magic {
-                    block.lay(&mut image);
-                }
-                assert_eq!(write(&sheet.bytes(), layout, &mut image), 0, "{sheet:02x?}");
-                assert_eq!(image, sheet.card(magic).image(), "{sheet:02x?}");
-                last_places += usize::from(sheet.leaf_end() == layout.leaf_limit());
-            }
-            assert!(
-                last_places > 500,
-                "only {last_places} leaves up to the limit"
-            );
-        }
-    }
-
-    /// "Sheets and their writer keep to 128 bytes", "24 sheet length or sum, then 1": an output that is
-    /// not served is refused with 1 whatever else is wrong, but for 24.
-    #[test]
-    fn outputs_that_are_not_served() {
-        let mut random = Random::new(5);
-        for number in [0].into_iter().chain(SHEET_DAMAGES) {
-            for round in 0..400 {
-                let layout = SHEET_LAYOUTS[round % 2];
-                let sheet = match number {
-                    0 => Sheet::valid(&mut random, layout).bytes(),
-                    _ => Sheet::damaged(&mut random, number, layout),
-                };
-                let (stated, before) = unserved(&mut random, layout.magic);
-                let mut image = before.clone();
-                let expected = if number == 24 { 24 } else { 1 };
-                assert_eq!(write(&sheet, stated, &mut image), expected, "{stated:?}");
-                assert_eq!(image, before, "{stated:?}");
-            }
-        }
-    }
-
-    /// "its cause met and no earlier cause ... image unchanged": each damage is refused with its
-    /// own number.
-    #[test]
-    fn damages_are_refused() {
-        let mut random = Random::new(2);
-        for number in SHEET_DAMAGES {
-            for round in 0..1_000 {
-                let layout = SHEET_LAYOUTS[round % 2];
-                let sheet = Sheet::damaged(&mut random, number, layout);
-                let before = output(&mut random, layout);
-                let mut image = before.clone();
-                assert_eq!(write(&sheet, layout, &mut image), number, "{sheet:02x?}");
-                assert_eq!(image, before, "{sheet:02x?}");
-            }
-        }
-    }
-
-    /// "then": of two damaged fields the one that the writer meets first is answered.
-    #[test]
-    fn first_cause_first() {
-        let mut random = Random::new(3);
-        for (place, &first) in SHEET_DAMAGES[1..].iter().enumerate() {
-            for &later in &SHEET_DAMAGES[2 + place..] {
-                // From 14 to 17 the first block that is refused decides, not the number.
-                if first >= 14 && first != 25 && first != 26 && later < 18 {
-                    continue;
-                }
-                for layout in SHEET_LAYOUTS {
-                    meets_first(&mut random, first, later, layout);
-                }
-            }
-        }
-    }
-
-    /// Two damages to each of some sheets.
-    fn meets_first(random: &mut Random, first: u8, later: u8, layout: Layout) {
-        let (mut met, mut tries) = (0, 0);
-        while met < 20 && tries < 100_000 {
-            tries += 1;
-            let mut sheet = Sheet::valid(random, layout);
-            if sheet.damage(random, later, layout) && sheet.damage(random, first, layout) {
-                let mut image = output(random, layout);
-                let number = write(&sheet.bytes(), layout, &mut image);
-                assert_eq!(number, first, "{later}: {sheet:02x?}");
-                met += 1;
-            }
-        }
-        assert_eq!(met, 20, "{first} and {later}");
-    }
-
-    /// "keeps bytes 96 to 127, judged with the rest": a damaged block of the output is refused with
-    /// its own number, where the writer meets no cause before: 24 to 26, and the reader's 2.
-    #[test]
-    fn blocks_of_the_output() {
-        let mut random = Random::new(4);
-        let before = [24, 7, 25, 26, 2];
-        for block in MAGIC_DAMAGES {
-            for number in [0].into_iter().chain(SHEET_DAMAGES) {
-                for _ in 0..200 {
-                    let sheet = match number {
-                        0 => Sheet::valid(&mut random, Layout::MAGIC).bytes(),
-                        _ => Sheet::damaged(&mut random, number, Layout::MAGIC),
-                    };
-                    let mut output = output(&mut random, Layout::MAGIC);
-                    MagicBlock::damaged(&mut random, block).lay(&mut output);
-                    let expected = if before.contains(&number) {
-                        number
-                    } else {
-                        block
-                    };
-                    let mut image = output.clone();
-                    let answered = write(&sheet, Layout::MAGIC, &mut image);
-                    assert_eq!(answered, expected, "{block} and {number}: {sheet:02x?}");
-                    assert_eq!(image, output);
-                }
-            }
-        }
-    }
-}
+mod tests;

@@ -12,7 +12,7 @@ use second::layout::{LAYOUTS, Layout, SIZES, SMALL, magic_block, magic_block_mut
 use second::magic::{Magic, read_magic, write_magic};
 use second::random::Random;
 use second::reader::{Arguments, read_all, starts};
-use second::sheet;
+use second::sheet::{self, Form};
 use second::specification::{self, arguments, bytes, number, numbers, opened, text};
 use second::walk::{Autosense, NONE};
 
@@ -55,22 +55,30 @@ fn sheets_are_as_second_has_them() {
     for case in &cases {
         let chip = case.split_once(';').unwrap().0.parse().unwrap();
         let (sheet, image) = (bytes(field(case, "sheet")), bytes(field(case, "image")));
-        both_ways(chip, Layout::PLAIN, &sheet, &image, vec![0; SMALL.into()]);
+        let narrow = (Form::Narrow, Layout::PLAIN);
+        both_ways(chip, narrow, &sheet, &image, vec![0; SMALL.into()]);
     }
     let (_, magic) = text.split_once("caseMagic = record {\n").unwrap();
     let image = block(field(magic, "image"));
     let mut output = vec![0; SMALL.into()];
     magic_block_mut(&mut output).copy_from_slice(magic_block(&image));
     let sheet = bytes(field(cases[0], "sheet"));
-    both_ways(21143, Layout::MAGIC, &sheet, &image, output);
+    let narrow = (Form::Narrow, Layout::MAGIC);
+    both_ways(21143, narrow, &sheet, &image, output);
 }
 
 /// The sheet, written over an output, is the image, and the image is made that sheet.
-fn both_ways(chip: u16, layout: Layout, sheet: &[u8], image: &[u8], mut output: Image) {
-    assert_eq!(sheet::write(sheet, layout, &mut output), 0, "{chip}");
+fn both_ways(
+    chip: u16,
+    (form, layout): (Form, Layout),
+    sheet: &[u8],
+    image: &[u8],
+    mut output: Image,
+) {
+    assert_eq!(sheet::write(sheet, form, layout, &mut output), 0, "{chip}");
     assert_eq!(output[..], *image, "{chip}");
     let mut buffer = vec![0; sheet.len()];
-    let made = sheet::make(&output, chip, layout, &mut buffer);
+    let made = sheet::make(&output, chip, form, layout, &mut buffer);
     assert_eq!((made.number, made.length), (0, sheet.len()), "{chip}");
     assert_eq!(buffer, sheet, "{chip}");
 }

@@ -1,46 +1,66 @@
--- The head's two halves, then the parts. Assumes nothing.
-use Rattle.maker.proofs.Making.{head-room, fields-room, parts-room, sheet-put}
+-- The counts, and all that follows them, lent on as a part. Assumes nothing.
+use Prim.Native.Nat.{_<_}
+use Rattle.maker.proofs.Making.{start-fits, content-room, sheet-put}
 use borrow.Author.Needs.{needs}
 use Rattle.maker.proofs.put_sheet.Statement.{statement}
 use Rattle.maker.proofs.put_sheet.Tie as tie
 
-put-front-requires : tie.Need-put-front-requires
-put-front-requires c κs = head-room (c .before .before .before .before .pre)
+cast-count : tie.Need-cast-count
+cast-count c = search needs
 
-put-fields-requires : tie.Need-put-fields-requires
-put-fields-requires c κs =
-    fields-room (c .before .before .before .before .before .before .before .before .pre) (c .before .before .before .put-front .ensures)
+put-counts-requires : tie.Need-put-counts-requires
+put-counts-requires c κs = search needs
 
-rest-from-requires : tie.Need-rest-from-requires
-rest-from-requires c κs = search needs
+shift-of-requires : tie.Need-shift-of-requires
+shift-of-requires c κs = search needs
 
-put-parts-requires : tie.Need-put-parts-requires
-put-parts-requires c κs =
-    let put-fields = c .before .before .before .before in
-    let put-front = put-fields .before .before .before .before in
-    let start = put-front .before .before .before .before .before in
-    parts-room (start .pre) (put-front .put-front .ensures) (put-fields .put-fields .ensures) _
-    (c .before .rest-from .ensures)
+sub-put-content : tie.Need-sub-put-content
+sub-put-content c =
+    let few : c .before .before .before .before .before .before .before .before .args .reading .answer .blocks < 256
+    = search needs in
+    let put-counts = c .before .before .before in
+    let start = put-counts .before .before .before .before .before in
+    start-fits (start .pre) few (put-counts .put-counts .ensures) (c .shift-of .ensures)
+
+part-put-content-start : tie.Need-part-put-content-start
+part-put-content-start c =
+    sub-put-content c
+
+part-put-content-end : tie.Need-part-put-content-end
+part-put-content-end c = search needs
+
+put-content-requires : tie.Need-put-content-requires
+put-content-requires c κs =
+    let few : c .before .before .before .before .before .before .before .before .before .args .reading .answer .blocks < 256
+    = search needs in
+    let put-counts = c .before .before .before .before in
+    let start = put-counts .before .before .before .before .before in
+    content-room (start .pre) few (put-counts .put-counts .ensures) (c .before .shift-of .ensures)
 
 same-length : tie.Need-same-length
 same-length c = search needs
 
 returns : tie.Need-returns
 returns c =
-    let rest-from = c .before .before .before .before in
-    let put-fields = rest-from .before .before .before in
-    let put-front = put-fields .before .before .before .before in
-    let start = put-front .before .before .before .before .before in
-    sheet-put (start .pre) (put-front .put-front .ensures) (put-fields .put-fields .ensures) _
-    (rest-from .rest-from .ensures) (c .before .before .put-parts .ensures)
+    let few : let start = c .before .before .before .before .before .before .before .before .before .before .before .before in
+    start .args .reading .answer .blocks < 256
+    = search needs in
+    let shift-of = c .before .before .before .before in
+    let put-counts = shift-of .before .before .before in
+    let start = put-counts .before .before .before .before .before in
+    sheet-put (start .pre) few (put-counts .put-counts .ensures) (shift-of .shift-of .ensures)
+    (c .before .before .put-content .ensures)
 
 pub put-sheet-spec : {M : Type 1} → statement M
 put-sheet-spec =
     tie.close
     (tie.spec
-    put-front-requires
-    put-fields-requires
-    rest-from-requires
-    put-parts-requires
+    cast-count
+    put-counts-requires
+    shift-of-requires
+    sub-put-content
+    part-put-content-start
+    part-put-content-end
+    put-content-requires
     same-length
     returns)

@@ -1,11 +1,10 @@
 -- The parts of the sheet stand where the image has them. Assumes nothing.
+use mathlib.Core.Path.{refl}
+use Rattle.writer.specs.Inside.{zeros}
 use Rattle.writer.proofs.Images.{front-is}
 use borrow.Author.Needs.{needs}
 use Rattle.writer.proofs.front.Statement.{statement}
 use Rattle.writer.proofs.front.Tie as tie
-
-blank-requires : tie.Need-blank-requires
-blank-requires c κs = search needs
 
 slice-aggregate-put-bytes : tie.Need-slice-aggregate-put-bytes
 slice-aggregate-put-bytes c = search needs
@@ -37,8 +36,8 @@ part-put-bytes-end-2 c = search needs
 put-bytes-requires-2 : tie.Need-put-bytes-requires-2
 put-bytes-requires-2 c κs = search needs
 
-array-write-image : tie.Need-array-write-image
-array-write-image c = search needs
+array-write-bytes : tie.Need-array-write-bytes
+array-write-bytes c = search needs
 
 slice-aggregate-put-bytes-3 : tie.Need-slice-aggregate-put-bytes-3
 slice-aggregate-put-bytes-3 c = search needs
@@ -65,20 +64,19 @@ put-word-requires : tie.Need-put-word-requires
 put-word-requires c κs = search needs
 
 returns : tie.Need-returns
+unfolding zeros
 returns c =
-    let put-bytes = c .before .before .before .before in
-    let put-bytes′ = put-bytes .before .before .before .before in
-    let put-bytes′′ = put-bytes′ .before .before .before .before in
-    let blank = put-bytes′′ .before .before .before in
-    let start = blank .before .before in
-    front-is (start .args .sheet .now) (start .pre) (blank .blank .ensures) (put-bytes′′ .put-bytes .ensures)
-    (put-bytes′ .put-bytes2 .ensures) (put-bytes .put-bytes3 .ensures) (c .before .put-word .ensures)
+    let third = c .before .before .before .before in
+    let second = third .before .before .before .before in
+    let first = second .before .before .before .before in
+    let start = first .before .before .before .before in
+    front-is (start .args .shifted .now) (start .pre) refl (first .put-bytes .ensures) (second .put-bytes2 .ensures)
+    (third .put-bytes3 .ensures) (c .before .put-word .ensures)
 
 pub front-spec : {M : Type 1} → statement M
 front-spec =
     tie.close
     (tie.spec
-    blank-requires
     slice-aggregate-put-bytes
     sub-put-bytes
     part-put-bytes-start
@@ -89,7 +87,7 @@ front-spec =
     part-put-bytes-start-2
     part-put-bytes-end-2
     put-bytes-requires-2
-    array-write-image
+    array-write-bytes
     slice-aggregate-put-bytes-3
     sub-put-bytes-3
     part-put-bytes-start-3

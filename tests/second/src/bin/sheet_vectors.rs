@@ -1,25 +1,42 @@
-//! Writes 440 records, each a sheet with the layout and the output to write it to, to one file, and
-//! to another the image that each must give and the sheet made of it again, or what the maker answers
-//! to an output that is refused for its size: `sheet_vectors INPUT OUTPUT`.
+//! Writes 640 records, each a sheet of either form with what it is written or converted with, to one
+//! file, and to another what each must give: of a writing the image and the sheet made of it again, or
+//! what the maker answers to an output that is refused for its size, and of a conversion the sheet in
+//! the other form: `sheet_vectors INPUT OUTPUT`.
 //!
-//! A record has the sheet's length (a word, low byte first), the stated size (a word), the layout (1
-//! with a Magic Packet block, 0 without), whether the output is of the larger size (1) or of the
-//! smaller (0), its last 32 bytes, and the sheet. The output's bytes before are 0.
+//! A record has words, low byte first: the sheet's length, the stated size, the length of the buffer
+//! for a sheet, the chip; then bytes: whether the sheet is wide (1) or narrow (0), whether it is
+//! converted (1) or written (0), the layout (1 with a Magic Packet block, 0 without), whether the output
+//! is of the larger size (1) or of the smaller (0), the output's last 32 bytes, and the sheet. The
+//! output's bytes before are 0.
 
-use second::images::{Card, Image, MAGIC_DAMAGES, MagicBlock, WRONG_SIZES};
-use second::layout::{LARGE, Layout, SHEET_LAYOUTS, SIZES, magic_block};
+use second::images::{Image, MAGIC_DAMAGES, MagicBlock, WRONG_SIZES};
+use second::layout::{LARGE, Layout, SIZES, SMALL, magic_block};
 use second::random::Random;
-use second::sheet::{CHIP, LONGEST_SHEET, make, write};
-use second::sheets::{SHEET_DAMAGES, Sheet};
+use second::sheet::{FORMS, Form, KINDS, Made, convert, make, served, write};
+use second::sheets::converted::convert_damages;
+use second::sheets::{Sheet, sheet_damages};
 use std::{env, fs, io, process};
 
-const RECORD_COUNT: usize = 440;
-const DAMAGED_COUNT: usize = 12;
+const RECORD_COUNT: usize = 640;
+const DAMAGED_COUNT: usize = 4;
+const CONVERTED_COUNT: usize = 24;
 
-/// A sheet and what it is written with.
+/// The most bytes of a sheet, and of the buffer for one.
+const ROOM: usize = 4_096;
+
+#[derive(Clone, Copy, PartialEq, Eq)]
+enum Call {
+    Write,
+    Convert,
+}
+
+/// A sheet and what it is written or converted with.
 struct Record {
+    call: Call,
+    form: Form,
     layout: Layout,
     output: Image,
+    room: usize,
     sheet: Vec<u8>,
 }
 
@@ -36,78 +53,160 @@ fn main() -> io::Result<()> {
     fs::write(output, lines)
 }
 
-/// In both layouts sheets without blocks and with the most, no bytes at all, each field damaged, and
-/// valid sheets; valid ones for an output whose block is damaged, or whose size is not served.
 fn records() -> Vec<Record> {
     let mut random = Random::new(1);
-    let mut records = Vec::new();
-    for layout in SHEET_LAYOUTS {
-        let longest = &Card::longest(&mut random, layout).leaves[0];
+    let mut records = conversions(&mut random);
+    records.extend(refused_writings(&mut random));
+    let served: Vec<_> = served().collect();
+    for &(form, layout) in &served {
         for sheet in [
-            Sheet::new(21143, 0x0800, &[]).bytes(),
-            Sheet::new(21041, 0x0900, &longest.blocks).bytes(),
+            Sheet::new(21143, 0x0800, &[]).bytes(form),
+            Sheet::longest(&mut random, layout).bytes(form),
             vec![],
         ] {
-            records.push(Record::new(&mut random, layout, sheet));
-        }
-    }
-    for number in SHEET_DAMAGES {
-        for round in 0..DAMAGED_COUNT {
-            let layout = SHEET_LAYOUTS[round % 2];
-            let sheet = Sheet::damaged(&mut random, number, layout);
-            records.push(Record::new(&mut random, layout, sheet));
-        }
-    }
-    for number in MAGIC_DAMAGES {
-        for _ in 0..DAMAGED_COUNT {
-            let sheet = Sheet::valid(&mut random, Layout::MAGIC).bytes();
-            let mut record = Record::new(&mut random, Layout::MAGIC, sheet);
-            MagicBlock::damaged(&mut random, number).lay(&mut record.output);
-            records.push(record);
-        }
-    }
-    for (output, stated) in other_sizes() {
-        for layout in SHEET_LAYOUTS {
-            let sheet = Sheet::valid(&mut random, layout).bytes();
-            let mut record = Record::new(&mut random, layout, sheet);
-            record.layout.size = stated;
-            record.output = vec![0; output.into()];
-            MagicBlock::valid(&mut random).lay(&mut record.output);
-            records.push(record);
+            records.push(Record::new(&mut random, form, layout, sheet));
         }
     }
     while records.len() < RECORD_COUNT {
-        let layout = random.pick(&SHEET_LAYOUTS);
-        let sheet = Sheet::valid(&mut random, layout).bytes();
-        records.push(Record::new(&mut random, layout, sheet));
+        let (form, layout) = random.pick(&served);
+        let sheet = Sheet::valid(&mut random, layout).bytes(form);
+        let mut record = Record::new(&mut random, form, layout, sheet);
+        let exact = record.sheet.len();
+        record.room = random.pick(&[ROOM, exact, exact - 1]);
+        records.push(record);
     }
     records
 }
 
-/// Sizes of the output, and sizes that are stated of it, that no sheet is written with.
-fn other_sizes() -> impl Iterator<Item = (u16, u16)> {
-    let stated = WRONG_SIZES.into_iter().chain(SIZES);
+/// In each form and layout sheets with each field damaged; valid ones for an output whose block is
+/// damaged, or whose size is not served.
+fn refused_writings(random: &mut Random) -> Vec<Record> {
+    let mut records = Vec::new();
+    for (form, layout) in served() {
+        for number in sheet_damages(form) {
+            for _ in 0..DAMAGED_COUNT {
+                let sheet = short(|| Sheet::damaged(random, number, form, layout));
+                records.push(Record::new(random, form, layout, sheet));
+            }
+        }
+        for number in MAGIC_DAMAGES.into_iter().filter(|_| layout.magic) {
+            for _ in 0..DAMAGED_COUNT {
+                let sheet = Sheet::valid(random, layout).bytes(form);
+                let mut record = Record::new(random, form, layout, sheet);
+                MagicBlock::damaged(random, number).lay(&mut record.output);
+                records.push(record);
+            }
+        }
+        for (output, stated) in other_sizes(form) {
+            // The larger size's sheets are for sizes that no ROM has as the smaller's are.
+            if layout.size == LARGE && SIZES.contains(&stated) {
+                continue;
+            }
+            let sheet = Sheet::valid(random, layout).bytes(form);
+            let mut record = Record::new(random, form, layout, sheet);
+            record.layout.size = stated;
+            record.output = vec![0; output.into()];
+            MagicBlock::valid(random).lay(&mut record.output);
+            records.push(record);
+        }
+    }
+    records
+}
+
+/// Conversions of sheets that each form can say, into buffers that are long enough and too short, and
+/// of those that are refused.
+fn conversions(random: &mut Random) -> Vec<Record> {
+    let mut records = Vec::new();
+    for form in FORMS {
+        for _ in 0..CONVERTED_COUNT {
+            let sheet = Sheet::convertible(random);
+            let needed = sheet.bytes(form.other()).len();
+            let any = random.below(needed);
+            let room = random.pick(&[ROOM, needed, needed - 1, any]);
+            records.push(Record::converted(form, room, sheet.bytes(form)));
+        }
+        for &number in convert_damages(form) {
+            for _ in 0..CONVERTED_COUNT / 2 {
+                let sheet = short(|| Sheet::unconvertible(random, number, form));
+                let room = random.pick(&[ROOM, 0]);
+                records.push(Record::converted(form, room, sheet));
+            }
+        }
+    }
+    records
+}
+
+/// The first sheet that a record has room for.
+fn short(mut sheet: impl FnMut() -> Vec<u8>) -> Vec<u8> {
+    loop {
+        let sheet = sheet();
+        if sheet.len() <= ROOM {
+            return sheet;
+        }
+    }
+}
+
+/// Sizes of the output, and sizes that are stated of it, that no sheet of the form is written with.
+fn other_sizes(form: Form) -> impl Iterator<Item = (u16, u16)> {
+    let stated = WRONG_SIZES.into_iter().step_by(3).chain(SIZES);
     let pairs = stated.flat_map(|stated| SIZES.map(|output| (output, stated)));
-    pairs.filter(|&(output, stated)| output == LARGE || output != stated)
+    pairs.filter(move |&(output, stated)| {
+        let image = vec![0; output.into()];
+        !form.serves(&image, Layout::new(stated, false))
+    })
 }
 
 impl Record {
     /// With an output that has a right block, whether the layout does or not.
-    fn new(random: &mut Random, layout: Layout, sheet: Vec<u8>) -> Self {
+    fn new(random: &mut Random, form: Form, layout: Layout, sheet: Vec<u8>) -> Self {
         let mut output = vec![0; layout.size.into()];
         MagicBlock::valid(random).lay(&mut output);
         Self {
+            call: Call::Write,
+            form,
             layout,
             output,
+            room: ROOM,
             sheet,
         }
     }
 
+    /// A conversion, which has no output but a buffer.
+    fn converted(form: Form, room: usize, sheet: Vec<u8>) -> Self {
+        Self {
+            call: Call::Convert,
+            form,
+            layout: Layout::PLAIN,
+            output: vec![0; SMALL.into()],
+            room,
+            sheet,
+        }
+    }
+
+    /// The chip of a sheet that has one.
+    fn chip(&self) -> u16 {
+        match self.sheet.len() < self.form.place(KINDS) {
+            true => 0,
+            false => self.form.chip(&self.sheet),
+        }
+    }
+
     fn bytes(&self) -> Vec<u8> {
-        let mut bytes = (self.sheet.len() as u16).to_le_bytes().to_vec();
-        bytes.extend(self.layout.size.to_le_bytes());
         let is_large = self.output.len() == LARGE.into();
-        bytes.extend([self.layout.magic, is_large].map(u8::from));
+        let words = [
+            self.sheet.len() as u16,
+            self.layout.size,
+            self.room as u16,
+            self.chip(),
+        ];
+        let flags = [
+            self.form.is_wide(),
+            self.call == Call::Convert,
+            self.layout.magic,
+            is_large,
+        ];
+        let mut bytes = words.map(u16::to_le_bytes).concat();
+        bytes.extend(flags.map(u8::from));
         bytes.extend(magic_block(&self.output));
         bytes.extend(&self.sheet);
         bytes
@@ -115,20 +214,27 @@ impl Record {
 
     /// The image in hex and, on a line of its own, the sheet made of it; for either, the refusal's
     /// number where it is refused. Where the writer refuses the output's size, the maker is asked of
-    /// the output.
+    /// the output. Of a conversion the sheet in the other form.
     fn lines(&self) -> String {
+        if self.call == Call::Convert {
+            return self.line_of_sheet(|buffer| convert(&self.sheet, self.form, buffer));
+        }
         let mut image = self.output.clone();
-        match write(&self.sheet, self.layout, &mut image) {
-            0 => hex(&image) + &self.line_of_sheet(&image),
-            1 => refused(1) + &self.line_of_sheet(&image),
+        match write(&self.sheet, self.form, self.layout, &mut image) {
+            0 => hex(&image) + &self.line_of_made(&image),
+            1 => refused(1) + &self.line_of_made(&image),
             number => refused(number),
         }
     }
 
-    fn line_of_sheet(&self, image: &Image) -> String {
-        let chip = u16::from_le_bytes([self.sheet[CHIP], self.sheet[CHIP + 1]]);
-        let mut buffer = [0; LONGEST_SHEET];
-        let made = make(image, chip, self.layout, &mut buffer);
+    fn line_of_made(&self, image: &Image) -> String {
+        self.line_of_sheet(|buffer| make(image, self.chip(), self.form, self.layout, buffer))
+    }
+
+    /// What a call lays into the buffer.
+    fn line_of_sheet(&self, call: impl FnOnce(&mut [u8]) -> Made) -> String {
+        let mut buffer = vec![0; self.room];
+        let made = call(&mut buffer);
         match made.number {
             0 => hex(&buffer[..made.length]),
             number => refused(number),
@@ -150,39 +256,59 @@ fn hex(bytes: &[u8]) -> String {
 mod tests {
     use super::*;
     use second::reader::POWER;
-    use second::sheet::{COUNT, KINDS};
+    use second::sheet::LONGEST_WIDE_SHEET;
 
-    /// "Writer: 24 ... then the newest reader's number": the records meet all that a sheet can
-    /// cause, and what the output's block and size can. "Sheets and their writer keep to 128 bytes".
+    /// The records of one call.
+    fn records_of(call: Call) -> Vec<Record> {
+        let mut records = records();
+        assert_eq!(records.len(), RECORD_COUNT);
+        records.retain(|record| record.call == call);
+        records
+    }
+
+    /// "Writer: 24 ... then the newest reader's number", 33 after 24: the records of each form and
+    /// layout meet all that a sheet can cause, and what the output's block and size can. "the old form
+    /// gets 1 for any but 128 bytes".
     #[test]
     fn every_refusal() {
-        let records = records();
-        assert_eq!(records.len(), RECORD_COUNT);
-        let lines: Vec<_> = records.iter().map(Record::lines).collect();
-        for number in SHEET_DAMAGES.into_iter().chain(MAGIC_DAMAGES) {
-            let met = lines.iter().filter(|line| **line == refused(number));
-            assert!(met.count() >= DAMAGED_COUNT, "{number}");
+        let records = records_of(Call::Write);
+        for (form, layout) in served() {
+            let blocks = MAGIC_DAMAGES.into_iter().filter(|_| layout.magic);
+            for number in sheet_damages(form).into_iter().chain(blocks) {
+                let is_it = |record: &&Record| (record.form, record.layout) == (form, layout);
+                let of_it = records.iter().filter(is_it);
+                let met = of_it.filter(|record| record.lines() == refused(number));
+                assert!(met.count() >= DAMAGED_COUNT, "{form:?} {layout:?} {number}");
+            }
         }
         let both = refused(1) + &refused(1);
-        for (record, lines) in records.iter().zip(&lines) {
-            let is_served = record.layout.size == 128 && record.output.len() == 128;
+        let mut met = [0; 2];
+        for record in &records {
+            let lines = record.lines();
+            let sizes = (record.layout.size, record.output.len());
+            let is_served = match record.form {
+                Form::Narrow => sizes == (128, 128),
+                Form::Wide => sizes == (128, 128) || sizes == (512, 512),
+            };
             assert!(is_served != lines.starts_with(&refused(1)));
-            assert!(is_served || *lines == both, "{lines}");
+            assert!(is_served || lines == both, "{lines}");
+            met[usize::from(record.form.is_wide())] += usize::from(!is_served);
         }
-        assert!(lines.iter().filter(|lines| **lines == both).count() > 30);
+        assert!(met.iter().all(|&often| often >= 10), "{met:?}");
     }
 
     /// "newest means 7": some of the sheets that are written have power blocks, and some of them two.
     #[test]
     fn power_blocks() {
-        let records = records();
+        let records = records_of(Call::Write);
         let written = records
             .iter()
             .filter(|record| !record.lines().starts_with("refused"));
         let counts: Vec<_> = written
             .map(|record| {
-                let count = usize::from(record.sheet[COUNT]);
-                let kinds = record.sheet[KINDS..][..2 * count].chunks(2);
+                let (count, _) = record.form.sizes(&record.sheet);
+                let kinds = &record.sheet[record.form.place(KINDS)..][..2 * count];
+                let kinds = kinds.chunks(2);
                 kinds.filter(|kind| **kind == POWER.to_le_bytes()).count()
             })
             .collect();
@@ -190,23 +316,58 @@ mod tests {
         assert!(often(1) >= 10 && often(2) >= 3, "{counts:?}");
     }
 
-    /// "Writing a sheet and reading it returns that sheet": the second line is the record's sheet,
-    /// and the first ends with the output's bytes where they are kept.
+    /// "Writing a sheet and reading it returns that sheet": the second line is the record's sheet, or
+    /// 12 where the buffer is too short for it, and the first ends with the output's bytes where they
+    /// are kept.
     #[test]
     fn second_line_is_the_sheet() {
-        for layout in SHEET_LAYOUTS {
-            let mut met = 0;
-            for record in records().iter().filter(|record| record.layout == layout) {
+        let records = records_of(Call::Write);
+        for (form, layout) in served() {
+            let (mut met, mut short, mut longest) = (0, 0, 0);
+            let digits = 2 * usize::from(layout.size);
+            let is_it = |record: &&Record| (record.form, record.layout) == (form, layout);
+            for record in records.iter().filter(is_it) {
                 let lines = record.lines();
                 if lines.starts_with("refused") {
                     continue;
                 }
-                assert_eq!(lines[256..], format!("\n{}", hex(&record.sheet)));
+                let (image, sheet) = lines.split_at(digits + 1);
+                let expected = if record.room < record.sheet.len() {
+                    short += 1;
+                    refused(12)
+                } else {
+                    hex(&record.sheet)
+                };
+                assert_eq!(sheet, expected);
                 let kept = hex(magic_block(&record.output));
-                assert_eq!(lines[192..].starts_with(&kept), layout.magic);
+                assert_eq!(image.ends_with(&kept), layout.magic);
                 met += 1;
+                longest = longest.max(record.sheet.len());
             }
-            assert!(met > 80, "{layout:?}: only {met} sheets are accepted");
+            assert!(met > 12 && short > 2, "{form:?} {layout:?}: {met} {short}");
+            assert_eq!(longest, form.longest(layout));
+        }
+        let lengths = records.iter().map(|record| record.sheet.len());
+        assert!(lengths.max() > Some(LONGEST_WIDE_SHEET));
+    }
+
+    /// "give 24, 33 and 12 only": each converter's answers are met, and 33 is none of widening's.
+    #[test]
+    fn conversions_of_every_number() {
+        let records = records_of(Call::Convert);
+        for form in FORMS {
+            let of_form = records.iter().filter(|record| record.form == form);
+            let lines: Vec<_> = of_form.map(Record::lines).collect();
+            let often = |number| lines.iter().filter(|it| **it == refused(number)).count();
+            let accepted = lines.iter().filter(|it| !it.starts_with("refused")).count();
+            let large = often(33);
+            assert_eq!(accepted + often(24) + often(12) + large, lines.len());
+            assert!(accepted > 6 && often(24) > 6 && often(12) > 6, "{form:?}");
+            assert!(if form.is_wide() {
+                large > 6
+            } else {
+                large == 0
+            });
         }
     }
 }

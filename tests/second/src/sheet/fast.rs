@@ -1,25 +1,32 @@
-//! The same writer and maker with the CRCs by table, in few passes and without allocation.
+//! The same writer, maker and converters with the CRCs by table, in few passes and without
+//! allocation.
 
 use super::{
-    ADDRESS, CHIP, CONNECTION, CONTROL, COUNT, DEVICE, ID, KINDS, LONGEST_BODY, MAKER, Made,
-    TIDY_LEAF, TOTAL, VERSION, is_served,
+    ADDRESS, CHIP, CONNECTION, CONTROL, COUNT, DEVICE, Form, ID, KINDS, LONGEST_BODY, MAKER, Made,
+    TIDY_LEAF, VERSION,
 };
 use crate::crc::fast::{id_crc, magic_crc, srom_crc};
 use crate::crc::{ID_CRC_OFFSET, ID_LAST_OFFSET};
-use crate::layout::{Layout, SMALL};
+use crate::layout::{LARGE, Layout, SMALL};
 use crate::magic;
 use crate::reader::fast::{each_block, each_block_unframed};
 use crate::reader::{
     ADDRESS_OFFSET, Arguments, CHIPS, COMPACT, CONTROLLERS_OFFSET, COUNT_OFFSET, EXT, EXTENDED,
-    MEDIA_21041, Refusal, VERSION_OFFSET, first_block, header_size, is_version, kind, refuse_if,
-    word,
+    HIGHEST_COUNT, MEDIA_21041, Refusal, VERSION_OFFSET, first_block, header_size, is_version,
+    kind, refuse_if, word,
 };
 
-type Image = [u8; SMALL as usize];
-
 /// [`super::write`] without allocation.
-pub fn write(sheet: &[u8], layout: Layout, image: &mut [u8]) -> u8 {
-    let written = try_write(sheet, layout, image);
+pub fn write(sheet: &[u8], form: Form, layout: Layout, image: &mut [u8]) -> u8 {
+    match layout.size {
+        LARGE => write_to::<{ LARGE as usize }>(sheet, form, layout, image),
+        _ => write_to::<{ SMALL as usize }>(sheet, form, layout, image),
+    }
+}
+
+/// The same for images of one size.
+fn write_to<const SIZE: usize>(sheet: &[u8], form: Form, layout: Layout, image: &mut [u8]) -> u8 {
+    let written = try_write::<SIZE>(sheet, form, layout, image);
     if let Ok(written) = &written {
         image.copy_from_slice(written);
     }
@@ -27,28 +34,73 @@ pub fn write(sheet: &[u8], layout: Layout, image: &mut [u8]) -> u8 {
 }
 
 /// [`super::make`] without allocation.
-pub fn make(image: &[u8], chip: u16, layout: Layout, buffer: &mut [u8]) -> Made {
-    let made = try_make(image, chip, layout, buffer);
+pub fn make(image: &[u8], chip: u16, form: Form, layout: Layout, buffer: &mut [u8]) -> Made {
+    answer(try_make(image, chip, form, layout, buffer))
+}
+
+/// [`super::widen`] without allocation.
+pub fn widen(sheet: &[u8], buffer: &mut [u8]) -> Made {
+    answer(try_convert(sheet, Form::Narrow, buffer))
+}
+
+/// [`super::narrow`] without allocation.
+pub fn narrow(sheet: &[u8], buffer: &mut [u8]) -> Made {
+    answer(try_convert(sheet, Form::Wide, buffer))
+}
+
+fn answer(made: Result<usize, Refusal>) -> Made {
     Made {
         number: Refusal::number(&made),
         length: made.unwrap_or(0),
     }
 }
 
-fn try_write(sheet: &[u8], layout: Layout, output: &[u8]) -> Result<Image, Refusal> {
-    refuse_if(sheet.len() < KINDS, Refusal::SheetLengthOrSum)?;
-    let (count, total) = (usize::from(sheet[COUNT]), usize::from(sheet[TOTAL]));
-    let bodies = KINDS + 3 * count;
-    refuse_if(sheet.len() != bodies + total, Refusal::SheetLengthOrSum)?;
-    let sizes = &sheet[KINDS + 2 * count..bodies];
+/// N and T of a sheet, or cause 24.
+fn sizes(sheet: &[u8], form: Form) -> Result<(usize, usize), Refusal> {
+    refuse_if(sheet.len() < form.place(KINDS), Refusal::SheetLengthOrSum)?;
+    let (count, total) = form.sizes(sheet);
+    let is_length = sheet.len() == form.length(count, total);
+    refuse_if(!is_length, Refusal::SheetLengthOrSum)?;
+    let bodies = form.length(count, 0);
+    let sizes = &sheet[bodies - count..bodies];
     let sum: usize = sizes.iter().map(|&size| usize::from(size)).sum();
     refuse_if(sum != total, Refusal::SheetLengthOrSum)?;
-    refuse_if(!is_served(output, layout), Refusal::ImageLength)?;
+    Ok((count, total))
+}
+
+/// What follows N and T is copied.
+fn try_convert(sheet: &[u8], form: Form, buffer: &mut [u8]) -> Result<usize, Refusal> {
+    let (count, total) = sizes(sheet, form)?;
+    let other = form.other();
+    refuse_if(count.max(total) > other.most(), Refusal::SheetTooLarge)?;
+    let length = other.length(count, total);
+    let place = buffer.get_mut(..length).ok_or(Refusal::ShortArray)?;
+    lay_sizes(place, other, count, total);
+    place[other.place(ID)..].copy_from_slice(&sheet[form.place(ID)..]);
+    Ok(length)
+}
+
+fn lay_sizes(sheet: &mut [u8], form: Form, count: usize, total: usize) {
+    let width = form.width();
+    sheet[COUNT..][..width].copy_from_slice(&count.to_le_bytes()[..width]);
+    sheet[form.total()..][..width].copy_from_slice(&total.to_le_bytes()[..width]);
+}
+
+fn try_write<const SIZE: usize>(
+    sheet: &[u8],
+    form: Form,
+    layout: Layout,
+    output: &[u8],
+) -> Result<[u8; SIZE], Refusal> {
+    let (count, _) = sizes(sheet, form)?;
+    refuse_if(count > HIGHEST_COUNT, Refusal::SheetTooLarge)?;
+    refuse_if(!form.serves(output, layout), Refusal::ImageLength)?;
     let mut image = output.try_into().map_err(|_| Refusal::ImageLength)?;
-    let chip = word(sheet, CHIP);
+    let chip = form.chip(sheet);
     refuse_if(!CHIPS.contains(&chip), Refusal::Chip)?;
-    lay_head(sheet, chip, layout, &mut image);
-    let end = lay_blocks(sheet, chip, &mut image[..layout.leaf_limit()])?;
+    lay_head(sheet, form, chip, layout, &mut image);
+    image[TIDY_LEAF + header_size(chip) - 1] = count as u8;
+    let end = lay_blocks(sheet, form, chip, count, &mut image[..layout.leaf_limit()])?;
     refuse_if(end > layout.leaf_limit(), Refusal::LeafPastLimit)?;
     refuse_if(!is_version(&image), Refusal::Version)?;
     image[ID_CRC_OFFSET] = id_crc(&image, layout.size).value as u8;
@@ -62,32 +114,45 @@ fn try_write(sheet: &[u8], layout: Layout, output: &[u8]) -> Result<Image, Refus
     Ok(image)
 }
 
-/// Lays all that the sheet says of the image but for the blocks and the CRCs.
-fn lay_head(sheet: &[u8], chip: u16, layout: Layout, image: &mut Image) {
+/// Lays all that the sheet says of the image but for the block count, the blocks and the CRCs.
+fn lay_head<const SIZE: usize>(
+    sheet: &[u8],
+    form: Form,
+    chip: u16,
+    layout: Layout,
+    image: &mut [u8; SIZE],
+) {
+    let from = |narrow: usize, size: usize| &sheet[form.place(narrow)..][..size];
     image[..layout.board_end()].fill(0);
-    image[..16].copy_from_slice(&sheet[ID..ID + 16]);
-    image[ID_LAST_OFFSET] = sheet[ID + 16];
-    image[VERSION_OFFSET] = sheet[VERSION];
+    image[..16].copy_from_slice(from(ID, 16));
+    image[ID_LAST_OFFSET] = sheet[form.place(ID) + 16];
+    image[VERSION_OFFSET] = sheet[form.place(VERSION)];
     image[COUNT_OFFSET] = 1;
-    image[ADDRESS_OFFSET..=CONTROLLERS_OFFSET].copy_from_slice(&sheet[ADDRESS..=DEVICE]);
+    image[ADDRESS_OFFSET..=CONTROLLERS_OFFSET].copy_from_slice(from(ADDRESS, DEVICE + 1 - ADDRESS));
     image[CONTROLLERS_OFFSET + 1] = TIDY_LEAF as u8;
-    image[TIDY_LEAF..TIDY_LEAF + 2].copy_from_slice(&sheet[CONNECTION..CONNECTION + 2]);
+    image[TIDY_LEAF..TIDY_LEAF + 2].copy_from_slice(from(CONNECTION, 2));
     if chip == 21140 {
-        image[TIDY_LEAF + 2] = sheet[CONTROL];
+        image[TIDY_LEAF + 2] = sheet[form.place(CONTROL)];
     }
-    image[TIDY_LEAF + header_size(chip) - 1] = sheet[COUNT];
-    image[layout.leaf_limit()..][..2].copy_from_slice(&sheet[MAKER..MAKER + 2]);
+    image[layout.leaf_limit()..][..2].copy_from_slice(from(MAKER, 2));
 }
 
 /// Lays the blocks into the image up to the limit as far as they fit, and answers where the leaf
 /// ends.
-fn lay_blocks(sheet: &[u8], chip: u16, image: &mut [u8]) -> Result<usize, Refusal> {
-    refuse_if(chip != 21140 && sheet[CONTROL] != 0, Refusal::KindOrBody)?;
-    let count = usize::from(sheet[COUNT]);
-    let (mut end, mut start) = (TIDY_LEAF + header_size(chip), KINDS + 3 * count);
+fn lay_blocks(
+    sheet: &[u8],
+    form: Form,
+    chip: u16,
+    count: usize,
+    image: &mut [u8],
+) -> Result<usize, Refusal> {
+    let has_control = chip == 21140 || sheet[form.place(CONTROL)] == 0;
+    refuse_if(!has_control, Refusal::KindOrBody)?;
+    let kinds = form.place(KINDS);
+    let (mut end, mut start) = (TIDY_LEAF + header_size(chip), kinds + 3 * count);
     for number in 0..count {
-        let kind = word(sheet, KINDS + 2 * number);
-        let size = usize::from(sheet[KINDS + 2 * count + number]);
+        let kind = word(sheet, kinds + 2 * number);
+        let size = usize::from(sheet[kinds + 2 * count + number]);
         let body = &sheet[start..start + size];
         start += size;
         refuse_if(has_wrong_form(kind, body, chip), Refusal::KindOrBody)?;
@@ -117,8 +182,14 @@ fn has_wrong_form(kind: u16, body: &[u8], chip: u16) -> bool {
     }
 }
 
-fn try_make(image: &[u8], chip: u16, layout: Layout, buffer: &mut [u8]) -> Result<usize, Refusal> {
-    refuse_if(!is_served(image, layout), Refusal::ImageLength)?;
+fn try_make(
+    image: &[u8],
+    chip: u16,
+    form: Form,
+    layout: Layout,
+    buffer: &mut [u8],
+) -> Result<usize, Refusal> {
+    refuse_if(!form.serves(image, layout), Refusal::ImageLength)?;
     let (first, limit) = (TIDY_LEAF + header_size(chip), layout.leaf_limit());
     let (mut end, mut total) = (first, 0);
     let newest = Arguments::newest(chip).laid_out(layout);
@@ -132,19 +203,20 @@ fn try_make(image: &[u8], chip: u16, layout: Layout, buffer: &mut [u8]) -> Resul
         && image[end..limit].iter().all(|&byte| byte == 0);
     refuse_if(!is_tidy, Refusal::NotTidy)?;
     let count = usize::from(answer.blocks);
-    let length = KINDS + 3 * count + total;
+    let length = form.length(count, total);
     let sheet = buffer.get_mut(..length).ok_or(Refusal::ShortArray)?;
-    sheet[COUNT] = answer.blocks;
-    sheet[TOTAL] = total as u8;
-    sheet[ID..ID + 16].copy_from_slice(&image[..16]);
-    sheet[ID + 16] = image[ID_LAST_OFFSET];
-    sheet[VERSION] = image[VERSION_OFFSET];
-    sheet[ADDRESS..=DEVICE].copy_from_slice(&image[ADDRESS_OFFSET..=CONTROLLERS_OFFSET]);
-    sheet[CHIP..CHIP + 2].copy_from_slice(&chip.to_le_bytes());
-    sheet[CONNECTION..CONNECTION + 2].copy_from_slice(&answer.connection.to_le_bytes());
-    sheet[CONTROL] = answer.control;
-    sheet[MAKER..KINDS].copy_from_slice(&image[limit..limit + 2]);
-    let (kinds, rest) = sheet[KINDS..].split_at_mut(2 * count);
+    lay_sizes(sheet, form, count, total);
+    let (head, arrays) = sheet.split_at_mut(form.place(KINDS));
+    let fields = &mut head[form.place(ID)..];
+    fields[..16].copy_from_slice(&image[..16]);
+    fields[16] = image[ID_LAST_OFFSET];
+    fields[VERSION - ID] = image[VERSION_OFFSET];
+    fields[ADDRESS - ID..=DEVICE - ID].copy_from_slice(&image[ADDRESS_OFFSET..=CONTROLLERS_OFFSET]);
+    fields[CHIP - ID..][..2].copy_from_slice(&chip.to_le_bytes());
+    fields[CONNECTION - ID..][..2].copy_from_slice(&answer.connection.to_le_bytes());
+    fields[CONTROL - ID] = answer.control;
+    fields[MAKER - ID..].copy_from_slice(&image[limit..limit + 2]);
+    let (kinds, rest) = arrays.split_at_mut(2 * count);
     let (sizes, mut bodies) = rest.split_at_mut(count);
     let mut rest = &image[first..limit];
     for (place, size) in kinds.chunks_exact_mut(2).zip(sizes) {

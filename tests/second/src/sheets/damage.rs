@@ -1,23 +1,30 @@
 //! Damage to one field of a valid sheet, for each refusal that a field can cause.
 
+use super::converted::over_a_byte;
 use super::{Sheet, body};
 use crate::images::damage::{between, chip, damage_leaf, other_than, wrong_connection};
 use crate::images::{Leaf, TIDY_LEAF, block};
 use crate::layout::Layout;
 use crate::random::Random;
-use crate::reader::{COMPACT, EXT, EXTENDED, MEDIA_21041, NEWEST_LEVEL, permitted_kinds};
-use crate::sheet::{COUNT, KINDS, LONGEST_BODY, TOTAL};
+use crate::reader::{
+    COMPACT, EXT, EXTENDED, HIGHEST_COUNT, MEDIA_21041, NEWEST_LEVEL, permitted_kinds,
+};
+use crate::sheet::{COUNT, Form, KINDS, LONGEST_BODY, MEDIA_SIZES};
 
-/// The most body bytes that a sheet's total can count.
-const MOST_BODY_BYTES: usize = 255;
+/// The largest body size, which is a byte in either form.
+pub(super) const LARGEST_BODY: usize = 255;
 
 impl Sheet {
-    /// Damages one field so that the writer of a layout refuses the sheet with this number and none
-    /// before it; false where the sheet has no such field or not enough places for it, with the sheet
-    /// then of no use.
-    pub fn damage(&mut self, random: &mut Random, number: u8, layout: Layout) -> bool {
+    /// Damages one field so that the writer of a form and a layout refuses the sheet with this number
+    /// and none before it; false where the sheet has no such field or not enough places for it, with
+    /// the sheet then of no use.
+    pub fn damage(&mut self, random: &mut Random, number: u8, form: Form, layout: Layout) -> bool {
         let limit = layout.leaf_limit();
         let is_damaged = match number {
+            33 => {
+                self.crowd(random);
+                Some(())
+            }
             2 => {
                 self.version = other_than(random, &[3, 4]);
                 Some(())
@@ -30,31 +37,73 @@ impl Sheet {
                 self.connection = wrong_connection(random, self.chip);
                 Some(())
             }
-            25 => self.misform(random),
+            25 => self.misform(random, form),
             26 => self.overflow(random, limit),
             14 => self.forbid(random),
             15..=18 | 31 => self.damage_blocks(random, number, limit),
             _ => None,
         };
-        let is_short = number == 7 || number == 25 || self.leaf_end() <= limit;
-        let fits = is_short != (number == 26) && self.body_bytes() <= MOST_BODY_BYTES;
-        is_damaged.is_some() && fits
+        let is_short = [33, 7, 25].contains(&number) || self.leaf_end() <= limit;
+        let is_said = self.blocks.len() <= form.most() && self.body_bytes() <= form.most();
+        let is_crowded = self.blocks.len() > HIGHEST_COUNT;
+        is_damaged.is_some()
+            && is_said
+            && is_short != (number == 26)
+            && is_crowded == (number == 33)
     }
 
-    fn body_bytes(&self) -> usize {
-        self.blocks.iter().map(|(_, body)| body.len()).sum()
+    /// Cause 33: more blocks than a leaf's count can name.
+    fn crowd(&mut self, random: &mut Random) {
+        let count = over_a_byte(random);
+        let smallest = match self.chip {
+            21041 => (MEDIA_21041, vec![0]),
+            _ => (block::FIRST_UNKNOWN.into(), vec![]),
+        };
+        self.blocks.resize(count.max(self.blocks.len()), smallest);
+    }
+
+    /// The sheet's bytes in a form with cause 24: a length that N and T do not give, or sizes that do
+    /// not sum up to T.
+    pub(super) fn missummed(&self, random: &mut Random, form: Form) -> Vec<u8> {
+        let mut bytes = self.bytes(form);
+        let flaw = 1 + random.below(0xFF) as u8;
+        let (length, blocks) = (bytes.len(), self.blocks.len());
+        let (width, more) = (form.width(), self.body_bytes() + 1);
+        match random.below(7) {
+            0 => bytes[COUNT + random.below(width)] ^= flaw,
+            1 => bytes[form.total() + random.below(width)] ^= flaw,
+            2 => bytes.truncate(random.below(length)),
+            3 => {
+                let most = random.pick(&[1, 3, 300]);
+                let more = 1 + random.below(most);
+                bytes.extend(random.row(more));
+            }
+            // Lengths that agree with each other, and not with the sizes.
+            4 if more <= form.most() => {
+                bytes[form.total()..][..width].copy_from_slice(&more.to_le_bytes()[..width]);
+                bytes.push(random.byte());
+            }
+            5 if blocks > 0 => {
+                bytes[form.place(KINDS) + 2 * blocks + random.below(blocks)] ^= flaw;
+            }
+            5 => bytes.clear(),
+            _ => {
+                bytes.pop();
+            }
+        }
+        bytes
     }
 
     /// Cause 25: a kind that is none or of the other family, a body that does not fit its kind, or
     /// a control byte that the chip does not have.
-    fn misform(&mut self, random: &mut Random) -> Option<()> {
+    fn misform(&mut self, random: &mut Random, form: Form) -> Option<()> {
         let is_21041 = self.chip == 21041;
         let cause = random.below(7);
         if cause == 0 {
             self.control = 1 + random.below(0xFF) as u8;
             return (self.chip != 21140).then_some(());
         }
-        let left = MOST_BODY_BYTES.checked_sub(self.body_bytes())?;
+        let left = form.most().checked_sub(self.body_bytes())?;
         let index = random.below(self.blocks.len().max(1));
         let (kind, body) = self.blocks.get_mut(index)?;
         match cause {
@@ -66,6 +115,7 @@ impl Sheet {
             2 => *kind = MEDIA_21041,
             3 if *kind < COMPACT => {
                 let least = LONGEST_BODY + 1 - body.len();
+                let left = left.min(LARGEST_BODY - body.len());
                 let any = between(random, least, left.max(least));
                 let more = random.pick(&[least, any]);
                 body.extend(random.row(more));
@@ -102,12 +152,22 @@ impl Sheet {
             } else {
                 0
             };
-        if self.chip == 21041 {
-            self.blocks.extend(vec![(MEDIA_21041, vec![0]); size]);
-        } else {
-            let length = size.saturating_sub(2).min(LONGEST_BODY);
-            let kind = random.pick(&[block::FIRST_UNKNOWN, 77, 255]);
-            self.blocks.push((kind.into(), random.row(length)));
+        let mut left = size;
+        while left > 0 {
+            let (kind, body) = match self.chip {
+                21041 => {
+                    let registers = (left >= MEDIA_SIZES[1]).then(|| random.bytes());
+                    (MEDIA_21041, block::media(0, registers))
+                }
+                _ => {
+                    let length = left.saturating_sub(2).min(LONGEST_BODY);
+                    let kind = random.pick(&[block::FIRST_UNKNOWN, 77, 255]);
+                    (kind.into(), random.row(length))
+                }
+            };
+            let opening = if kind < COMPACT { 2 } else { 0 };
+            left = left.saturating_sub(opening + body.len());
+            self.blocks.push((kind, body));
         }
         Some(())
     }
@@ -149,32 +209,5 @@ impl Sheet {
             .map(|block| body(block, self.chip))
             .collect();
         Some(())
-    }
-}
-
-/// Cause 24: a length that the first two bytes do not give, or sizes that do not sum up to the
-/// total.
-pub fn missum(random: &mut Random, bytes: &mut Vec<u8>, blocks: usize) {
-    let flaw = 1 + random.below(0xFF) as u8;
-    let length = bytes.len();
-    match random.below(7) {
-        0 => bytes[COUNT] ^= flaw,
-        1 => bytes[TOTAL] ^= flaw,
-        2 => bytes.truncate(random.below(length)),
-        3 => {
-            bytes.pop();
-        }
-        4 => {
-            let most = random.pick(&[1, 3, 300]);
-            let more = 1 + random.below(most);
-            bytes.extend(random.row(more));
-        }
-        // Lengths that agree with each other, and not with the sizes.
-        5 => {
-            bytes[TOTAL] += 1;
-            bytes.push(random.byte());
-        }
-        _ if blocks > 0 => bytes[KINDS + 2 * blocks + random.below(blocks)] ^= flaw,
-        _ => bytes.clear(),
     }
 }

@@ -2,41 +2,42 @@
 
 use super::Sheet;
 use crate::images::{Card, Image, MagicBlock, Sample, TIDY_LEAF};
-use crate::layout::SHEET_LAYOUTS;
 use crate::random::Random;
 use crate::reader::Arguments;
+use crate::sheet::Form;
 
 /// The refusals of [`crate::images::DAMAGES`] that the maker can answer: those of the controller,
 /// the level and the address are not for controller 0.
 pub const TIDY_DAMAGES: [u8; 17] = [1, 2, 3, 4, 29, 30, 5, 7, 10, 11, 13, 14, 15, 16, 17, 18, 31];
 
-/// A tidy card of any chip and of either layout that sheets are of, and the newest reader of it.
-pub fn tidy(random: &mut Random) -> Sample {
-    let layout = random.pick(&SHEET_LAYOUTS);
+/// A tidy card of any chip and of any layout that a form serves, and the newest reader of it.
+pub fn tidy(random: &mut Random, form: Form) -> Sample {
+    let layout = random.pick(form.layouts());
     let sheet = Sheet::valid(random, layout);
     Sample {
-        card: sheet.card(MagicBlock::of_layout(random, layout)),
+        card: sheet.card(layout.size, MagicBlock::of_layout(random, layout)),
         arguments: Arguments::newest(sheet.chip).laid_out(layout),
     }
 }
 
-/// A tidy card with one field damaged so that the maker refuses its image with this number, one of
-/// [`TIDY_DAMAGES`].
-pub fn damaged(random: &mut Random, number: u8) -> Sample {
+/// A tidy card with one field damaged so that the maker of a form refuses its image with this number,
+/// one of [`TIDY_DAMAGES`].
+pub fn damaged(random: &mut Random, number: u8, form: Form) -> Sample {
     loop {
-        let mut sample = tidy(random);
+        let mut sample = tidy(random, form);
         if sample.damage(random, number) {
             return sample;
         }
     }
 }
 
-/// An image that the newest reader with these arguments accepts, and that is mostly not tidy.
-pub fn untidy(random: &mut Random) -> (Image, Arguments) {
+/// An image of a layout that a form serves, which the newest reader with these arguments accepts, and
+/// which is mostly not tidy.
+pub fn untidy(random: &mut Random, form: Form) -> (Image, Arguments) {
     let Sample {
         mut card,
         arguments,
-    } = tidy(random);
+    } = tidy(random, form);
     let leaf = &mut card.leaves[0];
     let (end, limit) = (leaf.end(), arguments.layout.leaf_limit());
     let places = limit - end;

@@ -9,11 +9,11 @@ use Rattle.console.specs.Commands.{commandTable, pickCommand, commandOf}
 use Rattle.console.proofs.command.command_of.Statement.{statement}
 use Rattle.console.proofs.command.command_of.Tie as tie
 
-past : (n : ℕ) → 9 < n → pickCommand n ≡ 0
+past : (n : ℕ) → 11 < n → pickCommand n ≡ 0
 unfolding pick
 past n h = simp (lt-ltb _ _ h)
 
-within : (n : ℕ) → n ≤ 9 → pickCommand n ≡ n
+within : (n : ℕ) → n ≤ 11 → pickCommand n ≡ n
 unfolding pick
 within n h = simp (le-ltb _ _ h)
 

@@ -26,18 +26,19 @@ returns-3 c =
     simp (ne-eqb _ _ (c .before .before .before .if1 .left), ne-eqb _ _ (c .before .before .if2 .left), eq-eqb _ _ (c .before .if3 .taken))
     (c .takes-size .ensures)
 
+takes-wide-requires : tie.Need-takes-wide-requires
+takes-wide-requires c κs = search needs
+
 returns-4 : tie.Need-returns-4
 unfolding takesOption pick
 returns-4 c =
     simp (
-      ne-eqb _ _ (c .before .before .before .if1 .left),
-      ne-eqb _ _ (c .before .before .if2 .left),
-      ne-eqb _ _ (c .before .if3 .left),
-      lt-ltb _ _ (c .if4 .taken),
+      ne-eqb _ _ (c .before .before .before .before .if1 .left),
+      ne-eqb _ _ (c .before .before .before .if2 .left),
+      ne-eqb _ _ (c .before .before .if3 .left),
+      eq-eqb _ _ (c .before .if4 .taken),
     )
-
-takes-arguments-requires : tie.Need-takes-arguments-requires
-takes-arguments-requires c κs = search needs
+    (c .takes-wide .ensures)
 
 returns-5 : tie.Need-returns-5
 unfolding takesOption pick
@@ -46,11 +47,36 @@ returns-5 c =
       ne-eqb _ _ (c .before .before .before .before .if1 .left),
       ne-eqb _ _ (c .before .before .before .if2 .left),
       ne-eqb _ _ (c .before .before .if3 .left),
-      le-ltb _ _ (c .before .if4 .left),
+      ne-eqb _ _ (c .before .if4 .left),
+      lt-ltb _ _ (c .if5 .taken),
+    )
+
+takes-arguments-requires : tie.Need-takes-arguments-requires
+takes-arguments-requires c κs = search needs
+
+returns-6 : tie.Need-returns-6
+unfolding takesOption pick
+returns-6 c =
+    simp (
+      ne-eqb _ _ (c .before .before .before .before .before .if1 .left),
+      ne-eqb _ _ (c .before .before .before .before .if2 .left),
+      ne-eqb _ _ (c .before .before .before .if3 .left),
+      ne-eqb _ _ (c .before .before .if4 .left),
+      le-ltb _ _ (c .before .if5 .left),
     )
     (c .takes-arguments .ensures)
 
 pub takes-spec : {M : Type 1} → statement M
 takes-spec =
     tie.close
-    (tie.spec takes-force-requires returns returns-2 takes-size-requires returns-3 returns-4 takes-arguments-requires returns-5)
+    (tie.spec
+    takes-force-requires
+    returns
+    returns-2
+    takes-size-requires
+    returns-3
+    takes-wide-requires
+    returns-4
+    returns-5
+    takes-arguments-requires
+    returns-6)

@@ -9,7 +9,7 @@ use Rattle.hexadecimal.proofs.held.repeated_from.Statement.{statement}
 use Rattle.hexadecimal.proofs.held.repeated_from.Tie as tie
 
 abbrev Inv-loop : tie.InvT-loop
-Inv-loop start count next₀ at₀ left₀ next at left = (at + left ≤ 2048) × (repeatedFrom at left next ≡ repeatedFrom start count next₀)
+Inv-loop start count next₀ at₀ left₀ next at left = (at + left ≤ 4096) × (repeatedFrom at left next ≡ repeatedFrom start count next₀)
 
 abbrev μ-loop : tie.MeasureT-loop
 μ-loop start count next₀ at₀ left₀ next at left = left

@@ -18,24 +18,21 @@ shared-slice-read-room c = search needs
 slice-write-room : tie.Need-slice-write-room
 slice-write-room c = search needs
 
-shared-slice-read-room-2 : tie.Need-shared-slice-read-room-2
-shared-slice-read-room-2 c = search needs
-
 slice-write-room-2 : tie.Need-slice-write-room-2
-slice-write-room-2 c = simp length-set (omega arith)
+slice-write-room-2 c =
+    simp length-set (omega arith)
 
 same-length : tie.Need-same-length
 same-length c = search needs
 
 returns : tie.Need-returns
 returns c =
-    let start = c .before .before .before .before .before .before .before .before .before .before in
-    let past = c .before .before .before .before .before in
-    head-21140 (start .args .sheet .now) (start .args .row) _ (start .args .room .now) _ (start .pre .0) (past .before .word-at .ensures)
-    (start .pre .1) (past .put-word .ensures) (c .before .before .if1 .taken)
-
-shared-slice-read-room-3 : tie.Need-shared-slice-read-room-3
-shared-slice-read-room-3 c = search needs
+    let put-word = c .before .before .before .before in
+    let word-at = put-word .before in
+    let start = word-at .before .before .before .before in
+    let a = start .args in
+    head-21140 (a .blocks) (a .shifted .now) (a .row) _ (a .room .now) _ (start .pre .0) (word-at .word-at .ensures) (start .pre .1)
+    (put-word .put-word .ensures) (c .before .if1 .taken)
 
 slice-write-room-3 : tie.Need-slice-write-room-3
 slice-write-room-3 c = search needs
@@ -45,10 +42,12 @@ same-length-2 c = search needs
 
 returns-2 : tie.Need-returns-2
 returns-2 c =
-    let start = c .before .before .before .before .before .before .before .before .before in
-    let past = c .before .before .before .before in
-    head-other (start .args .sheet .now) (start .args .row) _ (start .args .room .now) _ (start .pre .0) (past .before .word-at .ensures)
-    (start .pre .1) (past .put-word .ensures) (c .before .if1 .left)
+    let put-word = c .before .before .before in
+    let word-at = put-word .before in
+    let start = word-at .before .before .before .before in
+    let a = start .args in
+    head-other (a .blocks) (a .shifted .now) (a .row) _ (a .room .now) _ (start .pre .0) (word-at .word-at .ensures) (start .pre .1)
+    (put-word .put-word .ensures) (c .if1 .left)
 
 pub put-head-spec : {M : Type 1} → statement M
 put-head-spec =
@@ -58,11 +57,9 @@ put-head-spec =
     put-word-requires
     shared-slice-read-room
     slice-write-room
-    shared-slice-read-room-2
     slice-write-room-2
     same-length
     returns
-    shared-slice-read-room-3
     slice-write-room-3
     same-length-2
     returns-2)
