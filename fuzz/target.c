@@ -1,9 +1,9 @@
 /*
  * A fuzz target over every exported call. The first bytes choose the arguments, the rest is an image, a report and a sheet.
  * One flag mends the CRCs, so that the search gets behind them, one says that there is a Magic Packet block, one that the ROM
- * has the larger size and one that sheets are wide; the image's length and its stated size may be others. Every lent buffer
- * stands between guard bytes. The archive is compiled without instrumentation, so what the calls answer guides the search: each
- * refusal number and each count.
+ * has the larger size, one that sheets are wide and one that the edition is 1.00; the image's length and its stated size may be
+ * others. Every lent buffer stands between guard bytes. The archive is compiled without instrumentation, so what the calls
+ * answer guides the search: each refusal number, each count, and both for version 1 in each edition.
  */
 #include <srom.h>
 
@@ -16,7 +16,10 @@ enum { GUARD = 32, GUARD_BYTE = 0xA5, CALLS = 8 };
 enum { BLOCK_LENGTH = 32, BLOCK_CRC = 2, CRC = 2 };
 
 /* The flags. */
-enum { MENDS = 1, OTHER_LENGTH = 2, MAGIC = 4, LARGE = 8, OTHER_SIZE = 16, WIDE = 32 };
+enum { MENDS = 1, OTHER_LENGTH = 2, MAGIC = 4, LARGE = 8, OTHER_SIZE = 16, WIDE = 32, FIRST = 64 };
+
+/* Where an image has its version, and the one that has editions. */
+enum { VERSION = 18, FIRST_VERSION = 1 };
 
 /* The bytes before the image: flags, chip, controller, level, elements of the arrays, another length or size (word). */
 enum { HEAD = 7 };
@@ -57,6 +60,8 @@ static void check(bool holds)
 /* A counter for each number that a call answers: to the search, reaching a new one is coverage. */
 enum {
     READ,
+    READ_LATER,
+    READ_FIRST,
     LISTED,
     SKIPPED,
     RESETS,
@@ -114,6 +119,56 @@ static void check_crcs(const uint8_t *image, size_t length, srom_layout layout)
     for (size_t k = 0; k < sizeof crcs / sizeof *crcs; k++) {
         check_size(crcs[k].number, length, layout.size);
         check(crcs[k].number == SROM_ACCEPTED || (crcs[k].number == SROM_BAD_IMAGE_LENGTH && crcs[k].value == 0));
+    }
+}
+
+/* Whether two answers are alike in every field. */
+static bool answer_alike(const srom_answer *answer, const srom_answer *other)
+{
+    return answer->number == other->number && answer->connection == other->connection && answer->control == other->control
+        && answer->address == other->address && answer->blocks == other->blocks && answer->listed == other->listed
+        && answer->resets == other->resets && answer->skipped == other->skipped && answer->power == other->power
+        && answer->default_number == other->default_number;
+}
+
+/* Whether an edition has the connection type and the other has not. */
+static bool is_of_edition(uint16_t connection, bool first_edition)
+{
+    return first_edition ? connection == 0x0200 || connection == 0x0203 : connection == 0x0204 || connection == 0x0205;
+}
+
+/*
+ * Version 1 alone goes by the edition, and answers alike in both but where the type is one edition's: that one reads it, and the
+ * other refuses it with 11. It has two chips, and no extended block, so that all levels answer alike.
+ */
+static void check_editions(const uint8_t *image, size_t length, srom_arguments arguments)
+{
+    static uint16_t kinds[SROM_NONE], offsets[SROM_NONE];
+    if (!is_of_size(length, arguments.layout.size))
+        return;
+    arguments.first_edition = false;
+    srom_answer later = srom_read(image, length, arguments, kinds, SROM_NONE, offsets, SROM_NONE);
+    arguments.first_edition = true;
+    srom_answer first = srom_read(image, length, arguments, kinds, SROM_NONE, offsets, SROM_NONE);
+    check(!is_of_edition(later.connection, true));
+    if (image[VERSION] != FIRST_VERSION) {
+        check(answer_alike(&later, &first) && first.number != SROM_FIRST_VERSION_CHIP);
+        return;
+    }
+    reach(READ_LATER, later.number);
+    reach(READ_FIRST, first.number);
+    if (is_of_edition(later.connection, false))
+        check(first.number == SROM_BAD_CONNECTION);
+    else if (is_of_edition(first.connection, true))
+        check(later.number == SROM_BAD_CONNECTION);
+    else if (later.number == SROM_ACCEPTED || first.number == SROM_ACCEPTED)
+        check(answer_alike(&later, &first));
+    if (first.number == SROM_ACCEPTED) {
+        check(arguments.chip == SROM_21041 || arguments.chip == SROM_21140);
+        check(!is_of_edition(first.connection, false) && first.blocks == first.listed);
+        arguments.level = (uint8_t)((arguments.level + 1) % (SROM_NEWEST_LEVEL + 1));
+        srom_answer other = srom_read(image, length, arguments, kinds, SROM_NONE, offsets, SROM_NONE);
+        check(answer_alike(&first, &other));
     }
 }
 
@@ -346,13 +401,14 @@ static void return_conversion(const uint8_t *sheet, size_t length, bool wide)
 }
 
 /* A narrow sheet is written as it is, or refused, when it is widened; but for the larger size, which it is not written to. */
-static void check_widened(const uint8_t *sheet, size_t length, srom_layout layout, lent before, uint8_t number, lent image)
+static void check_widened(const uint8_t *sheet, size_t length, srom_layout layout, bool first_edition, lent before,
+                          uint8_t number, lent image)
 {
     if (number == SROM_BAD_SHEET || layout.size == SROM_LARGE_SIZE)
         return;
     lent widened = lend(NULL, length + 2), again = lend(before.bytes, before.length);
     check(srom_widen(sheet, length, widened.bytes, length + 2).number == SROM_ACCEPTED);
-    check(srom_write(widened.bytes, length + 2, true, layout, again.bytes, again.length) == number);
+    check(srom_write(widened.bytes, length + 2, true, layout, first_edition, again.bytes, again.length) == number);
     check(memcmp(again.bytes, image.bytes, image.length) == 0);
     take_back(widened);
     take_back(again);
@@ -365,14 +421,15 @@ static bool is_served(size_t length, uint16_t size, bool wide)
 }
 
 /* A sheet, written to an image with a block that is right or not, and made again. */
-static void return_sheet(const uint8_t *sheet, size_t length, bool wide, srom_layout layout, uint16_t size, bool has_block)
+static void return_sheet(const uint8_t *sheet, size_t length, bool wide, srom_layout layout, bool first_edition, uint16_t size,
+                         bool has_block)
 {
     static const srom_magic nothing;
     lent image = lend(NULL, size), lent_sheet = lend(sheet, length);
     if (has_block)
         check(srom_write_magic(nothing, image.bytes, size, size) == SROM_ACCEPTED);
     lent before = lend(image.bytes, size);
-    uint8_t number = srom_write(lent_sheet.bytes, length, wide, layout, image.bytes, size);
+    uint8_t number = srom_write(lent_sheet.bytes, length, wide, layout, first_edition, image.bytes, size);
     reach(wide ? WRITE_WIDE : WRITE, number);
     check((number == SROM_BAD_SHEET) == !is_sheet(sheet, length, wide));
     if (number != SROM_BAD_SHEET) {
@@ -381,14 +438,14 @@ static void return_sheet(const uint8_t *sheet, size_t length, bool wide, srom_la
         check((number == SROM_BAD_IMAGE_LENGTH) == (!is_too_large && !is_served(size, layout.size, wide)));
     }
     if (!wide)
-        check_widened(sheet, length, layout, before, number, image);
+        check_widened(sheet, length, layout, first_edition, before, number, image);
     if (number != SROM_ACCEPTED)
         check(memcmp(image.bytes, before.bytes, size) == 0);
     else {
         lent again = lend(NULL, SROM_LONGEST_WIDE_SHEET);
         size_t at = wide ? 29 : 27;
         uint16_t chip = (uint16_t)(lent_sheet.bytes[at] | lent_sheet.bytes[at + 1] << 8);
-        srom_made made = srom_make_sheet(image.bytes, size, chip, wide, layout, again.bytes, again.length);
+        srom_made made = srom_make_sheet(image.bytes, size, chip, wide, layout, first_edition, again.bytes, again.length);
         check(made.number == SROM_ACCEPTED && made.length == length);
         check(memcmp(again.bytes, lent_sheet.bytes, length) == 0);
         if (layout.magic)
@@ -401,12 +458,14 @@ static void return_sheet(const uint8_t *sheet, size_t length, bool wide, srom_la
 }
 
 /* The wide sheet of an image is its narrow one, widened; but for the larger size, of which there is no narrow one. */
-static void check_made_wide(const uint8_t *image, size_t length, uint16_t chip, srom_layout layout, srom_made made, lent buffer)
+static void check_made_wide(const uint8_t *image, size_t length, srom_arguments arguments, srom_made made, lent buffer)
 {
+    srom_layout layout = arguments.layout;
     if (layout.size == SROM_LARGE_SIZE)
         return;
     lent narrow = lend(NULL, SROM_LONGEST_SHEET), again = lend(NULL, buffer.length);
-    srom_made expected = srom_make_sheet(image, length, chip, false, layout, narrow.bytes, narrow.length);
+    srom_made expected = srom_make_sheet(image, length, arguments.chip, false, layout, arguments.first_edition, narrow.bytes,
+                                         narrow.length);
     if (expected.number == SROM_ACCEPTED)
         expected = srom_widen(narrow.bytes, expected.length, again.bytes, again.length);
     check(made.number == expected.number && made.length == expected.length);
@@ -415,21 +474,23 @@ static void check_made_wide(const uint8_t *image, size_t length, uint16_t chip, 
     take_back(again);
 }
 
-static void return_image(const uint8_t *image, size_t length, uint16_t chip, bool wide, srom_layout layout, size_t room)
+static void return_image(const uint8_t *image, size_t length, srom_arguments arguments, bool wide, size_t room)
 {
+    srom_layout layout = arguments.layout;
+    bool first_edition = arguments.first_edition;
     lent buffer = lend(NULL, room);
-    srom_made made = srom_make_sheet(image, length, chip, wide, layout, buffer.bytes, room);
+    srom_made made = srom_make_sheet(image, length, arguments.chip, wide, layout, first_edition, buffer.bytes, room);
     reach(wide ? MAKE_WIDE : MAKE, made.number);
     check((made.number == SROM_BAD_IMAGE_LENGTH) == !is_served(length, layout.size, wide));
     check(keeps_the_rest(made, buffer));
     if (wide)
-        check_made_wide(image, length, chip, layout, made, buffer);
+        check_made_wide(image, length, arguments, made, buffer);
     if (made.number == SROM_ACCEPTED) {
         lent back = lend(NULL, length);
         size_t board = length - BLOCK_LENGTH;
         if (layout.magic)
             memcpy(back.bytes + board, image + board, BLOCK_LENGTH);
-        check(srom_write(buffer.bytes, made.length, wide, layout, back.bytes, length) == SROM_ACCEPTED);
+        check(srom_write(buffer.bytes, made.length, wide, layout, first_edition, back.bytes, length) == SROM_ACCEPTED);
         check(memcmp(back.bytes, image, length) == 0);
         take_back(back);
     }
@@ -445,7 +506,8 @@ int LLVMFuzzerTestOneInput(const uint8_t *data, size_t size)
     bool wide = (flags & WIDE) != 0;
     uint16_t right = flags & LARGE ? SROM_LARGE_SIZE : SROM_SMALL_SIZE, other = (uint16_t)(data[5] | data[6] << 8);
     srom_layout layout = {flags & OTHER_SIZE ? other : right, (flags & MAGIC) != 0};
-    srom_arguments arguments = {chips[data[1] % 8], data[2] % 40, data[3] % 10, layout};
+    bool first_edition = (flags & FIRST) != 0;
+    srom_arguments arguments = {chips[data[1] % 8], data[2] % 40, data[3] % 10, layout, first_edition};
     size_t room = data[4], length = flags & OTHER_LENGTH ? other % 1024u : right;
     data += HEAD;
     size -= HEAD;
@@ -457,10 +519,11 @@ int LLVMFuzzerTestOneInput(const uint8_t *data, size_t size)
     lent as_lent = lend(image.bytes, length);
     check_crcs(image.bytes, length, layout);
     read_and_view(image.bytes, length, arguments, room);
+    check_editions(image.bytes, length, arguments);
     return_block(image.bytes, length, layout.size);
     walk_over(image.bytes, length, arguments, data + length, size - length);
-    return_image(image.bytes, length, arguments.chip, wide, layout, room * 5);
-    return_sheet(data, size, wide, layout, right, flags & MENDS);
+    return_image(image.bytes, length, arguments, wide, room * 5);
+    return_sheet(data, size, wide, layout, first_edition, right, flags & MENDS);
     return_conversion(data, size, wide);
     check(memcmp(image.bytes, as_lent.bytes, length) == 0);
     take_back(image);

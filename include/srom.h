@@ -38,7 +38,7 @@ enum {
     SROM_ACCEPTED = 0,
     SROM_BAD_IMAGE_LENGTH = 1,     /* image not of the stated size, or a stated size neither 128 nor 512, or not 128 with a
                                       narrow sheet */
-    SROM_BAD_VERSION = 2,          /* version neither 3 nor 4 */
+    SROM_BAD_VERSION = 2,          /* version neither 1, 3 nor 4 */
     SROM_BAD_SROM_CRC = 3,         /* SROM CRC differs */
     SROM_BAD_ID_CRC = 4,           /* ID CRC differs */
     SROM_BAD_COUNT = 5,            /* controller count not 1 to 32 (20 in 128 bytes with a Magic Packet block), or the reserved
@@ -48,10 +48,11 @@ enum {
     SROM_BAD_LEVEL = 8,            /* level over SROM_NEWEST_LEVEL */
     SROM_BAD_ADDRESS = 9,          /* base address and controller over 2^48 - 1 */
     SROM_LEAF_OUTSIDE = 10,        /* leaf header not between the controllers and the maker's bytes */
-    SROM_BAD_CONNECTION = 11,      /* connection type that the chip does not take */
+    SROM_BAD_CONNECTION = 11,      /* connection type that the chip does not take, or in version 1 the edition */
     SROM_ARRAY_TOO_SHORT = 12,     /* lent array shorter than the block count, or sheet buffer too short */
     SROM_BLOCK_OUTSIDE = 13,       /* block that does not end before the maker's bytes */
-    SROM_BAD_BLOCK_TYPE = 14,      /* extended length 0, or a compact block or known type that the chip does not permit */
+    SROM_BAD_BLOCK_TYPE = 14,      /* extended length 0, or a compact block or known type that the chip does not permit, or any
+                                      extended block in version 1 */
     SROM_BAD_BLOCK_LENGTH = 15,    /* length wrong for the type, or a sequence's count (g or r) past the block's end */
     SROM_BAD_BLOCK_CODE = 16,      /* media code or reserved bits */
     SROM_BAD_ADVERTISEMENT = 17,   /* a PHY advertises what it is not capable of */
@@ -68,7 +69,8 @@ enum {
     SROM_BAD_MAGIC_RESERVED = 30,  /* reserved byte of the Magic Packet block not 0 */
     SROM_REPEATED_MODE = 31,       /* a bit of the mode byte set in two power blocks (type 6) */
     SROM_NO_FIXED_MEDIUM = 32,     /* look under a fixed connection type whose medium no entry has */
-    SROM_SHEET_TOO_LARGE = 33      /* over 255 blocks in a wide sheet or, when it is narrowed, over 255 body bytes */
+    SROM_SHEET_TOO_LARGE = 33,     /* over 255 blocks in a wide sheet or, when it is narrowed, over 255 body bytes */
+    SROM_FIRST_VERSION_CHIP = 38   /* version 1 with a chip other than 21041 and 21140 */
 };
 
 /* Chips, by their decimal numbers. The 21140A counts as 21140. */
@@ -105,6 +107,22 @@ typedef struct srom_layout {
     bool magic;    /* the block is there */
 } srom_layout;
 
+/* ---- Editions ---- */
+
+/*
+ * The first cards have version 1, and with it the chips 21041 and 21140 alone, and 21041 and compact blocks alone: no extended
+ * block, whatever the reader's level. Edition 1.00 of the format had other codes for two connection types than 1.01 and all that
+ * followed. Nothing in the image says which edition it is of: the caller does, by first_edition. Each edition reads its own
+ * code, for the chips that have the type, and not the other's; all other types are those of both:
+ *
+ *     1.00      1.01      chips            a walk takes it as
+ *     0x0200    0x0204    21041, 21140     0x0204
+ *     0x0203    0x0205    21140            0x0205
+ *
+ * The code is kept as it was read, in an answer, in a walk and in a sheet. Versions 3 and 4 ignore the edition, and have the
+ * codes of 1.01.
+ */
+
 /* ---- Checksums ---- */
 
 typedef struct srom_checksum {
@@ -123,17 +141,21 @@ srom_checksum srom_magic_crc(const uint8_t *image, size_t image_length, uint16_t
 
 /* ---- Reading ---- */
 
-/* Which controller of a card to read, from 0, for which chip, how many extended types the reader knows, and the layout. */
+/*
+ * Which controller of a card to read, from 0, for which chip, how many extended types the reader knows, the layout, and the
+ * edition of an image of version 1.
+ */
 typedef struct srom_arguments {
     uint16_t chip;
     uint8_t controller;
     uint8_t level;
     srom_layout layout;
+    bool first_edition; /* 1.00, and not 1.01; versions 3 and 4 ignore it */
 } srom_arguments;
 
 typedef struct srom_answer {
     uint8_t number;
-    uint16_t connection;    /* connection type of the leaf */
+    uint16_t connection;    /* connection type of the leaf, as it was read */
     uint8_t control;        /* general purpose control byte; 0 but for the 21140 */
     uint64_t address;       /* the controller's station address, the first byte in bits 47:40 */
     uint8_t blocks;         /* blocks of the leaf: listed + resets + skipped + power */
@@ -148,8 +170,8 @@ typedef struct srom_answer {
  * The media table of a controller's leaf, in autosense order: kinds and byte offsets of the listed blocks, from the last block
  * to the first. Elements behind the listed ones are unchanged; on a refusal both arrays are. Arrays of 255 elements are long
  * enough for every image that is accepted, and of 91 for one of 128 bytes.
- * Refusals: 1 to 4, 29 and 30 where the layout has the Magic Packet block, 5 to 18, 31, in this order, the blocks judged one
- * after another (13 to 17 each), then 18 and 31 over all that the reader knows.
+ * Refusals: 1 to 4, 29 and 30 where the layout has the Magic Packet block, 5 to 7, 38, 8 to 18, 31, in this order, the blocks
+ * judged one after another (13 to 17 each), then 18 and 31 over all that the reader knows.
  */
 srom_answer srom_read(const uint8_t *image, size_t image_length, srom_arguments arguments,
                       uint16_t *kinds, size_t kinds_length, uint16_t *offsets, size_t offsets_length);
@@ -247,9 +269,10 @@ srom_walked srom_load(srom_walk walk, const uint8_t *image, size_t image_length,
  *    settles nor unsettles it.
  * Where it is fixed:
  *    The walk selects the first entry in table order that has the medium, and is settled from then on; links, Active_Invalid
- *    and the default play no part. A type whose low byte is below 9 means an entry with that media code, which no PHY has;
- *    any other a PHY with the capability bit that it names, 0x0009 bit 11, 0x020A bit 12, 0x000D bit 13, 0x020E bit 14 and
- *    0x000F bit 15; 0x0010 and 0x0211 name none. The report is judged as ever.
+ *    and the default play no part. The codes of edition 1.00 are taken as those of 1.01, 0x0200 as 0x0204 and 0x0203 as 0x0205.
+ *    A type whose low byte is below 9 means an entry with that media code, which no PHY has; any other a PHY with the
+ *    capability bit that it names, 0x0009 bit 11, 0x020A bit 12, 0x000D bit 13, 0x020E bit 14 and 0x000F bit 15; 0x0010 and
+ *    0x0211 name none. The report is judged as ever.
  * Then:
  * 3. Looks rise by 1, and switches too if the selection is another than before; from none to a block, or back, is a switch.
  * Refusals: 20, 32, 23, 19.
@@ -273,7 +296,7 @@ srom_walked srom_clear(srom_walk walk);
  *     1           2, 3        T
  *     2 to 17     4 to 19     bytes 0 to 15 of the ID block
  *     18          20          byte 17 of the ID block (byte 16 is the ID CRC)
- *     19          21          version, 3 or 4
+ *     19          21          version, 1, 3 or 4
  *     20 to 25    22 to 27    station address, most significant byte first
  *     26          28          device number
  *     27, 28      29, 30      chip (word), its decimal number
@@ -298,11 +321,11 @@ typedef struct srom_made {
 /*
  * Writes the image of a sheet, wide or narrow: one controller, its leaf at byte 30, both CRCs, zeros elsewhere. With a Magic
  * Packet block that is all before the block; the block is kept as the image has it, and judged with the rest, so it must stand
- * there before the call (srom_write_magic). The image is unchanged on a refusal.
+ * there before the call (srom_write_magic). A sheet of version 1 is judged by the edition. The image is unchanged on a refusal.
  * Refusals: 24, 33 for over 255 blocks, 1, for a narrow sheet and any size but 128 too, 7, 25, 26, then those of srom_read
- * without 12 for controller 0 at the newest level in the layout.
+ * without 12 for controller 0 at the newest level in the layout and the edition.
  */
-uint8_t srom_write(const uint8_t *sheet, size_t sheet_length, bool wide, srom_layout layout,
+uint8_t srom_write(const uint8_t *sheet, size_t sheet_length, bool wide, srom_layout layout, bool first_edition,
                    uint8_t *image, size_t image_length);
 
 /*
@@ -311,15 +334,16 @@ uint8_t srom_write(const uint8_t *sheet, size_t sheet_length, bool wide, srom_la
  * with a Magic Packet block where the same block stands there already, and a sheet that was written comes back byte for byte.
  * A buffer of SROM_LONGEST_SHEET bytes is long enough for every narrow sheet, of SROM_LONGEST_WIDE_SHEET for every wide one.
  * Refusals: 1, for a narrow sheet and any size but 128 too, then the others of srom_read without 12 for controller 0 at the
- * newest level in the layout, then 27, then 12.
+ * newest level in the layout and the edition, then 27, then 12.
  */
 srom_made srom_make_sheet(const uint8_t *image, size_t image_length, uint16_t chip, bool wide, srom_layout layout,
-                          uint8_t *buffer, size_t buffer_length);
+                          bool first_edition, uint8_t *buffer, size_t buffer_length);
 
 /*
- * The wide sheet that says what a narrow one says. Nothing of it is judged but its length and sum. Bytes of the buffer behind
- * the wide sheet are unchanged; on a refusal all of them are. Narrowing it gives the narrow sheet back. To an image of 128
- * bytes both are written alike, on a refusal with the same number, and the wide sheet made of one is the narrow one widened.
+ * The wide sheet that says what a narrow one says. Nothing of it is judged but its length and sum, so no edition is named.
+ * Bytes of the buffer behind the wide sheet are unchanged; on a refusal all of them are. Narrowing it gives the narrow sheet
+ * back. To an image of 128 bytes both are written alike, on a refusal with the same number, and the wide sheet made of one is
+ * the narrow one widened.
  * Refusals: 24, 12.
  */
 srom_made srom_widen(const uint8_t *sheet, size_t sheet_length, uint8_t *buffer, size_t buffer_length);

@@ -1,12 +1,13 @@
 /*
  * The shape of a driver's probe routine: read the serial ROM, list its media, and let the autosense walk choose one.
  *
- *     probe IMAGE CHIP CONTROLLER [magic] LINKS..
+ *     probe IMAGE CHIP CONTROLLER [magic] [first] LINKS..
  *
  * IMAGE is a file of 128 or 512 bytes, in place of the words that a driver clocks out of CSR9. Its length is the ROM's size, and
- * the word `magic` says that it has a Magic Packet block. Each LINKS is a row of 0 and 1, one digit a block in the order in
- * which the blocks stand, as the link tests of the media would report. Exit status: 0 a medium is selected, 1 the image or a
- * look is refused or nothing is selected, 2 bad usage or an unreadable file.
+ * the word `magic` says that it has a Magic Packet block, the word `first` that a card of version 1 is of edition 1.00. Each
+ * LINKS is a row of 0 and 1, one digit a block in the order in which the blocks stand, as the link tests of the media would
+ * report. Exit status: 0 a medium is selected, 1 the image or a look is refused or nothing is selected, 2 bad usage or an
+ * unreadable file.
  */
 #include <srom.h>
 
@@ -139,11 +140,19 @@ static uint16_t read_image(const char *name, uint8_t image[SROM_LARGE_SIZE])
     return whole ? (uint16_t)got : 0;
 }
 
+/* Whether the next word is this one, which is then passed. */
+static bool is_said(const char *word, int argc, char **argv, int *next)
+{
+    bool is_said = *next < argc && strcmp(argv[*next], word) == 0;
+    *next += is_said;
+    return is_said;
+}
+
 int main(int argc, char **argv)
 {
     uint8_t image[SROM_LARGE_SIZE];
     if (argc < 4) {
-        fprintf(stderr, "usage: %s IMAGE CHIP CONTROLLER [magic] LINKS..\n", argv[0]);
+        fprintf(stderr, "usage: %s IMAGE CHIP CONTROLLER [magic] [first] LINKS..\n", argv[0]);
         return 2;
     }
     uint16_t size = read_image(argv[1], image);
@@ -151,14 +160,16 @@ int main(int argc, char **argv)
         fprintf(stderr, "%s: not a file of %d or %d bytes\n", argv[1], SROM_SMALL_SIZE, SROM_LARGE_SIZE);
         return 2;
     }
-    srom_layout layout = {size, argc > 4 && strcmp(argv[4], "magic") == 0};
-    srom_arguments arguments = {(uint16_t)atoi(argv[2]), (uint8_t)atoi(argv[3]), SROM_NEWEST_LEVEL, layout};
+    int links = 4;
+    srom_layout layout = {size, is_said("magic", argc, argv, &links)};
+    bool first_edition = is_said("first", argc, argv, &links);
+    srom_arguments arguments = {(uint16_t)atoi(argv[2]), (uint8_t)atoi(argv[3]), SROM_NEWEST_LEVEL, layout, first_edition};
     if (list_media(image, arguments) != SROM_ACCEPTED)
         return 1;
     if (layout.magic)
         print_magic(image, size);
     srom_walked walked = srom_load(srom_fresh(), image, size, arguments);
-    for (int i = layout.magic ? 5 : 4; i < argc && walked.number == SROM_ACCEPTED; i++)
+    for (int i = links; i < argc && walked.number == SROM_ACCEPTED; i++)
         walked = look(walked.walk, argv[i]);
     return walked.number == SROM_ACCEPTED && walked.walk.selected != SROM_NONE ? 0 : 1;
 }

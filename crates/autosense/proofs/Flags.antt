@@ -11,11 +11,14 @@ use Rattle.rom.specs.Refusal.{firstMet}
 use Rattle.block.specs.declared.Block.{Block}
 use Rattle.block.specs.Answer.{blockOf, numberOf, sizeIn, listedIn}
 use Rattle.block.proofs.Seen.{Seen, of-listed, seen-size, seen-listed}
-use Rattle.format.specs.Block.{isListed}
+use Rattle.format.specs.Chips.{takenAs}
+use Rattle.format.specs.Block.{kindOf, factsOf, isListed, laterVersion}
 use Rattle.rom.specs.Bytes.{pick, one}
 use Rattle.leaf.specs.Leaf.{cut, blockCauses}
 use Rattle.leaf.proofs.Cuts.{cut-more, cut-none, cut-length, rest-part, next-seen, next-fine, next-left}
-use Rattle.walk.specs.Walk.{noFlags, flags, isInvalid, isFixedMedium, rowsOf}
+use Rattle.walk.specs.declared.Way.{Way}
+use Rattle.walk.specs.Walk.{isFixed, hasMedium, noFlags, flags, isInvalid, isFixedMedium, rowsOf}
+use Rattle.walk.proofs.Taken.{same-way-taken}
 use Rattle.autosense.specs.Inside.{invalidIn, fixedIn}
 
 -- a row with the flags of the blocks bs from number k on
@@ -53,19 +56,25 @@ module _ {row level : ℕ} {s : List ℕ} {b : Block} (view : Seen row level s b
   unfolding isInvalid
   seen-invalid = one-and (isListed row level s) _ ∙ sym (of-listed invalidIn 0 ((λ z. refl), (λ z m. refl), (λ z. refl)) view fine)
 
-  seen-fixed : (connection : ℕ) → one (isFixedMedium connection row level s) ≡ fixedIn connection b
+  -- the type and what it is taken as are of one way
+  seen-fixed : (connection : ℕ) → one (isFixedMedium connection row level s) ≡ fixedIn (takenAs connection) b
   unfolding isFixedMedium
   seen-fixed connection =
-      one-and (isListed row level s) _ ∙ sym (of-listed (fixedIn connection) 0 ((λ z. refl), (λ z m. refl), (λ z. refl)) view fine)
+      let facts = factsOf (kindOf row s) s in
+      let taken = takenAs connection in
+      ap (λ (way : Way). one (isListed row level s && (isFixed way && hasMedium taken (facts .code) (facts .capabilities))))
+      (same-way-taken connection)
+      ∙ one-and (isListed row level s) _ ∙ sym (of-listed (fixedIn taken) 0 ((λ z. refl), (λ z m. refl), (λ z. refl)) view fine)
 
 -- the rows after k blocks, of which bs are left
 pub record Filled (connection row level : ℕ) (whole bs : List (List ℕ)) (k : ℕ) (listed invalid fixed : List ℕ) : Type 0 where
-  pub accepted : firstMet (blockCauses row level bs) ≡ 0
+  pub accepted : firstMet (blockCauses laterVersion row level bs) ≡ 0
   pub is-listed : rowFrom (isListed row level) k bs listed ≡ rowFrom (isListed row level) 0 whole noFlags
   pub is-invalid : rowFrom (isInvalid row level) k bs invalid ≡ rowFrom (isInvalid row level) 0 whole noFlags
   pub is-fixed : rowFrom (isFixedMedium connection row level) k bs fixed ≡ rowFrom (isFixedMedium connection row level) 0 whole noFlags
 
-pub rows-start : (connection row level count : ℕ) (s : List ℕ) {l i f : List ℕ} → firstMet (blockCauses row level (cut row count s)) ≡ 0
+pub rows-start : (connection row level count : ℕ) (s : List ℕ) {l i f : List ℕ}
+    → firstMet (blockCauses laterVersion row level (cut row count s)) ≡ 0
     → l ≡ noFlags → i ≡ noFlags → f ≡ noFlags
     → Filled connection row level (cut row count s) (cut row (count - 0) s) 0 l i f
 rows-start connection row level count s e el ei ef =
@@ -76,11 +85,11 @@ rows-start connection row level count s e el ei ef =
 module _ (connection row level count : ℕ) (rest : List ℕ) {whole : List (List ℕ)} {k : ℕ} {listed invalid fixed : List ℕ}
     (inv : Filled connection row level whole (cut row (count - k) rest) k listed invalid fixed) where
   pub rows-more : {b : Block} {f g h z : ℕ} → k < count → b ≡ blockOf row level rest → f ≡ listedIn b → g ≡ invalidIn b
-      → h ≡ fixedIn connection b → z ≡ sizeIn b
+      → {taken : ℕ} → taken ≡ takenAs connection → h ≡ fixedIn taken b → z ≡ sizeIn b
       → Filled connection row level whole (cut row (count - (k + 1)) (take (length rest - z) (drop z rest))) (k + 1) (set listed k f)
       (set invalid k g) (set fixed k h)
   unfolding rowFrom
-  rows-more m eb ef eg eh ez =
+  rows-more m eb ef eg et eh ez =
       let view = next-seen row level count rest (inv .accepted) m eb in
       let fine = next-fine row level count rest (inv .accepted) m eb in
       let l = rw cut-more at (inv .is-listed) in
@@ -93,6 +102,7 @@ module _ (connection row level count : ℕ) (rest : List ℕ) {whole : List (Lis
         ef,
         eg,
         eh,
+        et,
         ← seen-listed view fine,
         ← seen-invalid view fine,
         ← seen-fixed view fine connection,

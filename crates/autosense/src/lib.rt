@@ -1,7 +1,8 @@
 // The autosense walk: which medium of an image's table a controller stands on (document 01, 'The walk'; document 02, requests
-// 4 and 5).
+// 4, 5 and 12).
 use block::Block;
 use block::Medium;
+use block::chip;
 use reader::Arguments;
 use rom::NONE;
 use rom::refusal;
@@ -15,6 +16,7 @@ ghost use mathlib.Core.Bool.{_||_, _&&_};
 ghost use lib.Dec.{eqb};
 ghost use Rattle.rom.specs.Geometry.{none};
 ghost use Rattle.rom.specs.Refusal.{firstMet};
+ghost use Rattle.format.specs.Block.{laterVersion};
 ghost use Rattle.block.specs.Answer.{listedIn};
 ghost use Rattle.rom.specs.Bytes.{one};
 ghost use Rattle.leaf.specs.Leaf.{cut, blockCauses};
@@ -187,9 +189,10 @@ fn fixed_flag(b: Block, connection: u16) -> u8
 
 // The rows of a leaf's accepted blocks, under its connection type.
 fn rows_of(blocks: &[u8], count: u8, row: usize, level: u8, connection: u16) -> Rows
-    requires { ⌜ firstMet (blockCauses row level (cut row count (now blocks))) ≡ 0 ⌝ }
+    requires { ⌜ firstMet (blockCauses laterVersion row level (cut row count (now blocks))) ≡ 0 ⌝ }
     ensures { λ r. ⌜ r ≡ rowsOf connection row level (cut row count (now (blocks .entry))) ⌝ }
 {
+    let taken = chip::taken_as(connection);
     let mut listed = no_flags();
     let mut active_invalid = no_flags();
     let mut fixed = no_flags();
@@ -200,7 +203,7 @@ fn rows_of(blocks: &[u8], count: u8, row: usize, level: u8, connection: u16) -> 
         let i = k as usize;
         listed[i] = listed_flag(b);
         active_invalid[i] = invalid_flag(b);
-        fixed[i] = fixed_flag(b, connection);
+        fixed[i] = fixed_flag(b, taken);
         let size = block::size_of(b);
         rest = &rest[size..];
         k += 1;

@@ -3,4 +3,5 @@ pub mod Phy
 pub mod Advertised
 pub mod Whole
 pub mod Seen
+pub mod Versions
 pub mod Own

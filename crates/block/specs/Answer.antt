@@ -1,13 +1,14 @@
 -- What a block is found to be, as the enum `Block`, and the number and values of documents 01 and 02 for each of its cases.
 use Prim.Native.Nat.{ℕ}
 use mathlib.Core.List.{List}
+use mathlib.Core.Bool.{Bool}
 use lib.Dec.{eqb}
 use Rattle.rom.specs.Geometry.{none}
 use Rattle.rom.specs.Bytes.{pick}
 use Rattle.block.specs.declared.Block.{Block}
 use Rattle.block.specs.declared.Medium.{Medium}
 use Rattle.block.specs.declared.Block.the-variants.{Listed, Reset, Power, Unknown, Refused}
-use Rattle.format.specs.Block.{Facts, sizeOf, kindOf, isKnown, factsOf, refusalOf}
+use Rattle.format.specs.Block.{Facts, sizeOf, kindOf, isKnown, factsOf, refusalIn, refusalOf}
 
 -- ## The cases
 
@@ -40,6 +41,10 @@ unfoldable pub blockOf : ℕ → ℕ → List ℕ → Block
 blockOf row level s =
     answered (refusalOf row level s)
     (pick (isKnown level (kindOf row s)) (found (kindOf row s) (sizeOf row s) (factsOf (kindOf row s) s)) (Unknown (sizeOf row s)))
+
+-- the same in an image of version 1, if it is one
+unfoldable pub blockIn : Bool → ℕ → ℕ → List ℕ → Block
+blockIn first row level s = answered (refusalIn first row level s) (blockOf row level s)
 
 -- ## Their numbers and values
 

@@ -1,13 +1,13 @@
 -- What is claimed of what a block is found to be.
 use Prim.Native.Nat.{ℕ}
 use mathlib.Core.Path.{_≡_}
-use mathlib.Core.Bool.{true}
+use mathlib.Core.Bool.{Bool, true}
 use mathlib.Core.List.{List}
 use lib.ListN.{take}
 use Rattle.rom.specs.Geometry.{none}
 use Rattle.rom.specs.Bytes.{pick, one, byteAt, Bytes}
-use Rattle.format.specs.Block.{sizeOf, kindOf, isKnown, factsOf, isListed, isPower, refusalOf}
-use Rattle.block.specs.Answer.{blockOf, numberOf, sizeIn, listedIn, kindIn, codeIn, capabilitiesIn, modeIn}
+use Rattle.format.specs.Block.{sizeOf, kindOf, isKnown, factsOf, isListed, isPower, refusalIn, refusalOf}
+use Rattle.block.specs.Answer.{blockIn, blockOf, numberOf, sizeIn, listedIn, kindIn, codeIn, capabilitiesIn, modeIn}
 
 -- the answer's number is the block's refusal, and an accepted block has its size
 abbrev pub AnswersRefusal : Type 0
@@ -45,3 +45,9 @@ OwnBytes = (row level : ℕ) (s other : List ℕ) → Bytes s → refusalOf row 
     × (sizeOf row other ≡ sizeOf row s)
     × (kindOf row other ≡ kindOf row s)
     × (isKnown level (kindOf row s) ≡ true → factsOf (kindOf row s) other ≡ factsOf (kindOf row s) s)
+
+-- in version 1 the answer's number is the refusal there, and an accepted block is found to be what it is in versions 3 and 4
+abbrev pub AnswersFirst : Type 0
+AnswersFirst = (first : Bool) (row level : ℕ) (s : List ℕ) →
+    (numberOf (blockIn first row level s) ≡ refusalIn first row level s)
+    × (refusalIn first row level s ≡ 0 → blockIn first row level s ≡ blockOf row level s)

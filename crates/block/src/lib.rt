@@ -1,5 +1,5 @@
 // One block of an info leaf: its size, kind, media code or capabilities, flags and refusal (document 01, 'Leaf and blocks';
-// document 02, requests 3 and 5).
+// document 02, requests 3, 5 and 12).
 pub mod chip;
 mod search;
 pub mod shape;
@@ -17,7 +17,7 @@ ghost use Rattle.rom.specs.Bytes.{byteAt, bit};
 ghost use Rattle.format.specs.Chips.{row21041, newestLevel};
 ghost use Rattle.format.specs.Block.{lengthOf, siaSize, countsAsDefault, exceeds, lengthFor, isWrong, sia, port, symbol, phy, sequence};
 ghost use Rattle.block.specs.Inside.{asMedium, asPower, judged, judgedAs, phyLength};
-ghost use Rattle.block.specs.Answer.{blockOf, numberOf, sizeIn, listedIn, modeIn};
+ghost use Rattle.block.specs.Answer.{blockIn, blockOf, numberOf, sizeIn, listedIn, modeIn};
 
 // The kind of a compact block. An extended block's kind is its type.
 pub const KIND_COMPACT: u16 = 256;
@@ -411,4 +411,21 @@ pub fn judge_block(rest: &[u8], row: usize, level: u8) -> Block
         return judge_compact(rest, row);
     }
     judge_extended(rest, row, level)
+}
+
+// The same in an image of version 1, if it is one, which has no extended blocks.
+pub fn judge_in(rest: &[u8], row: usize, level: u8, first_version: bool) -> Block
+    ensures { λ r. ⌜ r ≡ blockIn «first_version» row level (now (rest .entry)) ⌝ }
+{
+    if !first_version {
+        return judge_block(rest, row, level);
+    }
+    let extended = shape::is_extended(rest, row);
+    if !extended {
+        return judge_block(rest, row, level);
+    }
+    if rest.len() < shape::size_at(rest, row) {
+        return Block::Refused(refusal::BLOCK_END);
+    }
+    Block::Refused(refusal::BLOCK_TYPE)
 }

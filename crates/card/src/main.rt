@@ -32,9 +32,9 @@ fn usage() -> u8 {
   older FILE CHIP [OPTIONS]           what readers of each level see of it
   walk FILE CHIP REPORT.. [OPTIONS]   a look with each REPORT, a row of 0 and 1
                                       with a 1 for each block whose link is up
-  sheet FILE CHIP OUT [--wide] [--size N] [--magic] [--force]
+  sheet FILE CHIP OUT [--wide] [--size N] [--edition E] [--magic] [--force]
                                       the image as a sheet
-  write SHEET OUT [--wide] [--size N] [--magic FROM] [--force]
+  write SHEET OUT [--wide] [--size N] [--edition E] [--magic FROM] [--force]
                                       the sheet as an image
   widen SHEET OUT [--force]           the narrow sheet as a wide one
   narrow SHEET OUT [--force]          the wide sheet as a narrow one
@@ -54,8 +54,10 @@ print words (0x08:  2034 0104); - is standard input. CHIP is 21041, 21140,
 OPTIONS are --controller N, which counts from 0 and is 0 where it is not given,
 --level N, 0 to 7, how many extended types the reader knows, which is the
 newest where it is not given, --size N, how many bytes the ROM has, where its
-file's length is not to tell, and --magic, for a card that is laid out with a
-Magic Packet block. Options stand anywhere behind the command.
+file's length is not to tell, --edition E, 1.00 or 1.01, of which a card of
+version 1 is and which is 1.01 where it is not given, and --magic, for a card
+that is laid out with a Magic Packet block. Options stand anywhere behind the
+command.
 
 A sheet is narrow, for ROMs of 1K bits, or wide, for those of 4K bits too; that
 it is wide, --wide says. write makes an image of --size N bytes, or else of as
@@ -84,17 +86,17 @@ fn show_number(number: u8) {
     say(b"");
 }
 
-// Whether a call answers with a number: 22 is retired, and 28 is none.
+// Whether a call answers with a number: 22 is retired, 28 is none, and 34 to 37 are none yet.
 fn is_answered(number: u8) -> bool {
     match number {
-        22 | 28 => false,
+        22 | 28 | 34 | 35 | 36 | 37 => false,
         _ => true,
     }
 }
 
 fn refusals() -> u8 {
     let mut number = 0u8;
-    while number <= refusal::SHEET_TOO_LARGE {
+    while number <= refusal::FIRST_VERSION_CHIP {
         let answered = is_answered(number);
         if answered {
             show_number(number);
@@ -118,6 +120,7 @@ fn arguments_of(words: Words, length: usize) -> Arguments {
         controller: words.controller,
         level: words.level,
         layout: layout_of(words, length),
+        first_edition: words.first_edition,
     }
 }
 

@@ -79,7 +79,14 @@ fn show_unmade(image: &[u8], arguments: Arguments, given: bool, form: Form, numb
 pub fn make(image: &[u8], arguments: Arguments, words: Words) -> u8 {
     let form = forms::form_of(words.wide);
     let mut room = [0u8; ROOM];
-    let made = maker::make(image, arguments.chip, form, arguments.layout, &mut room);
+    let made = maker::make(
+        image,
+        arguments.chip,
+        form,
+        arguments.layout,
+        arguments.first_edition,
+        &mut room,
+    );
     let number = made.number;
     if number == refusal::ACCEPTED {
         let places = words.places;
@@ -90,6 +97,13 @@ pub fn make(image: &[u8], arguments: Arguments, words: Words) -> u8 {
 }
 
 // ## A sheet to its image
+
+// What is asked for beside a sheet: its form, the image's layout, and the edition that an image of version 1 is of.
+struct Asked {
+    form: Form,
+    layout: Layout,
+    first_edition: bool,
+}
 
 // How many bytes a sheet of a form has, and how many its counts ask for. Where those are as many, the sum is wrong.
 pub(crate) fn show_lengths(sheet: &[u8], form: Form) {
@@ -151,20 +165,33 @@ fn show_output(image: &[u8], form: Form, layout: Layout) {
     }
 }
 
+// Writes the sheet to the image that is the front of the room.
+fn write_front(sheet: &[u8], asked: Asked, room: &mut [u8], length: usize) -> u8 {
+    if room.len() < length {
+        return refusal::IMAGE_LENGTH;
+    }
+    let form = asked.form;
+    writer::write(
+        sheet,
+        form,
+        asked.layout,
+        asked.first_edition,
+        &mut room[0..length],
+    )
+}
+
 // Whether a sheet is written to an image of the larger size.
-fn is_written_larger(sheet: &[u8], form: Form, magic: bool) -> bool {
+fn is_written_larger(sheet: &[u8], asked: Asked) -> bool {
     let mut room = [0u8; rom::LARGE_LENGTH];
-    let layout = Layout {
-        size: rom::LARGE_SIZE,
-        magic,
-    };
-    writer::write(sheet, form, layout, &mut room) == refusal::ACCEPTED
+    let mut larger = asked;
+    larger.layout.size = rom::LARGE_SIZE;
+    write_front(sheet, larger, &mut room, rom::LARGE_LENGTH) == refusal::ACCEPTED
 }
 
 // Where leaves end; and where the sheet's leaf has room in the larger size, that it has.
-fn show_leaf_end(sheet: &[u8], form: Form, layout: Layout) {
-    report::show_leaves_end(layout);
-    let written = is_written_larger(sheet, form, layout.magic);
+fn show_leaf_end(sheet: &[u8], asked: Asked) {
+    report::show_leaves_end(asked.layout);
+    let written = is_written_larger(sheet, asked);
     if written {
         line::of(
             b"  accepted with --size #",
@@ -173,12 +200,34 @@ fn show_leaf_end(sheet: &[u8], form: Form, layout: Layout) {
     }
 }
 
-// What a refusal of the image that a sheet asks for is about.
-fn show_image(sheet: &[u8], image: &[u8], form: Form, layout: Layout, number: u8) {
+// Whether a sheet is written over an image in the other edition.
+fn is_written_in_other(sheet: &[u8], over: Input, asked: Asked) -> bool {
+    let mut room = over.bytes;
+    let mut other = asked;
+    other.first_edition = !asked.first_edition;
+    write_front(sheet, other, &mut room, over.length) == refusal::ACCEPTED
+}
+
+// A connection type that is not read; and where it is in the other edition, that it is.
+fn show_unread(sheet: &[u8], over: Input, asked: Asked) {
+    say(b"  in the image that the sheet asks for");
+    let written = is_written_in_other(sheet, over, asked);
+    if written {
+        report::show_other_edition(asked.first_edition);
+    }
+}
+
+// What a refusal of the image that a sheet asks for is about, over one that is left as it was.
+fn show_image(sheet: &[u8], over: Input, asked: Asked, number: u8) {
+    let form = asked.form;
+    let layout = asked.layout;
+    let bytes = over.bytes;
+    let image = part(&bytes, 0, over.length);
     match number {
         refusal::IMAGE_LENGTH => show_output(image, form, layout),
         refusal::SHEET_ENTRY => {}
-        refusal::LEAF_END => show_leaf_end(sheet, form, layout),
+        refusal::LEAF_END => show_leaf_end(sheet, asked),
+        refusal::CONNECTION_TYPE => show_unread(sheet, over, asked),
         refusal::MAGIC_CRC | refusal::MAGIC_RESERVED => report::show_magic_field(
             image,
             layout.size,
@@ -200,14 +249,6 @@ fn output_of(words: Words) -> Input {
     }
 }
 
-// Writes the sheet to the image that is the front of the room.
-fn write_front(sheet: &[u8], form: Form, layout: Layout, room: &mut [u8], length: usize) -> u8 {
-    if room.len() < length {
-        return refusal::IMAGE_LENGTH;
-    }
-    writer::write(sheet, form, layout, &mut room[0..length])
-}
-
 // Whether a refusal is about the sheet, and none of its image.
 fn is_of_sheet(number: u8) -> bool {
     if number == refusal::SHEET {
@@ -222,21 +263,24 @@ pub fn write(sheet: &[u8], words: Words) -> u8 {
     if !output.found {
         return status::USAGE;
     }
-    let form = forms::form_of(words.wide);
     let length = output.length;
-    let layout = crate::layout_of(words, length);
+    let form = forms::form_of(words.wide);
+    let asked = Asked {
+        form,
+        layout: crate::layout_of(words, length),
+        first_edition: words.first_edition,
+    };
     let mut room = output.bytes;
-    let number = write_front(sheet, form, layout, &mut room, length);
-    let image = part(&room, 0, length);
+    let number = write_front(sheet, asked, &mut room, length);
     if number == refusal::ACCEPTED {
         let places = words.places;
-        return save(image, places[1], words.force);
+        return save(part(&room, 0, length), places[1], words.force);
     }
     if is_of_sheet(number) {
         show_sheet(sheet, form, number);
     } else {
-        report::show_refused_size(number, words.sized, layout.size);
-        show_image(sheet, image, form, layout, number);
+        report::show_refused_size(number, words.sized, asked.layout.size);
+        show_image(sheet, output, asked, number);
     }
     status::REFUSED
 }

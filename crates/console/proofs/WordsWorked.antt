@@ -28,13 +28,25 @@ use Rattle.console.specs.Value.{
   sixBytes,
   spellsWord,
   commandWord,
+  namesFirst,
+  namesEdition,
 }
-use Rattle.console.specs.Cases.{takenOf, commandAgain, commandCases, roleAgain, roleCases, valueAgain, valueCases}
+use Rattle.console.specs.Cases.{
+  takenOf,
+  commandAgain,
+  commandCases,
+  roleAgain,
+  roleCases,
+  valueAgain,
+  valueCases,
+  editionNameAgain,
+  editionNameCases,
+}
 use Rattle.console.specs.Claims.{WordsWorked}
 
 pub words-worked : WordsWorked
 unfolding pick sameBytes linesOf digitOf readOn decimalNumber hasKey wordsIn isOf runOf isMarked behindMark valueFrom optionTable
     optionOf commandTable commandOf fewestOf mostOf takesArguments takesForce takesChip takesSize takesWide takesOption takesValue
-    roleOf isInPlace areInPlace isSixBytes byteNamed sixBytes spellsWord commandWord takenOf commandAgain commandCases roleAgain
-    roleCases valueAgain valueCases
-words-worked = (refl, refl, refl)
+    roleOf isInPlace areInPlace isSixBytes byteNamed sixBytes spellsWord commandWord namesFirst namesEdition takenOf commandAgain
+    commandCases roleAgain roleCases valueAgain valueCases editionNameAgain editionNameCases
+words-worked = (refl, refl, refl, refl)

@@ -1,6 +1,7 @@
 -- The commands, and words with what they say.
 use Prim.Native.Nat.{ℕ}
 use Prim.Native.String.{String}
+use mathlib.Core.Bool.{Bool, true, false}
 use mathlib.Core.List.{List, [], _∷_}
 use Rattle.rom.specs.Bytes.{pick}
 use Rattle.text.specs.Quoted.{quoted}
@@ -9,6 +10,7 @@ use Rattle.console.specs.Options.{
   controllerOption,
   levelOption,
   sizeOption,
+  editionOption,
   passwordOption,
   addressOption,
   commandOption,
@@ -29,7 +31,7 @@ use Rattle.console.specs.Commands.{
   takesOption,
 }
 use Rattle.console.specs.Roles.{roleOf}
-use Rattle.console.specs.Value.{isSixBytes, sixBytes, commandWord}
+use Rattle.console.specs.Value.{isSixBytes, sixBytes, commandWord, namesFirst, namesEdition}
 
 -- ## Commands
 
@@ -50,6 +52,7 @@ allOptions =
     controllerOption
     ∷ levelOption
     ∷ sizeOption
+    ∷ editionOption
     ∷ passwordOption
     ∷ addressOption
     ∷ commandOption
@@ -75,12 +78,12 @@ taking name fewest most options = record { name = name; fewest = fewest; most = 
 -- 4 is no bound
 unfoldable pub commandCases : List CommandCase
 commandCases =
-    taking "read" 2 2 (controllerOption ∷ levelOption ∷ sizeOption ∷ magicOption ∷ [])
-    ∷ taking "older" 2 2 (controllerOption ∷ levelOption ∷ sizeOption ∷ magicOption ∷ [])
-    ∷ taking "walk" 3 4 (controllerOption ∷ levelOption ∷ sizeOption ∷ magicOption ∷ [])
-    ∷ taking "sheet" 3 3 (sizeOption ∷ magicOption ∷ forceOption ∷ wideOption ∷ [])
-    ∷ taking "map" 3 3 (controllerOption ∷ levelOption ∷ sizeOption ∷ magicOption ∷ forceOption ∷ [])
-    ∷ taking "write" 2 2 (sizeOption ∷ magicOption ∷ forceOption ∷ wideOption ∷ [])
+    taking "read" 2 2 (controllerOption ∷ levelOption ∷ sizeOption ∷ editionOption ∷ magicOption ∷ [])
+    ∷ taking "older" 2 2 (controllerOption ∷ levelOption ∷ sizeOption ∷ editionOption ∷ magicOption ∷ [])
+    ∷ taking "walk" 3 4 (controllerOption ∷ levelOption ∷ sizeOption ∷ editionOption ∷ magicOption ∷ [])
+    ∷ taking "sheet" 3 3 (sizeOption ∷ editionOption ∷ magicOption ∷ forceOption ∷ wideOption ∷ [])
+    ∷ taking "map" 3 3 (controllerOption ∷ levelOption ∷ sizeOption ∷ editionOption ∷ magicOption ∷ forceOption ∷ [])
+    ∷ taking "write" 2 2 (sizeOption ∷ editionOption ∷ magicOption ∷ forceOption ∷ wideOption ∷ [])
     ∷ taking "magic" 2 2 (sizeOption ∷ passwordOption ∷ addressOption ∷ commandOption ∷ forceOption ∷ [])
     ∷ taking "widen" 2 2 (forceOption ∷ [])
     ∷ taking "narrow" 2 2 (forceOption ∷ [])
@@ -121,6 +124,9 @@ roleCases =
     ∷ behind magicCommand optionValue "--password" passwordOption
     ∷ behind readCommand plainWord "--size" sizeOption
     ∷ behind readCommand sizeOption "256" optionValue
+    ∷ behind readCommand plainWord "--edition" editionOption
+    ∷ behind readCommand editionOption "1.00" optionValue
+    ∷ behind writeCommand editionOption "--wide" optionValue
     ∷ behind writeCommand plainWord "--wide" wideOption
     ∷ behind writeCommand wideOption "card.rom" plainWord
     ∷ behind readCommand plainWord "--controllers" noOption
@@ -174,4 +180,28 @@ valueCases =
     ∷ sayingNothing "0x10000"
     ∷ sayingNothing "0x1g"
     ∷ sayingNothing "1 "
+    ∷ []
+
+-- a word, whether it names an edition, and whether that is 1.00
+pub record EditionNameCase : Type 0 where
+  pub word : String
+  pub named : Bool
+  pub first : Bool
+
+unfoldable pub editionNameAgain : EditionNameCase → EditionNameCase
+editionNameAgain x = record { word = x .word; named = namesEdition (quoted (x .word)); first = namesFirst (quoted (x .word)) }
+
+abbrev naming : String → Bool → Bool → EditionNameCase
+naming word named first = record { word = word; named = named; first = first }
+
+unfoldable pub editionNameCases : List EditionNameCase
+editionNameCases =
+    naming "1.00" true true
+    ∷ naming "1.01" true false
+    ∷ naming "1.0" false false
+    ∷ naming "1.02" false false
+    ∷ naming "1" false false
+    ∷ naming "01.00" false false
+    ∷ naming "1.001" false false
+    ∷ naming "" false false
     ∷ []

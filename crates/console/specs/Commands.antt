@@ -7,7 +7,7 @@ use Rattle.rom.specs.Bytes.{pick}
 use Rattle.text.specs.Quoted.{quoted}
 use Rattle.text.specs.Numbers.{isAmong, decimalNumber}
 use Rattle.text.specs.Tables.{wordsFor}
-use Rattle.console.specs.Options.{sizeOption, magicOption, forceOption, wideOption}
+use Rattle.console.specs.Options.{sizeOption, editionOption, magicOption, forceOption, wideOption}
 
 abbrev pub readCommand : ℕ
 readCommand = 1
@@ -74,7 +74,7 @@ takesArguments command = eqb command readCommand || eqb command olderCommand || 
 unfoldable pub takesForce : ℕ → Bool
 takesForce command = isAmong sheetCommand narrowCommand command
 
--- those that read a card, and `write`, take a layout
+-- those that read a card, and `write`, take a layout and an edition
 abbrev pub takesLayout : ℕ → Bool
 takesLayout command = leb command writeCommand
 
@@ -95,5 +95,6 @@ takesOption command option =
     pick (eqb option forceOption) (takesForce command)
     (pick (eqb option magicOption) (takesLayout command)
     (pick (eqb option sizeOption) (takesSize command)
+    (pick (eqb option editionOption) (takesLayout command)
     (pick (eqb option wideOption) (takesWide command)
-    (pick (ltb sizeOption option) (takesFields command) (takesArguments command)))))
+    (pick (ltb editionOption option) (takesFields command) (takesArguments command))))))

@@ -23,34 +23,38 @@ levelOption = 2
 abbrev pub sizeOption : ℕ
 sizeOption = 3
 
+abbrev pub editionOption : ℕ
+editionOption = 4
+
 abbrev pub passwordOption : ℕ
-passwordOption = 4
+passwordOption = 5
 
 abbrev pub addressOption : ℕ
-addressOption = 5
+addressOption = 6
 
 abbrev pub commandOption : ℕ
-commandOption = 6
+commandOption = 7
 
 abbrev pub magicOption : ℕ
-magicOption = 7
+magicOption = 8
 
 abbrev pub forceOption : ℕ
-forceOption = 8
+forceOption = 9
 
 abbrev pub wideOption : ℕ
-wideOption = 9
+wideOption = 10
 
 abbrev pub noOption : ℕ
-noOption = 10
+noOption = 11
 
 abbrev pub optionValue : ℕ
-optionValue = 11
+optionValue = 12
 
 -- ## The option that a word is
 
 unfoldable pub optionTable : List ℕ
-optionTable = quoted "--controller 1\n--level 2\n--size 3\n--password 4\n--address 5\n--command 6\n--magic 7\n--force 8\n--wide 9\n"
+optionTable =
+    quoted "--controller 1\n--level 2\n--size 3\n--edition 4\n--password 5\n--address 6\n--command 7\n--magic 8\n--force 9\n--wide 10\n"
 
 -- a number of the table's, or past the last
 abbrev pub optionNumber : List ℕ → ℕ

@@ -1,12 +1,13 @@
--- What an option's value says: six bytes, or a command's word, in hexadecimal.
+-- What an option's value says: six bytes, or a command's word, in hexadecimal; or an edition.
 use Prim.Native.Nat.{ℕ, _+_, _%_}
-use mathlib.Core.Bool.{Bool, true, _&&_, not}
+use mathlib.Core.Bool.{Bool, true, _&&_, _||_, not}
 use mathlib.Core.List.{List, [], _∷_}
 use lib.Dec.{eqb, leb, ltb}
 use lib.ListN.{length, take, drop}
 use Rattle.rom.specs.Bytes.{pick}
 use Rattle.text.specs.Numbers.{digitOf}
 use Rattle.hexadecimal.specs.Offset.{runOf, behindMark, valueOf}
+use Rattle.console.specs.Word.{isWord}
 
 -- ## Six bytes: xx:xx:xx:xx:xx:xx
 
@@ -40,3 +41,11 @@ spellsWord s = not (eqb (length s) 0) && leb (length s) 4 && eqb (runOf true s) 
 -- the word that they spell, or 65536 where there is none
 unfoldable pub commandWord : List ℕ → ℕ
 commandWord word = pick (spellsWord (behindMark word)) (valueOf (behindMark word)) 65536
+
+-- ## An edition of version 1: 1.00 or 1.01
+
+unfoldable pub namesFirst : List ℕ → Bool
+namesFirst word = isWord "1.00" word
+
+unfoldable pub namesEdition : List ℕ → Bool
+namesEdition word = namesFirst word || isWord "1.01" word

@@ -16,12 +16,13 @@ const LONGEST: usize = 255;
 pub const KEPT: usize = 4;
 
 // The options by their numbers, of which 0 is none's.
-const OPTIONS: usize = 10;
+const OPTIONS: usize = 11;
 
 // What the words ask for. Not fine is what has been complained of. The plain words are those behind the command that are no
 // options and no values of options; the count of them goes no further than the places that are kept. The layout is as the
 // options say it, of the smaller size where --size is not given, and `sized` where it is. `from` is the place of the value
-// of --magic in `write`, `magic` what the options of `magic` say, and `wide` that the sheet is.
+// of --magic in `write`, `magic` what the options of `magic` say, and `wide` that the sheet is. A card of version 1 is of
+// edition 1.00 where that is given, and else of 1.01.
 pub struct Words {
     pub fine: bool,
     pub command: u8,
@@ -32,6 +33,7 @@ pub struct Words {
     pub level: u8,
     pub layout: Layout,
     pub sized: bool,
+    pub first_edition: bool,
     pub from: usize,
     pub magic: Magic,
     pub wide: bool,
@@ -89,6 +91,18 @@ fn chip_at(place: usize) -> u16 {
     option::chip_of(&room[..length])
 }
 
+fn names_first_at(place: usize) -> bool {
+    let mut room = [0u8; LONGEST];
+    let length = os::arg(place, &mut room);
+    value::names_first(&room[..length])
+}
+
+fn names_edition_at(place: usize) -> bool {
+    let mut room = [0u8; LONGEST];
+    let length = os::arg(place, &mut room);
+    value::names_edition(&room[..length])
+}
+
 fn is_six_bytes_at(place: usize) -> bool {
     let mut room = [0u8; LONGEST];
     let length = os::arg(place, &mut room);
@@ -125,6 +139,7 @@ impl Words {
                 magic: false,
             },
             sized: false,
+            first_edition: false,
             from: 0,
             magic: Magic {
                 password: [0; value::BYTES],
@@ -159,6 +174,14 @@ impl Words {
             what,
             place,
             b"--size N is how many bytes the card's ROM has",
+        )
+    }
+
+    fn wrong_edition(self, what: &[u8], place: usize) -> Words {
+        self.wrong(
+            what,
+            place,
+            b"--edition E is 1.00 or 1.01, for a card of version 1",
         )
     }
 
@@ -243,11 +266,13 @@ impl Words {
                 b"options: --password P, --address A, --command C, --size N and --force",
             );
         }
-        self.wrong(
+        let words = self.wrong(
             b"no such option",
             place,
-            b"options: --controller N, --level N, --size N, --magic, --wide and --force",
-        )
+            b"options: --controller N, --level N, --size N, --edition E, --magic, --wide",
+        );
+        suggest(b"and --force");
+        words
     }
 
     // The value of --controller or --level.
@@ -275,6 +300,17 @@ impl Words {
         let mut next = self;
         next.layout.size = size;
         next.sized = true;
+        next
+    }
+
+    // The value of --edition.
+    fn with_edition(self, place: usize) -> Words {
+        let named = names_edition_at(place);
+        if !named {
+            return self.wrong_edition(b"no edition of version 1", place);
+        }
+        let mut next = self;
+        next.first_edition = names_first_at(place);
         next
     }
 
@@ -320,6 +356,7 @@ impl Words {
             option::PASSWORD | option::ADDRESS => self.with_bytes(option, place),
             option::COMMAND => self.with_command(place),
             option::SIZE => self.with_size(place),
+            option::EDITION => self.with_edition(place),
             option::MAGIC => self.with_from(place),
             _ => self.with_number(option, place),
         }
@@ -333,6 +370,7 @@ impl Words {
             }
             option::COMMAND => self.wrong_command(b"no word behind the option", place),
             option::SIZE => self.wrong_size(b"no number behind the option", place),
+            option::EDITION => self.wrong_edition(b"no edition behind the option", place),
             option::MAGIC => self.wrong(
                 b"no file behind the option",
                 place,

@@ -141,10 +141,13 @@ pub(crate) fn takes(command: u8, option: u8) -> bool
     if option == option::SIZE {
         return takes_size(command);
     }
+    if option == option::EDITION {
+        return command <= WRITE;
+    }
     if option == option::WIDE {
         return takes_wide(command);
     }
-    if option::SIZE < option {
+    if option::EDITION < option {
         return command == MAGIC;
     }
     takes_arguments(command)

@@ -18,23 +18,25 @@ pub const LEVEL: u8 = 2;
 
 pub const SIZE: u8 = 3;
 
-pub const PASSWORD: u8 = 4;
+pub const EDITION: u8 = 4;
 
-pub const ADDRESS: u8 = 5;
+pub const PASSWORD: u8 = 5;
 
-pub const COMMAND: u8 = 6;
+pub const ADDRESS: u8 = 6;
 
-pub const MAGIC: u8 = 7;
+pub const COMMAND: u8 = 7;
 
-pub const FORCE: u8 = 8;
+pub const MAGIC: u8 = 8;
 
-pub const WIDE: u8 = 9;
+pub const FORCE: u8 = 9;
+
+pub const WIDE: u8 = 10;
 
 // It begins as an option does, and is none.
-pub const UNKNOWN: u8 = 10;
+pub const UNKNOWN: u8 = 11;
 
 // The value of the option before it.
-pub const VALUE: u8 = 11;
+pub const VALUE: u8 = 12;
 
 // Whether an option of a command takes a value: all but --force, --wide and --magic do, and in `write` --magic does.
 pub(crate) fn takes_value(command: u8, option: u8) -> bool
@@ -60,12 +62,13 @@ fn option_of(word: &[u8]) -> u8
         b"--controller 1
 --level 2
 --size 3
---password 4
---address 5
---command 6
---magic 7
---force 8
---wide 9
+--edition 4
+--password 5
+--address 6
+--command 7
+--magic 8
+--force 9
+--wide 10
 ",
         word,
     ));

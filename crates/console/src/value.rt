@@ -1,10 +1,11 @@
-// What an option's value says: six bytes, or a command's word, in hexadecimal.
+// What an option's value says: six bytes, or a command's word, in hexadecimal; or an edition.
 use hexadecimal::offset::behind_mark;
 use hexadecimal::offset::run;
 use hexadecimal::offset::value_of;
 use text::slice::part;
+use text::slice::same;
 ghost use mathlib.Core.Path.{_≡_};
-ghost use Rattle.console.specs.Value.{isInPlace, isSixBytes, byteNamed, sixBytes, spellsWord, commandWord};
+ghost use Rattle.console.specs.Value.{isInPlace, isSixBytes, byteNamed, sixBytes, spellsWord, commandWord, namesFirst, namesEdition};
 
 // ## Six bytes: xx:xx:xx:xx:xx:xx
 
@@ -86,4 +87,22 @@ pub(crate) fn command_word(word: &[u8]) -> usize
         return 65_536;
     }
     value_of(digits)
+}
+
+// ## An edition of version 1: 1.00 or 1.01
+
+pub(crate) fn names_first(word: &[u8]) -> bool
+    ensures { λ r. ⌜ r ≡ namesFirst (now (word .entry)) ⌝ }
+{
+    same(word, b"1.00")
+}
+
+pub(crate) fn names_edition(word: &[u8]) -> bool
+    ensures { λ r. ⌜ r ≡ namesEdition (now (word .entry)) ⌝ }
+{
+    let first = names_first(word);
+    if first {
+        return true;
+    }
+    same(word, b"1.01")
 }

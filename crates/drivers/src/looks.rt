@@ -10,7 +10,6 @@ use libc::STDOUT_FILENO;
 use reader::Arguments;
 use report::words;
 use rom::refusal;
-use text::line;
 use text::line::Line;
 use text::slice::part;
 
@@ -203,7 +202,7 @@ fn show_loaded(arguments: Arguments, given: bool, walk: Walk) {
     report::arguments_words(Line::new().text(b"LOADED  "), arguments, given)
         .with(b", # blocks", [walk.blocks as u64, 0, 0, 0])
         .print();
-    let line = line::of(b"  connection type @, ", [walk.connection as u64, 0, 0, 0]);
+    let line = words::connection_line(b"  connection type ", walk.connection);
     show_way(line, walk.connection);
 }
 

@@ -26,7 +26,7 @@ abbrev pub every : (ℕ → Bool) → List ℕ → Bool
 every p [] = true
 every p (x ∷ xs) = p x && every p xs
 
-member : (p : ℕ → Bool) (x : ℕ) (xs : List ℕ) → T (every p xs) → T (isIn x xs) → T (p x)
+pub member : (p : ℕ → Bool) (x : ℕ) (xs : List ℕ) → T (every p xs) → T (isIn x xs) → T (p x)
 unfolding isIn
 member p x [] t h = absurd h
 member p x (y ∷ ys) t h =

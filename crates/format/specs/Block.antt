@@ -1,8 +1,8 @@
--- One block, given as the leaf's rest `s` from its first byte on (document 01, 'Leaf and blocks'; document 02, requests 3 and 5). Its
--- size, its kind and what its fields say take no level: the level decides only which of the causes 14 to 17 count.
+-- One block, given as the leaf's rest `s` from its first byte on (document 01, 'Leaf and blocks'; document 02, requests 3, 5 and
+-- 12). Its size, its kind and what its fields say take no level: the level decides only which of the causes 14 to 17 count.
 use Prim.Native.Nat.{ℕ, _+_, _*_, _/_, _%_}
 use mathlib.Core.List.{List, [], _∷_}
-use mathlib.Core.Bool.{Bool, false, _||_, _&&_, not}
+use mathlib.Core.Bool.{Bool, true, false, _||_, _&&_, not}
 use lib.ListN.{length}
 use lib.Dec.{eqb, leb, ltb}
 use Rattle.rom.specs.Geometry.{none}
@@ -228,16 +228,28 @@ setsMode row level k s = isPower row level s && bit k (factsOf (kindOf row s) s 
 
 -- ## Why a reader of a level refuses the block (document 01, 'Why a call is refused', 13 to 17)
 
-unfoldable pub causes : ℕ → ℕ → List ℕ → List Cause
-causes row level s =
+-- version 1, the first, has 21041 and compact blocks only: an extended one gets 14 there at every level (document 02, request 12);
+-- so a judge is told whether the image is of the first version or of a later one
+abbrev pub firstVersion : Bool
+firstVersion = true
+
+abbrev pub laterVersion : Bool
+laterVersion = false
+
+unfoldable pub causes : Bool → ℕ → ℕ → List ℕ → List Cause
+causes first row level s =
     let kind = kindOf row s in
     let known = isKnown level kind in
     let facts = factsOf kind s in
     (13 ⇒ ltb (length s) (sizeOf row s))
-    ∷ (14 ⇒ isExtended row s && eqb (lengthOf s) 0 || known && not (isPermitted row kind))
+    ∷ (14 ⇒ isExtended row s && (first || eqb (lengthOf s) 0) || known && not (isPermitted row kind))
     ∷ (15 ⇒ known && facts .wrongLength)
     ∷ (16 ⇒ known && facts .badCode)
     ∷ (17 ⇒ known && facts .advertisesTooMuch) ∷ []
 
+unfoldable pub refusalIn : Bool → ℕ → ℕ → List ℕ → ℕ
+refusalIn first row level s = firstMet (causes first row level s)
+
+-- in the later versions, 3 and 4
 unfoldable pub refusalOf : ℕ → ℕ → List ℕ → ℕ
-refusalOf row level s = firstMet (causes row level s)
+refusalOf row level s = firstMet (causes laterVersion row level s)

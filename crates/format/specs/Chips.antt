@@ -1,8 +1,8 @@
--- The chips and what each takes (document 01, 'Leaf and blocks'; document 02, request 3): one row a chip, at the same place in
+-- The chips and what each takes (document 01, 'Leaf and blocks'; document 02, requests 3 and 12): one row a chip, at the same place in
 -- every table.
 use Prim.Native.Nat.{ℕ, _+_}
 use mathlib.Core.List.{List, [], _∷_, _++_}
-use mathlib.Core.Bool.{Bool}
+use mathlib.Core.Bool.{Bool, true, false, _&&_, not}
 use lib.Dec.{eqb}
 use lib.ListN.{getD}
 use Rattle.rom.specs.Bytes.{pick, isIn}
@@ -49,6 +49,34 @@ connectionRows = connections21041 ∷ connections21140 ∷ connections21142 ∷ 
 -- whether the chip at a row takes the connection type; past the last row none does
 unfoldable pub isConnection : ℕ → ℕ → Bool
 isConnection row code = isIn code (getD connectionRows row [])
+
+-- ## The first version (document 02, request 12)
+
+-- it has these chips only
+unfoldable pub firstChips : List ℕ
+firstChips = 21041 ∷ 21140 ∷ []
+
+-- its editions, 1.00 and 1.01
+abbrev pub firstEdition : Bool
+firstEdition = true
+
+abbrev pub laterEdition : Bool
+laterEdition = false
+
+-- the codes that edition 1.00 alone has, and those that 1.01 has in their place
+unfoldable pub firstCodes : List ℕ
+firstCodes = 0x0200 ∷ 0x0203 ∷ []
+
+unfoldable pub laterCodes : List ℕ
+laterCodes = 0x0204 ∷ 0x0205 ∷ []
+
+-- what a type is taken as: a code of edition 1.00 as that of 1.01, every other as itself
+unfoldable pub takenAs : ℕ → ℕ
+takenAs code = pick (eqb code 0x0200) 0x0204 (pick (eqb code 0x0203) 0x0205 code)
+
+-- whether an edition reads the type for the chip at a row: 1.00 its own code where the row has that of 1.01, and not that of 1.01
+unfoldable pub isRead : Bool → ℕ → ℕ → Bool
+isRead edition row code = pick edition (not (isIn code laterCodes) && isConnection row (takenAs code)) (isConnection row code)
 
 -- ## Kinds of blocks: an extended type has its own number
 

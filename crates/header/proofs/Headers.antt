@@ -22,18 +22,22 @@ use Rattle.header.specs.declared.Arguments.{Arguments}
 use Rattle.header.specs.declared.Header.{Header}
 use Rattle.header.specs.Image.{versions, controllerCount, reservedAt, baseAddress, addressOf, headerLength, controlByte, blocksAt}
 use Rattle.header.specs.Image.{blockCount, badCount, magicCauses, imageCauses, argumentCauses, leafHeaderCauses}
-use Rattle.header.specs.Header.{rowFor, leafFor, startFor, countFor, headerCauses, noHeader, foundHeader, headerFor}
+use Rattle.header.specs.Header.{rowFor, editionFor, leafFor, startFor, countFor, headerCauses, noHeader, foundHeader, headerFor}
 
 -- ## The image alone
 
 module _ (version : ℕ) where
-  pub version-first : version ≡ 3 → false ≡ not (isIn version versions)
+  pub version-first : version ≡ 1 → false ≡ not (isIn version versions)
   unfolding isIn versions
-  version-first e = simp (eq-eqb 3 version (sym e))
+  version-first e = simp (eq-eqb 1 version (sym e))
 
-  pub version-last : (version ≡ 3 → ⊥) → not (eqb version 4) ≡ not (isIn version versions)
+  pub version-next : (version ≡ 1 → ⊥) → version ≡ 3 → false ≡ not (isIn version versions)
   unfolding isIn versions
-  version-last n = simp (ne-eqb 3 version (λ e. n (sym e))) (ap not (go (eqb version 4) refl))
+  version-next n e = simp (ne-eqb 1 version (λ e. n (sym e)), eq-eqb 3 version (sym e))
+
+  pub version-last : (version ≡ 1 → ⊥) → (version ≡ 3 → ⊥) → not (eqb version 4) ≡ not (isIn version versions)
+  unfolding isIn versions
+  version-last m n = simp (ne-eqb 1 version (λ e. m (sym e)), ne-eqb 3 version (λ e. n (sym e))) (ap not (go (eqb version 4) refl))
     where
       go : (t : Bool) → eqb version 4 ≡ t → t ≡ (eqb 4 version || false)
       go true e = simp (eq-eqb 4 version (sym (eqb-true version 4 e)))
@@ -114,11 +118,11 @@ image-numbered l image = (lit< tt, (lit< tt, (lit< tt, (lit< tt, (lit< tt, (lit<
 
 pub argument-numbered : (image : List ℕ) (a : Arguments) → Numbered (argumentCauses image a)
 unfolding argumentCauses
-argument-numbered image a = (lit< tt, (lit< tt, (lit< tt, (lit< tt, tt))))
+argument-numbered image a = (lit< tt, (lit< tt, (lit< tt, (lit< tt, (lit< tt, tt)))))
 
-leaf-header-numbered : (l : Layout) (image : List ℕ) (row leaf : ℕ) → Numbered (leafHeaderCauses l image row leaf)
+leaf-header-numbered : (l : Layout) (image : List ℕ) (edition : Bool) (row leaf : ℕ) → Numbered (leafHeaderCauses l image edition row leaf)
 unfolding leafHeaderCauses
-leaf-header-numbered l image row leaf = (lit< tt, (lit< tt, tt))
+leaf-header-numbered l image edition row leaf = (lit< tt, (lit< tt, tt))
 
 module _ (image : List ℕ) (a : Arguments) where
   pub header-numbered : Numbered (headerCauses image a)
@@ -126,7 +130,7 @@ module _ (image : List ℕ) (a : Arguments) where
   header-numbered =
       numbered-append (imageCauses (a .layout) image) _ (image-numbered (a .layout) image)
       (numbered-append (argumentCauses image a) _ (argument-numbered image a)
-      (leaf-header-numbered (a .layout) image (rowFor a) (leafFor image a)))
+      (leaf-header-numbered (a .layout) image (editionFor image a) (rowFor a) (leafFor image a)))
 
   -- a refusal of the image, of the arguments or of the leaf's header is the header's; without any, the header is found
   refused-by : (n : ℕ) → (n ≡ 0 → ⊥) → firstMet (headerCauses image a) ≡ n → noHeader n ≡ headerFor image a
@@ -139,7 +143,7 @@ module _ (image : List ℕ) (a : Arguments) where
 
   module _ (i : 0 ≡ firstMet (imageCauses (a .layout) image)) where
     past-image : firstMet (headerCauses image a)
-        ≡ firstMet (argumentCauses image a ++ leafHeaderCauses (a .layout) image (rowFor a) (leafFor image a))
+        ≡ firstMet (argumentCauses image a ++ leafHeaderCauses (a .layout) image (editionFor image a) (rowFor a) (leafFor image a))
     unfolding headerCauses
     past-image = after-accepted (imageCauses (a .layout) image) _ (image-numbered (a .layout) image) (sym i)
 
@@ -147,17 +151,26 @@ module _ (image : List ℕ) (a : Arguments) where
     by-arguments n h e = refused-by n h (past-image ∙ after-refused (argumentCauses image a) _ n h (sym e))
 
     module _ (g : 0 ≡ firstMet (argumentCauses image a)) where
-      past-arguments : firstMet (headerCauses image a) ≡ firstMet (leafHeaderCauses (a .layout) image (rowFor a) (leafFor image a))
+      past-arguments : firstMet (headerCauses image a)
+          ≡ firstMet (leafHeaderCauses (a .layout) image (editionFor image a) (rowFor a) (leafFor image a))
       past-arguments = past-image ∙ after-accepted (argumentCauses image a) _ (argument-numbered image a) (sym g)
 
-      pub by-leaf : (n : ℕ) → (n ≡ 0 → ⊥) → n ≡ firstMet (leafHeaderCauses (a .layout) image (rowFor a) (leafFor image a))
+      pub by-leaf : (n : ℕ) → (n ≡ 0 → ⊥)
+          → n ≡ firstMet (leafHeaderCauses (a .layout) image (editionFor image a) (rowFor a) (leafFor image a))
           → noHeader n ≡ headerFor image a
       by-leaf n h e = refused-by n h (past-arguments ∙ sym e)
 
-      pub header-found : 0 ≡ firstMet (leafHeaderCauses (a .layout) image (rowFor a) (leafFor image a))
+      pub header-found : 0 ≡ firstMet (leafHeaderCauses (a .layout) image (editionFor image a) (rowFor a) (leafFor image a))
           → foundHeader image a ≡ headerFor image a
       unfolding headerFor pick
       header-found e = rw (past-arguments ∙ sym e)
+
+-- the causes of the leaf's header, as they are read
+pub leaf-met : (image : List ℕ) (a : Arguments) {n row leaf : ℕ} {edition : Bool}
+    → row ≡ rowFor a → leaf ≡ leafFor image a → edition ≡ editionFor image a
+    → n ≡ firstMet (leafHeaderCauses (a .layout) image edition row leaf)
+    → n ≡ firstMet (leafHeaderCauses (a .layout) image (editionFor image a) (rowFor a) (leafFor image a))
+leaf-met image a er el ee e = rw (er, el, ee) at e
 
 -- the fields, as they are read
 pub fields : (image : List ℕ) (a : Arguments) (row leaf header connection control base blocks : ℕ)

@@ -1,4 +1,4 @@
--- The image: its header and a controller's leaf (document 01, 'The image', 'Leaf and blocks').
+-- The image: its header and a controller's leaf (document 01, 'The image', 'Leaf and blocks'; document 02, request 12).
 use Prim.Native.Nat.{ℕ, _+_, _-_, _*_, _^_}
 use mathlib.Core.List.{List, [], _∷_, _++_}
 use mathlib.Core.Bool.{Bool, _&&_, _||_, not}
@@ -11,13 +11,17 @@ use Rattle.rom.specs.Bytes.{pick, byteAt, wordAt, isIn}
 use Rattle.rom.specs.Refusal.{Cause, _⇒_}
 use Rattle.crc.specs.Crc.{sromCrc, idCrc}
 use Rattle.magic.specs.Block.{badCrc, badReserved}
-use Rattle.format.specs.Chips.{chips, row21140, isConnection, newestLevel}
+use Rattle.format.specs.Chips.{chips, row21140, firstChips, isRead, newestLevel}
 use Rattle.header.specs.declared.Arguments.{Arguments}
 
 -- ## The header
 
 unfoldable pub versions : List ℕ
-versions = 3 ∷ 4 ∷ []
+versions = 1 ∷ 3 ∷ 4 ∷ []
+
+-- whether the image is of version 1, the first (document 02, request 12)
+unfoldable pub isFirstVersion : List ℕ → Bool
+isFirstVersion image = eqb (byteAt image versionAt) 1
 
 unfoldable pub controllerCount : List ℕ → ℕ
 controllerCount image = byteAt image controllerCountAt
@@ -60,7 +64,7 @@ blockCount image row leaf = byteAt image (blocksAt row leaf - 1)
 unfoldable pub restFrom : Layout → List ℕ → ℕ → List ℕ
 restFrom l image start = take (leavesEnd l - start) (drop start image)
 
--- ## Why an image is refused before its blocks are judged (1 to 4, 29, 30, 5 to 11)
+-- ## Why an image is refused before its blocks are judged (1 to 4, 29, 30, 5 to 7, 38, 8 to 11)
 
 -- from the image alone
 unfoldable pub badCount : Layout → List ℕ → Bool
@@ -84,13 +88,14 @@ unfoldable pub argumentCauses : List ℕ → Arguments → List Cause
 argumentCauses image a =
     (6 ⇒ leb (controllerCount image) (a .controller))
     ∷ (7 ⇒ not (isIn (a .chip) chips))
+    ∷ (38 ⇒ isFirstVersion image && not (isIn (a .chip) firstChips))
     ∷ (8 ⇒ ltb newestLevel (a .level))
     ∷ (9 ⇒ leb (2 ^ 48) (addressOf image (a .controller)))
     ∷ []
 
--- from the leaf's header: it starts behind the reserved byte and ends where leaves do
-unfoldable pub leafHeaderCauses : Layout → List ℕ → ℕ → ℕ → List Cause
-leafHeaderCauses l image row leaf =
+-- from the leaf's header: it starts behind the reserved byte and ends where leaves do; `edition` is whether it is of edition 1.00
+unfoldable pub leafHeaderCauses : Layout → List ℕ → Bool → ℕ → ℕ → List Cause
+leafHeaderCauses l image edition row leaf =
     (10 ⇒ leb leaf (reservedAt image) || ltb (leavesEnd l) (blocksAt row leaf))
-    ∷ (11 ⇒ not (isConnection row (wordAt image leaf)))
+    ∷ (11 ⇒ not (isRead edition row (wordAt image leaf)))
     ∷ []

@@ -1,33 +1,38 @@
-// An image's header, and the header of a controller's leaf (document 01, 'The image').
+// An image's header, and the header of a controller's leaf (document 01, 'The image'; document 02, request 12).
 use block::chip;
 use rom::ByteOffset;
 use rom::Layout;
 use rom::refusal;
 ghost use mathlib.Core.Path.{_≡_};
-ghost use mathlib.Core.Bool.{not, false};
+ghost use mathlib.Core.Bool.{not, false, _&&_};
 ghost use Prim.Native.Nat.{_+_, _*_, _^_, _<_, _≤_};
 ghost use lib.Dec.{eqb};
 ghost use lib.ListN.{length};
 ghost use Rattle.rom.specs.Geometry.{wrongLength, checkedLength, idCrcAt, versionAt};
 ghost use Rattle.rom.specs.Bytes.{byteAt, wordAt, isIn};
 ghost use Rattle.rom.specs.Refusal.{firstMet};
+ghost use Rattle.format.specs.Chips.{firstChips};
 ghost use Rattle.crc.specs.Crc.{sromCrc, idCrc};
-ghost use Rattle.header.specs.Image.{versions, controllerCount, reservedAt, baseAddress, headerLength, controlByte};
+ghost use Rattle.header.specs.Image.{versions, isFirstVersion, controllerCount, reservedAt, baseAddress, headerLength, controlByte};
 ghost use Rattle.header.specs.Image.{restFrom, badCount, magicCauses, imageCauses, argumentCauses, leafHeaderCauses};
 ghost use Rattle.header.specs.Header.{rowFor, leafFor, noHeader, foundHeader, headerFor};
 
-const FIRST_VERSION: u8 = 3;
+// Version 1, whose connection codes the caller's edition decides, and the later ones.
+const FIRST_VERSION: u8 = 1;
+
+const NEXT_VERSION: u8 = 3;
 
 const LAST_VERSION: u8 = 4;
 
-// What a reading is told beside the image: the chip by its decimal number, the controller from 0, the reader's level, and how
-// the image is laid out.
+// What a reading is told beside the image: the chip by its decimal number, the controller from 0, the reader's level, how the
+// image is laid out, and whether one of version 1 is of edition 1.00, else 1.01.
 #[repr(C)]
 pub struct Arguments {
     pub chip: u16,
     pub controller: u8,
     pub level: u8,
     pub layout: Layout,
+    pub first_edition: bool,
 }
 
 // What the header says of a controller's leaf, or a refusal's number and zeros. The row is the chip's, and start is where
@@ -64,7 +69,40 @@ fn bad_version(image: &[u8]) -> bool
     if version == FIRST_VERSION {
         return false;
     }
+    if version == NEXT_VERSION {
+        return false;
+    }
     version != LAST_VERSION
+}
+
+// Whether the image is of version 1.
+pub fn is_first_version(image: &[u8]) -> bool
+    ensures { λ r. ⌜ r ≡ isFirstVersion (now (image .entry)) ⌝ }
+{
+    rom::byte_at(image, ByteOffset(rom::VERSION_AT)) == FIRST_VERSION
+}
+
+// Whether edition 1.00 is read: the image is of version 1, and the caller names it.
+fn is_first_edition(image: &[u8], named: bool) -> bool
+    ensures { λ r. ⌜ r ≡ (isFirstVersion (now (image .entry)) && named) ⌝ }
+{
+    let first = is_first_version(image);
+    if first {
+        return named;
+    }
+    false
+}
+
+// Whether the image is of version 1, which does not have the chip.
+fn is_later_chip(image: &[u8], wanted: u16) -> bool
+    ensures { λ r. ⌜ r ≡ (isFirstVersion (now (image .entry)) && not (isIn wanted firstChips)) ⌝ }
+{
+    let first = is_first_version(image);
+    if !first {
+        return false;
+    }
+    let has = chip::is_first_chip(wanted);
+    !has
 }
 
 // Whether the SROM CRC is not the stored one.
@@ -172,7 +210,7 @@ fn base_address(image: &[u8]) -> u64
     high + middle + low
 }
 
-// Refusals 6 to 9, from the arguments.
+// Refusals 6, 7, 38, 8 and 9, from the arguments.
 fn argument_refusal(image: &[u8], arguments: Arguments) -> u8
     ensures { λ r. ⌜ r ≡ firstMet (argumentCauses (now (image .entry)) arguments) ⌝ }
 {
@@ -181,6 +219,10 @@ fn argument_refusal(image: &[u8], arguments: Arguments) -> u8
     }
     if chip::CHIP_COUNT <= chip::row_of(arguments.chip) {
         return refusal::CHIP;
+    }
+    let later = is_later_chip(image, arguments.chip);
+    if later {
+        return refusal::FIRST_VERSION_CHIP;
     }
     if block::NEWEST_LEVEL < arguments.level {
         return refusal::LEVEL;
@@ -213,9 +255,9 @@ fn control_byte(image: &[u8], row: usize, leaf: usize) -> u8
 }
 
 // Refusals 10 and 11, from the header of the leaf.
-fn leaf_refusal(image: &[u8], layout: Layout, row: usize, leaf: usize) -> u8
+fn leaf_refusal(image: &[u8], layout: Layout, first_edition: bool, row: usize, leaf: usize) -> u8
     requires { ⌜ leaf < 65536 ⌝ }
-    ensures { λ r. ⌜ r ≡ firstMet (leafHeaderCauses layout (now (image .entry)) row leaf) ⌝ }
+    ensures { λ r. ⌜ r ≡ firstMet (leafHeaderCauses layout (now (image .entry)) «first_edition» row leaf) ⌝ }
 {
     if leaf <= reserved_at(image) {
         return refusal::LEAF_HEADER;
@@ -223,7 +265,7 @@ fn leaf_refusal(image: &[u8], layout: Layout, row: usize, leaf: usize) -> u8
     if layout.leaves_end() < leaf + header_length(row) {
         return refusal::LEAF_HEADER;
     }
-    let permitted = chip::is_connection(row, rom::word_at(image, ByteOffset(leaf)));
+    let permitted = chip::is_read(first_edition, row, rom::word_at(image, ByteOffset(leaf)));
     if !permitted {
         return refusal::CONNECTION_TYPE;
     }
@@ -247,7 +289,7 @@ fn header_at(image: &[u8], arguments: Arguments, row: usize, leaf: usize) -> Hea
     }
 }
 
-// The header, or the first of refusals 1 to 4, 29, 30 and 5 to 11.
+// The header, or the first of refusals 1 to 4, 29, 30, 5 to 7, 38 and 8 to 11.
 pub fn read_header(image: &[u8], arguments: Arguments) -> Header
     ensures { λ r. ⌜ r ≡ headerFor (now (image .entry)) arguments ⌝ }
 {
@@ -263,7 +305,8 @@ pub fn read_header(image: &[u8], arguments: Arguments) -> Header
     let row = chip::row_of(arguments.chip);
     let controller = arguments.controller as usize;
     let leaf = rom::word_at(image, ByteOffset(rom::CONTROLLERS_AT + 3 * controller + 1)) as usize;
-    let number = leaf_refusal(image, layout, row, leaf);
+    let first_edition = is_first_edition(image, arguments.first_edition);
+    let number = leaf_refusal(image, layout, first_edition, row, leaf);
     if number != refusal::ACCEPTED {
         return refused(number);
     }

@@ -1,6 +1,6 @@
 // The reading of each record on standard input, one line a record: the image's length (word), chip (word), controller, level,
-// stated size (word), layout (1 with a Magic Packet block, 0 without), image. Each entry of the table is printed as
-// kind@offset:block.
+// stated size (word), layout (1 with a Magic Packet block, 0 without), edition (1 for 1.00, 0 for 1.01), image. Each entry of the
+// table is printed as kind@offset:block.
 use libc::STDIN_FILENO;
 use libc::STDOUT_FILENO;
 use reader::Answer;
@@ -10,7 +10,7 @@ use rom::Layout;
 use text::slice::part;
 
 // The bytes of a record before the image's.
-const HEAD: usize = 9;
+const HEAD: usize = 10;
 
 fn print_space() {
     io::write_all(STDOUT_FILENO, b" ");
@@ -96,6 +96,7 @@ fn next_record() -> bool {
             size: rom::word_at(&head, ByteOffset(6)),
             magic: head[8] == 1,
         },
+        first_edition: head[9] == 1,
     };
     let mut room = io::buffer();
     vectors::read_front(&mut room, length);

@@ -17,11 +17,12 @@ use Rattle.rom.proofs.First.{none-here, after-accepted, after-refused}
 use Rattle.rom.proofs.Truth.{or-false}
 use Rattle.block.specs.declared.Block.{Block}
 use Rattle.block.specs.declared.Block.the-variants.{Listed, Reset, Power, Unknown, Refused}
-use Rattle.format.specs.Block.{kindOf, isKnown, factsOf, sequence, causes, refusalOf, isListed, isReset, isPower, isSkipped, isDefault}
+use Rattle.format.specs.Block.{kindOf, isKnown, factsOf, sequence, causes, refusalIn, isListed, isReset, isPower, isSkipped, isDefault}
 use Rattle.format.specs.Block.{resetsPhy}
-use Rattle.block.specs.Answer.{blockOf, numberOf, sizeIn, modeIn}
+use Rattle.block.specs.Answer.{blockIn, blockOf, numberOf, sizeIn, modeIn}
 use Rattle.format.proofs.Exact.{causes-numbered}
-use Rattle.block.proofs.Seen.{Seen, refused, unknown, a-reset, a-power, a-medium, seen, seen-number, seen-size}
+use Rattle.block.proofs.Seen.{Seen, refused, unknown, a-reset, a-power, a-medium, seen, seen-size}
+use Rattle.block.proofs.Versions.{answers-first, found-later}
 use Rattle.leaf.proofs.Modes.{Modes, modes-more, modes-end, mode-bit}
 use Rattle.leaf.specs.declared.Tally.{Tally}
 use Rattle.leaf.specs.Leaf.{cut, countOf, firstFrom, clash, blockCauses, clashCause, modeCause, wholeCauses, leafCauses}
@@ -33,26 +34,28 @@ use Rattle.leaf.proofs.Tables.{few-one}
 
 -- ## The tally in words of the causes
 
-pub tally-number : (row level : ℕ) (bs : List (List ℕ)) → tallyOf row level bs .number ≡ firstMet (leafCauses row level bs)
+pub tally-number : (first : Bool) (row level : ℕ) (bs : List (List ℕ))
+    → tallyOf first row level bs .number ≡ firstMet (leafCauses first row level bs)
 unfolding tallyOf counts noTally pick
-tally-number row level bs = go (firstMet (leafCauses row level bs))
+tally-number first row level bs = go (firstMet (leafCauses first row level bs))
   where
     go : (n : ℕ) → pick (eqb n 0) (counts row level bs) (noTally n) .number ≡ n
     go zero = refl
     go (suc n) = rw (eqb·suc-zero n)
 
-pub tally-accepted : (row level : ℕ) (bs : List (List ℕ)) → firstMet (leafCauses row level bs) ≡ 0
-    → tallyOf row level bs ≡ counts row level bs
+pub tally-accepted : (first : Bool) (row level : ℕ) (bs : List (List ℕ)) → firstMet (leafCauses first row level bs) ≡ 0
+    → tallyOf first row level bs ≡ counts row level bs
 unfolding tallyOf pick
-tally-accepted row level bs e = rw e
+tally-accepted first row level bs e = rw e
 
 -- two defaults are a clash
-pub accepted-defaults : (row level : ℕ) (bs : List (List ℕ)) → firstMet (leafCauses row level bs) ≡ 0 → countOf (isDefault row level) bs ≤ 1
+pub accepted-defaults : (first : Bool) (row level : ℕ) (bs : List (List ℕ)) → firstMet (leafCauses first row level bs) ≡ 0
+    → countOf (isDefault row level) bs ≤ 1
 unfolding wholeCauses clashCause clash
-accepted-defaults row level bs e =
+accepted-defaults first row level bs e =
     ltb-false 1 _
     (or-false (ltb 1 resets || ltb 0 resets && ltb 0 phys) (ltb 1 defaults)
-    (none-here (clashCause row level bs) (modeCause row level bs ∷ []) (lit< tt) (leaf-accepted row level bs e .1) .0) .1)
+    (none-here (clashCause row level bs) (modeCause row level bs ∷ []) (lit< tt) (leaf-accepted first row level bs e .1) .0) .1)
   where
     resets : ℕ
     resets = countOf (isReset row level) bs
@@ -186,9 +189,9 @@ default-more old k n w d h e = go (eqb old none) d refl e
     go false d f e = rw f e
 
 -- What the loop of `judge` keeps: k blocks are passed, with the tally t of them.
-pub record Counted (row level : ℕ) (whole bs : List (List ℕ)) (k : ℕ) (t : Tally) : Type 0 where
+pub record Counted (first : Bool) (row level : ℕ) (whole bs : List (List ℕ)) (k : ℕ) (t : Tally) : Type 0 where
   pub number : t .number ≡ 0
-  pub first : firstMet (blockCauses row level bs ++ wholeCauses row level whole) ≡ firstMet (leafCauses row level whole)
+  pub first-met : firstMet (blockCauses first row level bs ++ wholeCauses row level whole) ≡ firstMet (leafCauses first row level whole)
   pub listed : t .listed + countOf (isListed row level) bs ≡ countOf (isListed row level) whole
   pub resets : t .resets + countOf (isReset row level) bs ≡ countOf (isReset row level) whole
   pub skipped : t .skipped + countOf (isSkipped row level) bs ≡ countOf (isSkipped row level) whole
@@ -200,12 +203,12 @@ pub record Counted (row level : ℕ) (whole bs : List (List ℕ)) (k : ℕ) (t :
   pub sorts : t .listed + t .resets + t .skipped + t .power ≡ k
   pub few : (t .phys ≤ t .listed) × (t .defaults ≤ t .listed)
 
-pub counted-start : (row level : ℕ) (bs : List (List ℕ)) → Counted row level bs bs 0 startTally
+pub counted-start : (first : Bool) (row level : ℕ) (bs : List (List ℕ)) → Counted first row level bs bs 0 startTally
 unfolding startTally leafCauses pick
-counted-start row level bs =
+counted-start first row level bs =
     record {
       number = refl;
-      first = refl;
+      first-met = refl;
       listed = omega arith;
       resets = omega arith;
       skipped = omega arith;
@@ -217,13 +220,15 @@ counted-start row level bs =
       few = (zero-le, zero-le);
     }
 
-module _ {row level : ℕ} {whole bs : List (List ℕ)} {s : List ℕ} {k : ℕ} {t : Tally} (c : Counted row level whole (s ∷ bs) k t) where
-  pub counted-more : {u : Tally} → refusalOf row level s ≡ 0 → k < none → Grown row level s k t u → Counted row level whole bs (k + 1) u
-  unfolding countOf blockCauses firstFrom refusalOf
+module _ {first : Bool} {row level : ℕ} {whole bs : List (List ℕ)} {s : List ℕ} {k : ℕ} {t : Tally}
+    (c : Counted first row level whole (s ∷ bs) k t) where
+  pub counted-more : {u : Tally} → refusalIn first row level s ≡ 0 → k < none → Grown row level s k t u
+      → Counted first row level whole bs (k + 1) u
+  unfolding countOf blockCauses firstFrom refusalIn
   counted-more {u} e h g = record {
     number = g .number ∙ c .number;
-    first = sym (after-accepted (causes row level s) _ (causes-numbered row level s) e)
-        ∙ sym (ap firstMet (append-assoc (causes row level s) (blockCauses row level bs) _)) ∙ c .first;
+    first-met = sym (after-accepted (causes first row level s) _ (causes-numbered first row level s) e)
+        ∙ sym (ap firstMet (append-assoc (causes first row level s) (blockCauses first row level bs) _)) ∙ c .first-met;
     listed = omega (arith, g .listed, c .listed);
     resets = omega (arith, g .resets, c .resets);
     skipped = omega (arith, g .skipped, c .skipped);
@@ -235,34 +240,35 @@ module _ {row level : ℕ} {whole bs : List (List ℕ)} {s : List ℕ} {k : ℕ}
     few = (omega (arith, g .phys, g .listed, g .few, c .few), omega (arith, g .defaults, g .listed, g .few, c .few));
   }
 
-  pub tally-refused : {n : ℕ} → refusalOf row level s ≡ n → (n ≡ 0 → ⊥) → noTally n ≡ tallyOf row level whole
-  unfolding tallyOf blockCauses refusalOf pick
+  pub tally-refused : {n : ℕ} → refusalIn first row level s ≡ n → (n ≡ 0 → ⊥) → noTally n ≡ tallyOf first row level whole
+  unfolding tallyOf blockCauses refusalIn pick
   tally-refused {n} e h =
-      let first : firstMet (leafCauses row level whole) ≡ n = sym (c .first)
-      ∙ ap firstMet (append-assoc (causes row level s) (blockCauses row level bs) _) ∙ after-refused (causes row level s) _ n h e in
-      rw (first, ne-eqb n 0 h)
+      let met : firstMet (leafCauses first row level whole) ≡ n = sym (c .first-met)
+      ∙ ap firstMet (append-assoc (causes first row level s) (blockCauses first row level bs) _)
+      ∙ after-refused (causes first row level s) _ n h e in
+      rw (met, ne-eqb n 0 h)
 
-module _ {row level : ℕ} {whole : List (List ℕ)} {k : ℕ} {t : Tally} (c : Counted row level whole [] k t) where
+module _ {first : Bool} {row level : ℕ} {whole : List (List ℕ)} {k : ℕ} {t : Tally} (c : Counted first row level whole [] k t) where
   at-end : (clash (t .resets) (t .phys) (t .defaults) ≡ clashCause row level whole .met)
-      × (firstMet (leafCauses row level whole)
+      × (firstMet (leafCauses first row level whole)
       ≡ pick (clashCause row level whole .met) 18 (pick (modeCause row level whole .met) 31 0))
   unfolding wholeCauses clashCause modeCause blockCauses countOf firstMet
   at-end =
       let r : t .resets ≡ countOf (isReset row level) whole = omega (arith, c .resets) in
       let p : t .phys ≡ countOf (resetsPhy row level) whole = omega (arith, c .phys) in
       let d : t .defaults ≡ countOf (isDefault row level) whole = omega (arith, c .defaults) in
-      (rw (r, p, d), sym (c .first))
+      (rw (r, p, d), sym (c .first-met))
 
-  tally-18 : clash (t .resets) (t .phys) (t .defaults) ≡ true → noTally 18 ≡ tallyOf row level whole
+  tally-18 : clash (t .resets) (t .phys) (t .defaults) ≡ true → noTally 18 ≡ tallyOf first row level whole
   unfolding tallyOf pick
   tally-18 e = rw (at-end .1, ← (at-end .0), e)
 
   module _ {modes repeated : ℕ} (m : Modes row level whole [] modes repeated) (e : clash (t .resets) (t .phys) (t .defaults) ≡ false) where
-    tally-31 : (repeated ≡ 0 → ⊥) → noTally 31 ≡ tallyOf row level whole
+    tally-31 : (repeated ≡ 0 → ⊥) → noTally 31 ≡ tallyOf first row level whole
     unfolding tallyOf pick
     tally-31 n = rw (at-end .1, ← (at-end .0), e, ← (modes-end m), ne-eqb repeated 0 n)
 
-    tally-done : repeated ≡ 0 → t ≡ tallyOf row level whole
+    tally-done : repeated ≡ 0 → t ≡ tallyOf first row level whole
     unfolding tallyOf counts pick countOf firstFrom firstNumber
     tally-done n =
         let l : t .listed ≡ countOf (isListed row level) whole = omega (arith, c .listed) in
@@ -286,31 +292,39 @@ module _ {row level : ℕ} {whole : List (List ℕ)} {k : ℕ} {t : Tally} (c : 
 
 -- ## The steps of `judge` in its own terms: b is the block that was judged, u the tally with it, z its size.
 
-module _ (row level count : ℕ) (rest : List ℕ) {whole : List (List ℕ)} {k : ℕ} {t : Tally}
-    (inv : Counted row level whole (cut row (count - k) rest) k t) where
-  module _ (h : k < count) {b : Block} {u : Tally} (eb : b ≡ blockOf row level rest) (eu : u ≡ plus t b k) where
-    view : Seen row level rest b
-    view = rw eb (seen row level rest)
+module _ (first : Bool) (row level count : ℕ) (rest : List ℕ) {whole : List (List ℕ)} {k : ℕ} {t : Tally}
+    (inv : Counted first row level whole (cut row (count - k) rest) k t) where
+  module _ (h : k < count) {b : Block} {u : Tally} (eb : b ≡ blockIn first row level rest) (eu : u ≡ plus t b k) where
+    number-in : numberOf b ≡ refusalIn first row level rest
+    number-in = ap numberOf eb ∙ answers-first first row level rest .0
 
     same-number : u .number ≡ numberOf b
     same-number = ap (λ (t : Tally). t .number) eu ∙ plus-number t b k (inv .number)
 
-    pub judge-refused : (u .number ≡ 0 → ⊥) → u ≡ tallyOf row level whole
+    pub judge-refused : (u .number ≡ 0 → ⊥) → u ≡ tallyOf first row level whole
     judge-refused n =
         let m : numberOf b ≡ 0 → ⊥ = λ e. n (same-number ∙ e) in
-        eu ∙ plus-refused t b k m ∙ tally-refused (rw cut-more at inv) (sym (seen-number view)) m
+        eu ∙ plus-refused t b k m ∙ tally-refused (rw cut-more at inv) (sym number-in) m
 
     module _ (e : u .number ≡ 0) {z : ℕ} (ez : z ≡ sizeIn b) where
       fine : numberOf b ≡ 0
       fine = sym same-number ∙ e
 
-      pub judge-fits : z ≤ length rest
-      judge-fits = size-fits row level rest eb refl fine ez
+      -- as it is accepted, it is what it is in versions 3 and 4
+      later : b ≡ blockOf row level rest
+      later = found-later first row level rest eb refl fine
 
-      pub judge-more : count < 256 → Counted row level whole (cut row (count - (k + 1)) (take (length rest - z) (drop z rest))) (k + 1) u
+      view : Seen row level rest b
+      view = rw later (seen row level rest)
+
+      pub judge-fits : z ≤ length rest
+      judge-fits = size-fits row level rest later refl fine ez
+
+      pub judge-more : count < 256
+          → Counted first row level whole (cut row (count - (k + 1)) (take (length rest - z) (drop z rest))) (k + 1) u
       judge-more l =
           rw (rest-part, ez, seen-size view fine, eu)
-          (counted-more (rw cut-more at inv) (sym (seen-number view) ∙ fine) (omega arith) (grown k t view fine))
+          (counted-more (rw cut-more at inv) (sym number-in ∙ fine) (omega arith) (grown k t view fine))
 
       -- m is its mode
       pub judge-modes : {modes repeated m : ℕ} → Modes row level whole (cut row (count - k) rest) modes repeated → m ≡ modeIn b → m < 256
@@ -320,12 +334,12 @@ module _ (row level count : ℕ) (rest : List ℕ) {whole : List (List ℕ)} {k 
           rw (rest-part, ez, seen-size view fine) (modes-more (rw cut-more at told) byte (λ j. ap (bit j) em ∙ mode-bit view fine j))
 
   module _ (h : count ≤ k) {m : Bool} (em : m ≡ clash (t .resets) (t .phys) (t .defaults)) where
-    pub judge-18 : {u : Tally} → m ≡ true → u ≡ noTally 18 → u ≡ tallyOf row level whole
+    pub judge-18 : {u : Tally} → m ≡ true → u ≡ noTally 18 → u ≡ tallyOf first row level whole
     judge-18 e eu = eu ∙ tally-18 (rw cut-none at inv) (sym em ∙ e)
 
     module _ (e : m ≡ false) {modes repeated : ℕ} (told : Modes row level whole (cut row (count - k) rest) modes repeated) where
-      pub judge-31 : {u : Tally} → (repeated ≡ 0 → ⊥) → u ≡ noTally 31 → u ≡ tallyOf row level whole
+      pub judge-31 : {u : Tally} → (repeated ≡ 0 → ⊥) → u ≡ noTally 31 → u ≡ tallyOf first row level whole
       judge-31 n eu = eu ∙ tally-31 (rw cut-none at inv) (rw cut-none at told) (sym em ∙ e) n
 
-      pub judge-done : repeated ≡ 0 → t ≡ tallyOf row level whole
+      pub judge-done : repeated ≡ 0 → t ≡ tallyOf first row level whole
       judge-done n = tally-done (rw cut-none at inv) (rw cut-none at told) (sym em ∙ e) n

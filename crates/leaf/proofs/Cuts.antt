@@ -4,16 +4,19 @@ use Prim.Native.Nat.{ℕ, zero, suc, _+_, _-_, _≤_, _<_}
 use native.Mathlib.Omega.{arith}
 use native.Mathlib.Nat.{le-refl}
 use mathlib.Core.List.{List, [], _∷_}
+use mathlib.Core.Bool.{Bool}
 use mathlib.Core.Path.{_≡_, refl, ap, sym, _∙_}
 use lib.Dec.{lit<}
 use lib.ListN.{length, take, drop, length-drop}
 use lib.Seq.{take-all}
 use Rattle.rom.specs.Refusal.{firstMet, Numbered}
 use Rattle.rom.proofs.First.{exact, numbered-append, both-accepted}
+use Rattle.rom.proofs.Fewer.{Fewer, end, fewer, fewer-append}
 use Rattle.block.specs.declared.Block.{Block}
-use Rattle.format.specs.Block.{sizeOf, causes, refusalOf}
+use Rattle.format.specs.Block.{sizeOf, causes, refusalOf, laterVersion}
 use Rattle.block.specs.Answer.{blockOf, numberOf, sizeIn}
 use Rattle.format.proofs.Exact.{causes-numbered}
+use Rattle.format.proofs.Levels.{causes-later}
 use Rattle.block.proofs.Seen.{Seen, seen, seen-number, seen-size, fits}
 use Rattle.leaf.specs.Leaf.{cut, blockCauses, clashCause, modeCause, wholeCauses, leafCauses}
 use Rattle.leaf.specs.Claims.{ExactLeaf}
@@ -48,34 +51,45 @@ part-ends s at n h k = rw rest-part (omega (arith, length-drop n s))
 
 -- ## Causes
 
-pub blocks-numbered : (row level : ℕ) (bs : List (List ℕ)) → Numbered (blockCauses row level bs)
+pub blocks-numbered : (first : Bool) (row level : ℕ) (bs : List (List ℕ)) → Numbered (blockCauses first row level bs)
 unfolding blockCauses
-blocks-numbered row level [] = tt
-blocks-numbered row level (s ∷ bs) =
-    numbered-append (causes row level s) (blockCauses row level bs) (causes-numbered row level s) (blocks-numbered row level bs)
+blocks-numbered first row level [] = tt
+blocks-numbered first row level (s ∷ bs) =
+    numbered-append (causes first row level s) (blockCauses first row level bs) (causes-numbered first row level s)
+    (blocks-numbered first row level bs)
 
-pub leaf-numbered : (row level : ℕ) (bs : List (List ℕ)) → Numbered (leafCauses row level bs)
+pub leaf-numbered : (first : Bool) (row level : ℕ) (bs : List (List ℕ)) → Numbered (leafCauses first row level bs)
 unfolding leafCauses wholeCauses clashCause modeCause
-leaf-numbered row level bs = numbered-append (blockCauses row level bs) _ (blocks-numbered row level bs) (lit< tt, (lit< tt, tt))
+leaf-numbered first row level bs = numbered-append (blockCauses first row level bs) _ (blocks-numbered first row level bs)
+    (lit< tt, (lit< tt, tt))
 
 pub exact-leaf : ExactLeaf
-exact-leaf row level bs = exact (leafCauses row level bs) (leaf-numbered row level bs) .0
+exact-leaf first row level bs = exact (leafCauses first row level bs) (leaf-numbered first row level bs) .0
+
+-- what is accepted in version 1 is accepted in versions 3 and 4
+blocks-later : (first : Bool) (row level : ℕ) (bs : List (List ℕ))
+    → Fewer (blockCauses first row level bs) (blockCauses laterVersion row level bs)
+unfolding blockCauses
+blocks-later first row level [] = end
+blocks-later first row level (s ∷ bs) = fewer-append (causes-later first row level s) (blocks-later first row level bs)
 
 -- an accepted leaf's blocks are accepted, and what is tested over them all is not met
-pub leaf-accepted : (row level : ℕ) (bs : List (List ℕ)) → firstMet (leafCauses row level bs) ≡ 0
-    → (firstMet (blockCauses row level bs) ≡ 0) × (firstMet (wholeCauses row level bs) ≡ 0)
+pub leaf-accepted : (first : Bool) (row level : ℕ) (bs : List (List ℕ)) → firstMet (leafCauses first row level bs) ≡ 0
+    → (firstMet (blockCauses first row level bs) ≡ 0) × (firstMet (wholeCauses row level bs) ≡ 0)
 unfolding leafCauses
-leaf-accepted row level bs = both-accepted (blockCauses row level bs) _ (blocks-numbered row level bs)
+leaf-accepted first row level bs = both-accepted (blockCauses first row level bs) _ (blocks-numbered first row level bs)
 
-pub accepted-blocks : (row level : ℕ) (bs : List (List ℕ)) → firstMet (leafCauses row level bs) ≡ 0
-    → firstMet (blockCauses row level bs) ≡ 0
-accepted-blocks row level bs e = leaf-accepted row level bs e .0
+pub accepted-blocks : (first : Bool) (row level : ℕ) (bs : List (List ℕ)) → firstMet (leafCauses first row level bs) ≡ 0
+    → firstMet (blockCauses laterVersion row level bs) ≡ 0
+accepted-blocks first row level bs e =
+    fewer (blocks-numbered first row level bs) (blocks-later first row level bs) (leaf-accepted first row level bs e .0)
 
 -- accepted blocks, one by one
-pub first-accepted : (row level : ℕ) (s : List ℕ) (bs : List (List ℕ)) → firstMet (blockCauses row level (s ∷ bs)) ≡ 0
-    → (refusalOf row level s ≡ 0) × (firstMet (blockCauses row level bs) ≡ 0)
+pub first-accepted : (row level : ℕ) (s : List ℕ) (bs : List (List ℕ)) → firstMet (blockCauses laterVersion row level (s ∷ bs)) ≡ 0
+    → (refusalOf row level s ≡ 0) × (firstMet (blockCauses laterVersion row level bs) ≡ 0)
 unfolding blockCauses refusalOf
-first-accepted row level s bs = both-accepted (causes row level s) (blockCauses row level bs) (causes-numbered row level s)
+first-accepted row level s bs =
+    both-accepted (causes laterVersion row level s) (blockCauses laterVersion row level bs) (causes-numbered laterVersion row level s)
 
 -- an accepted block lies in the rest, in the terms of the code: b is what it is found to be, n its number, z its size
 pub size-fits : (row level : ℕ) (s : List ℕ) {b : Block} {n z : ℕ} → b ≡ blockOf row level s → n ≡ numberOf b → n ≡ 0 → z ≡ sizeIn b
@@ -87,10 +101,11 @@ size-fits row level s {b} {n} {z} eb en e ez =
 
 -- ## A pass over accepted blocks: i are passed, and b is what the next is found to be
 
-module _ (row level count : ℕ) (rest : List ℕ) {i : ℕ} {b : Block} (e : firstMet (blockCauses row level (cut row (count - i) rest)) ≡ 0)
+module _ (row level count : ℕ) (rest : List ℕ) {i : ℕ} {b : Block}
+    (e : firstMet (blockCauses laterVersion row level (cut row (count - i) rest)) ≡ 0)
     (h : i < count) (eb : b ≡ blockOf row level rest) where
   next-accepted : (refusalOf row level rest ≡ 0)
-      × (firstMet (blockCauses row level (cut row (count - (i + 1)) (drop (sizeOf row rest) rest))) ≡ 0)
+      × (firstMet (blockCauses laterVersion row level (cut row (count - (i + 1)) (drop (sizeOf row rest) rest))) ≡ 0)
   next-accepted = first-accepted row level rest _ (rw cut-more at e)
 
   pub next-seen : Seen row level rest b
@@ -102,5 +117,5 @@ module _ (row level count : ℕ) (rest : List ℕ) {i : ℕ} {b : Block} (e : fi
   pub next-fits : {z : ℕ} → z ≡ sizeIn b → z ≤ length rest
   next-fits = size-fits row level rest eb refl next-fine
 
-  pub next-left : firstMet (blockCauses row level (cut row (count - (i + 1)) (drop (sizeOf row rest) rest))) ≡ 0
+  pub next-left : firstMet (blockCauses laterVersion row level (cut row (count - (i + 1)) (drop (sizeOf row rest) rest))) ≡ 0
   next-left = next-accepted .1

@@ -9,7 +9,7 @@ use mathlib.Core.Path.{_≡_, refl, ap, sym, _∙_}
 use lib.ListN.{length, drop, drop-of-length-le}
 use lib.Seq.{drop-drop, drop-cons}
 use Rattle.rom.specs.Refusal.{firstMet}
-use Rattle.format.specs.Block.{sizeOf}
+use Rattle.format.specs.Block.{sizeOf, laterVersion}
 use Rattle.leaf.specs.Leaf.{cut, blockCauses, Place, placed, placeByStepping, startByStepping, runningStart}
 use Rattle.leaf.specs.Claims.{PlacedByStepping, RunningStart}
 use Rattle.leaf.proofs.Cuts.{cut-more, first-accepted}
@@ -41,9 +41,9 @@ stands-more row first s k at rest e es eb =
 -- the same over accepted blocks, k of `count` being passed
 pub record Passing (row level first count : ℕ) (s : List ℕ) (k at : ℕ) (rest : List ℕ) : Type 0 where
   pub stands : Stands row first s k at rest
-  pub accepted : firstMet (blockCauses row level (cut row (count - k) rest)) ≡ 0
+  pub accepted : firstMet (blockCauses laterVersion row level (cut row (count - k) rest)) ≡ 0
 
-pub passing-first : {row level first count : ℕ} {s : List ℕ} → firstMet (blockCauses row level (cut row count s)) ≡ 0
+pub passing-first : {row level first count : ℕ} {s : List ℕ} → firstMet (blockCauses laterVersion row level (cut row count s)) ≡ 0
     → Passing row level first count s 0 first s
 passing-first {row} {first = first} {s = s} e = record { stands = stands-first row first s; accepted = rw sub-zero e }
 

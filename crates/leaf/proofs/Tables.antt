@@ -11,7 +11,7 @@ use lib.Seq.{drop-drop}
 use Rattle.rom.specs.Bytes.{pick, one}
 use Rattle.rom.specs.Refusal.{firstMet}
 use Rattle.block.specs.declared.Block.{Block}
-use Rattle.format.specs.Block.{sizeOf, isListed}
+use Rattle.format.specs.Block.{sizeOf, isListed, laterVersion}
 use Rattle.block.specs.Answer.{numberOf, listedIn}
 use Rattle.block.proofs.Seen.{Seen, seen-listed, fits}
 use Rattle.leaf.specs.Leaf.{cut, countOf, blockCauses, Place, placed, keep, table, tableOf}
@@ -118,7 +118,7 @@ lies-later row at n s h p l =
       within = omega (arith, l .within, length-drop n s);
     }
 
-pub every-lies : (row level count at : ℕ) (s : List ℕ) → firstMet (blockCauses row level (cut row count s)) ≡ 0
+pub every-lies : (row level count at : ℕ) (s : List ℕ) → firstMet (blockCauses laterVersion row level (cut row count s)) ≡ 0
     → Every (Lies row at s) (tableOf row level count at s)
 unfolding tableOf cut placed
 every-lies row level zero at s h = rw no-blocks tt

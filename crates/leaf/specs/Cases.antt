@@ -1,11 +1,13 @@
 -- Cases a to j of document 01, 'Blocks to prove', and others on its rules, over the definitions; power blocks (document 02, request
--- 3); and where blocks start (request 2).
+-- 3); blocks of version 1 (request 12); and where blocks start (request 2).
 use Prim.Native.Nat.{ℕ, suc, _-_}
 use mathlib.Core.List.{List, [], _∷_, _++_, map}
+use mathlib.Core.Bool.{Bool}
 use lib.Dec.{eqb}
 use lib.ListN.{take, drop, replicate}
 use Rattle.rom.specs.Geometry.{smallSize, withoutMagic, leavesEnd}
 use Rattle.rom.specs.Bytes.{pick, byteAt}
+use Rattle.format.specs.Block.{laterVersion}
 use Rattle.format.specs.Chips.{rowOf, row21140}
 use Rattle.leaf.specs.Leaf.{cut, startByStepping, runningStart, tableOf, kindAt, startAt}
 use Rattle.leaf.specs.Tally.{tallyOf}
@@ -38,13 +40,14 @@ firstBlockAt row = pick (eqb row row21140) 34 33
 unfoldable pub blocksOf : ℕ → List ℕ → List ℕ
 blocksOf row image = take (leavesEnd withoutMagic - firstBlockAt row) (drop (firstBlockAt row) image)
 
-unfoldable pub runLeaf : LeafCase → LeafCase
-runLeaf c =
+-- in version 1, if it is that
+unfoldable pub runIn : Bool → LeafCase → LeafCase
+runIn first c =
     let row = rowOf (c .chip) in
     let image = imageAround (c .leaf) in
     let count = byteAt image (firstBlockAt row - 1) in
     let blocks = blocksOf row image in
-    let tally = tallyOf row (c .level) (cut row count blocks) in
+    let tally = tallyOf first row (c .level) (cut row count blocks) in
     let table = pick (eqb (tally .number) 0) (tableOf row (c .level) count (firstBlockAt row) blocks) [] in
     record {
       chip = c .chip;
@@ -58,6 +61,9 @@ runLeaf c =
       kinds = map (kindAt row) table;
       starts = map startAt table;
     }
+
+abbrev pub runLeaf : LeafCase → LeafCase
+runLeaf c = runIn laterVersion c
 
 -- ## The cases
 
@@ -212,6 +218,31 @@ powerCases =
     -- not listed, where the blocks around it are
     ∷ powered 21143 7 leafBetween 2 0 0 1 (2 ∷ 4 ∷ []) (46 ∷ 33 ∷ [])
     ∷ accepted 21143 6 leafBetween 2 0 1 (2 ∷ 4 ∷ []) (46 ∷ 33 ∷ [])
+    ∷ []
+
+-- ## The first version
+
+-- a compact block with media code 0 and this one behind it
+abbrev leafBehind : List ℕ → List ℕ
+leafBehind block = 0x00 ∷ 0x08 ∷ 0x00 ∷ 0x02 ∷ 0x00 ∷ 0x00 ∷ 0x00 ∷ 0x00 ∷ block
+
+-- document 02, request 12
+unfoldable pub firstCases : List LeafCase
+firstCases =
+    -- compact and 21041 blocks are judged as ever
+    accepted 21140 7 (leafPorts 0x40 0x00) 2 0 0 (256 ∷ 256 ∷ []) (38 ∷ 34 ∷ [])
+    ∷ refused 21140 7 (leafPorts 0x40 0x40) 18
+    ∷ accepted 21041 7 (0x00 ∷ 0x08 ∷ 0x02 ∷ 0x41 ∷ dots 6 ++ 0x02 ∷ []) 2 0 0 (257 ∷ 257 ∷ []) (40 ∷ 33 ∷ [])
+    -- extended ones get 14 at every level: a type that the level knows, one that it does not, one that no level does, length 0
+    ∷ refused 21140 7 (leafBehind (0x85 ∷ 0x00 ∷ dots 4)) 14
+    ∷ refused 21140 0 (leafBehind (0x85 ∷ 0x00 ∷ dots 4)) 14
+    ∷ refused 21140 7 (leafBehind (0x81 ∷ 0x09 ∷ [])) 14
+    ∷ refused 21140 0 (leafBehind (0x80 ∷ [])) 14
+    -- after 13, and after what is refused of a block before
+    ∷ refused 21140 0 (leafBehind (0xD6 ∷ 0x09 ∷ dots 85)) 13
+    ∷ refused 21140 0 (0x00 ∷ 0x08 ∷ 0x00 ∷ 0x02 ∷ 0x02 ∷ 0x00 ∷ 0x00 ∷ 0x00 ∷ 0x81 ∷ 0x09 ∷ []) 16
+    -- the top bit opens no extended block on the 21041
+    ∷ refused 21041 7 (0x00 ∷ 0x08 ∷ 0x01 ∷ 0x80 ∷ []) 16
     ∷ []
 
 -- ## Where blocks start

@@ -2,15 +2,17 @@
 use Prim.Native.Nat.{ℕ, _+_, _<_}
 use mathlib.Core.Path.{_≡_}
 use mathlib.Core.List.{List, _++_, map}
+use mathlib.Core.Bool.{Bool}
 use lib.ListN.{drop, getD}
 use Rattle.rom.specs.Refusal.{firstMet, Exact}
-use Rattle.format.specs.Block.{isListed, isReset, isPower, isSkipped}
-use Rattle.leaf.specs.Cases.{runLeaf, paperCases, furtherCases, powerCases, runStepped, runKept, startsCases}
+use Rattle.format.specs.Block.{firstVersion, isListed, isReset, isPower, isSkipped}
+use Rattle.leaf.specs.Cases.{runIn, runLeaf, paperCases, furtherCases, powerCases, firstCases, runStepped, runKept, startsCases}
 use Rattle.leaf.specs.Leaf.{cut, countOf, leafCauses, Place, placed, placeByStepping, startByStepping, runningStart}
 
 -- a leaf's refusal is exact: other than 0, its cause is met and none before it is; 0, none is met
 abbrev pub ExactLeaf : Type 0
-ExactLeaf = (row level : ℕ) (bs : List (List ℕ)) → Exact (leafCauses row level bs) (firstMet (leafCauses row level bs))
+ExactLeaf = (first : Bool) (row level : ℕ) (bs : List (List ℕ))
+    → Exact (leafCauses first row level bs) (firstMet (leafCauses first row level bs))
 
 -- listed, resets, skipped and power, each counted by its own rule, add up to the block count at every level
 abbrev pub SortsAddUp : Type 0
@@ -34,6 +36,9 @@ LeavesWorked = map runLeaf (paperCases ++ furtherCases) ≡ paperCases ++ furthe
 
 abbrev pub PowersWorked : Type 0
 PowersWorked = map runLeaf powerCases ≡ powerCases
+
+abbrev pub FirstWorked : Type 0
+FirstWorked = map (runIn firstVersion) firstCases ≡ firstCases
 
 abbrev pub StartsWorked : Type 0
 StartsWorked = (map runStepped startsCases ≡ startsCases) × (map runKept startsCases ≡ startsCases)

@@ -1,5 +1,5 @@
--- The blocks of a leaf (document 01, 'Leaf and blocks', 'Levels and the table'; document 02, requests 2 and 3). Each is given as the
--- leaf's rest from its first byte on. No level changes where they are cut: the level only judges and lists.
+-- The blocks of a leaf (document 01, 'Leaf and blocks', 'Levels and the table'; document 02, requests 2, 3 and 12). Each is given as
+-- the leaf's rest from its first byte on. No level changes where they are cut: the level only judges and lists.
 use Prim.Native.Nat.{ℕ, zero, suc, _+_}
 use mathlib.Core.List.{List, [], _∷_, _++_, reverse}
 use mathlib.Core.Bool.{Bool, _||_, _&&_}
@@ -33,9 +33,10 @@ firstFrom p k (s ∷ bs) = pick (p s) k (firstFrom p (k + 1) bs)
 unfoldable pub clash : ℕ → ℕ → ℕ → Bool
 clash resets phys defaults = ltb 1 resets || ltb 0 resets && ltb 0 phys || ltb 1 defaults
 
-unfoldable pub blockCauses : ℕ → ℕ → List (List ℕ) → List Cause
-blockCauses row level [] = []
-blockCauses row level (s ∷ bs) = causes row level s ++ blockCauses row level bs
+-- `first` is whether the image is of version 1
+unfoldable pub blockCauses : Bool → ℕ → ℕ → List (List ℕ) → List Cause
+blockCauses first row level [] = []
+blockCauses first row level (s ∷ bs) = causes first row level s ++ blockCauses first row level bs
 
 -- among known blocks
 unfoldable pub clashCause : ℕ → ℕ → List (List ℕ) → Cause
@@ -48,8 +49,8 @@ modeCause row level bs = 31 ⇒ anyBelow (λ k. ltb 1 (countOf (setsMode row lev
 unfoldable pub wholeCauses : ℕ → ℕ → List (List ℕ) → List Cause
 wholeCauses row level bs = clashCause row level bs ∷ modeCause row level bs ∷ []
 
-unfoldable pub leafCauses : ℕ → ℕ → List (List ℕ) → List Cause
-leafCauses row level bs = blockCauses row level bs ++ wholeCauses row level bs
+unfoldable pub leafCauses : Bool → ℕ → ℕ → List (List ℕ) → List Cause
+leafCauses first row level bs = blockCauses first row level bs ++ wholeCauses row level bs
 
 -- ## The table
 

@@ -1,6 +1,7 @@
 -- What judging a leaf's blocks answers: how many there are of each sort, each counted by its own rule.
 use Prim.Native.Nat.{ℕ}
 use mathlib.Core.List.{List}
+use mathlib.Core.Bool.{Bool}
 use lib.Dec.{eqb}
 use Rattle.rom.specs.Bytes.{pick}
 use Rattle.rom.specs.Refusal.{firstMet}
@@ -24,6 +25,7 @@ counts row level bs = record {
   «default_number» = firstFrom (isDefault row level) 0 bs;
 }
 
-unfoldable pub tallyOf : ℕ → ℕ → List (List ℕ) → Tally
-tallyOf row level bs =
-    pick (eqb (firstMet (leafCauses row level bs)) 0) (counts row level bs) (noTally (firstMet (leafCauses row level bs)))
+-- `first` is whether the image is of version 1
+unfoldable pub tallyOf : Bool → ℕ → ℕ → List (List ℕ) → Tally
+tallyOf first row level bs =
+    pick (eqb (firstMet (leafCauses first row level bs)) 0) (counts row level bs) (noTally (firstMet (leafCauses first row level bs)))

@@ -1,4 +1,4 @@
-// The blocks of a leaf, judged one after another (document 01, 'Leaf and blocks'; document 02, request 3).
+// The blocks of a leaf, judged one after another (document 01, 'Leaf and blocks'; document 02, requests 3 and 12).
 use block::Block;
 use rom::refusal;
 ghost use mathlib.Core.Path.{_≡_};
@@ -118,8 +118,8 @@ fn counted(t: Tally, b: Block, number: u8) -> Tally
 }
 
 // The tally of a leaf's blocks, or the first refusal of one, or 18, or 31: a bit of the mode byte set in two power blocks.
-pub fn judge(blocks: &[u8], count: u8, row: usize, level: u8) -> Tally
-    ensures { λ r. ⌜ r ≡ tallyOf row level (cut row count (now (blocks .entry))) ⌝ }
+pub fn judge(blocks: &[u8], count: u8, row: usize, level: u8, first_version: bool) -> Tally
+    ensures { λ r. ⌜ r ≡ tallyOf «first_version» row level (cut row count (now (blocks .entry))) ⌝ }
 {
     let mut rest = blocks;
     let mut k = 0u8;
@@ -128,7 +128,7 @@ pub fn judge(blocks: &[u8], count: u8, row: usize, level: u8) -> Tally
     let mut modes = 0u8;
     let mut repeated = 0u8;
     while k < count {
-        let b = block::judge_block(rest, row, level);
+        let b = block::judge_in(rest, row, level, first_version);
         t = counted(t, b, k);
         if t.number != refusal::ACCEPTED {
             return t;

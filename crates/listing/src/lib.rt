@@ -18,16 +18,14 @@ ghost use Prim.Native.Nat.{_<_};
 
 // ## The header
 
-fn show_header(image: &[u8], answer: Answer) {
+fn show_header(image: &[u8], arguments: Arguments, answer: Answer) {
     let version = byte_at(image, rom::VERSION_AT) as u64;
     let controllers = byte_at(image, rom::CONTROLLER_COUNT_AT) as u64;
-    line::of(b"  format version   #", [version, 0, 0, 0]).print();
+    let line = line::of(b"  format version   #", [version, 0, 0, 0]);
+    report::edition_words(line, image, arguments.first_edition).print();
     line::of(b"  controllers      #", [controllers, 0, 0, 0]).print();
     report::address_words(Line::new().text(b"  station address  "), answer.address).print();
-    let line = line::of(
-        b"  connection type  @, ",
-        [answer.connection as u64, 0, 0, 0],
-    );
+    let line = words::connection_line(b"  connection type  ", answer.connection);
     words::show_connection(line, answer.connection);
 }
 
@@ -352,7 +350,7 @@ pub fn show(image: &[u8], arguments: Arguments, given: bool) -> bool {
         return false;
     }
     report::arguments_words(Line::new().text(b"ACCEPTED  "), arguments, given).print();
-    show_header(image, answer);
+    show_header(image, arguments, answer);
     show_counts(arguments, answer);
     show_magic(image, arguments.layout);
     show_table(image, arguments, answer, &offsets);

@@ -29,7 +29,7 @@ use Rattle.reader.proofs.Promised.{judge-numbered}
 use Rattle.sheet.specs.Lists.{over}
 use Rattle.sheet.specs.Layout.{idAt, chipAt, headLength}
 use Rattle.sheet.specs.Sheet.{bodyBytes, partsOf, contentOf, sheetOf}
-use Rattle.sheet.specs.Image.{leafStart, newest, imageFrom, leafEnd, upToLeavesEnd, isTidy}
+use Rattle.sheet.specs.Image.{leafStart, newestIn, imageFrom, leafEnd, upToLeavesEnd, isTidy}
 use Rattle.sheet.specs.Make.{sheetFor, makeCauses, makeNumber, makeLength, made, refusedMade, madeFor}
 use Rattle.sheet.specs.declared.Made.{Made}
 use Rattle.sheet.specs.declared.Form.{Form}
@@ -69,27 +69,30 @@ module _ (l : Layout) (from : ℕ) (image : List ℕ) {n : ℕ} (en : n ≡ byte
 -- ## The sheet of an image that is read, into a buffer with room
 
 module _ {l : Layout} {sheet image : List ℕ} {chip : ℕ} {r : Reading} (t : ContentFits l sheet image chip r) where
-  pub its-reading : Accepted image (newest l chip) r
-  its-reading = accepted-judged image (newest l chip) r (t .read) (t .accepted)
+  pub its-reading : Accepted image (newestIn l (t .edition) chip) r
+  its-reading = accepted-judged image (newestIn l (t .edition) chip) r (t .read) (t .accepted)
 
   all-room : idAt + length (frontBytes image
       ++ (fieldBytes l chip (r .answer) image
       ++ partsOf (entriesOf (r .row) (r .answer .blocks) (restFrom l image (r .start))))) ≤ length sheet
-  all-room = rw (read-content l chip its-reading) (t .room)
+  all-room = rw (read-content l (t .edition) chip its-reading) (t .room)
 
   pub head-room : (leafStart ≤ length image) × (headLength ≤ length sheet)
-  head-room = (enough l image (read-whole l chip its-reading), omega (arith, t .room, content-long l chip its-reading))
+  head-room = (
+    enough l image (read-whole l (t .edition) chip its-reading),
+    omega (arith, t .room, content-long l (t .edition) chip its-reading),
+  )
 
   front : length (frontBytes image) ≡ 25
   front = front-long image (head-room .0)
 
   field : length (fieldBytes l chip (r .answer) image) ≡ 7
-  field = field-long l image (read-whole l chip its-reading) chip (r .answer)
+  field = field-long l image (read-whole l (t .edition) chip its-reading) chip (r .answer)
 
   module _ {one : List ℕ} (e₁ : one ≡ put sheet idAt (frontBytes image)) where
     pub fields-room : (length image ≡ imageLength (l .size)) × (headLength ≤ length one)
     fields-room = (
-      read-whole l chip its-reading,
+      read-whole l (t .edition) chip its-reading,
       omega (
         arith,
         head-room .1,
@@ -102,8 +105,8 @@ module _ {l : Layout} {sheet image : List ℕ} {chip : ℕ} {r : Reading} (t : C
         pub parts-room : ((r .start ≤ length leaves) × AcceptedBlocks (r .row) (r .answer .blocks) (drop (r .start) leaves))
             × (headLength + length (partsOf (entriesOf (r .row) (r .answer .blocks) (drop (r .start) leaves))) ≤ length two)
         parts-room = (
-          read-blocks l chip its-reading leaves q,
-          rw (read-leaf l chip its-reading leaves q)
+          read-blocks l (t .edition) chip its-reading leaves q,
+          rw (read-leaf l (t .edition) chip its-reading leaves q)
               (third-room sheet idAt _ _ _ all-room e₁ (omega (arith, front)) e₂ (omega (arith, field))),
         )
 
@@ -112,8 +115,8 @@ module _ {l : Layout} {sheet image : List ℕ} {chip : ℕ} {r : Reading} (t : C
             → three ≡ put sheet idAt (contentOf (imageFrom l chip image))
         content-put e₃ =
             three-put sheet idAt _ _ _ all-room e₁ (omega (arith, front)) e₂ (omega (arith, field))
-            (rw (read-leaf l chip its-reading leaves q) at e₃)
-            ∙ ap (put sheet idAt) (read-content l chip its-reading)
+            (rw (read-leaf l (t .edition) chip its-reading leaves q) at e₃)
+            ∙ ap (put sheet idAt) (read-content l (t .edition) chip its-reading)
 
 -- ## The counts before it
 
@@ -144,8 +147,8 @@ part-put xs k at ys =
 
 module _ {form : Form} {l : Layout} {sheet image : List ℕ} {chip total : ℕ} {r : Reading} (t : Sheetable form l sheet image chip r total)
     (byte : r .answer .blocks < 256) where
-  reading : Accepted image (newest l chip) r
-  reading = accepted-judged image (newest l chip) r (t .read) (t .accepted)
+  reading : Accepted image (newestIn l (t .edition) chip) r
+  reading = accepted-judged image (newestIn l (t .edition) chip) r (t .read) (t .accepted)
 
   abbrev counts : List ℕ
   counts = countsOf form (length (imageFrom l chip image .entries)) (length (bodyBytes (imageFrom l chip image .entries)))
@@ -162,7 +165,8 @@ module _ {form : Form} {l : Layout} {sheet image : List ℕ} {chip total : ℕ} 
 
   same : countsOf form (statedAs form (r .answer .blocks)) (statedAs form total) ≡ counts
   same =
-      ap₂ (countsOf form) (stated-is form (r .answer .blocks) (byte-stated form (r .answer .blocks) byte) ∙ read-count l chip reading)
+      ap₂ (countsOf form) (stated-is form (r .answer .blocks) (byte-stated form (r .answer .blocks) byte)
+      ∙ read-count l (t .edition) chip reading)
       (stated-is form total (t .stated) ∙ t .bodies)
 
   module _ {one : List ℕ} (e₁ : one ≡ laid sheet 0 (countsOf form (statedAs form (r .answer .blocks)) (statedAs form total))) where
@@ -180,6 +184,7 @@ module _ {form : Form} {l : Layout} {sheet image : List ℕ} {chip total : ℕ} 
       content-room =
           let e = rest-part k one in
           record {
+            edition = t .edition;
             read = t .read;
             accepted = t .accepted;
             room = rw e (omega (arith, one-long, both-fit, counts-long, length-drop k one));
@@ -194,18 +199,19 @@ module _ {form : Form} {l : Layout} {sheet image : List ℕ} {chip total : ℕ} 
 
 -- ## The call
 
-pub refused-done : (form : Form) (l : Layout) (image : List ℕ) (chip : ℕ) (buffer : List ℕ) {n : ℕ} {m : Made} → m ≡ refusedMade n
+pub refused-done : (form : Form) (l : Layout) (edition : Bool) (image : List ℕ) (chip : ℕ) (buffer : List ℕ) {n : ℕ} {m : Made}
+    → m ≡ refusedMade n
     → (n ≡ 0 → ⊥)
-    → n ≡ makeNumber form l image chip (length buffer)
-    → (m ≡ madeFor form l image chip (length buffer)) × (buffer ≡ made form l image chip buffer)
+    → n ≡ makeNumber form l edition image chip (length buffer)
+    → (m ≡ madeFor form l edition image chip (length buffer)) × (buffer ≡ made form l edition image chip buffer)
 unfolding madeFor makeLength made
-refused-done form l image chip buffer em z en =
-    refused-leaves (makeNumber form l image chip (length buffer)) (sheetFor form l image chip) buffer em z en
+refused-done form l edition image chip buffer em z en =
+    refused-leaves (makeNumber form l edition image chip (length buffer)) (sheetFor form l image chip) buffer em z en
 
-pub make-other : (form : Form) (l : Layout) (image : List ℕ) (chip room : ℕ) → isBeyond form (l .size) ≡ true
-    → 1 ≡ makeNumber form l image chip room
+pub make-other : (form : Form) (l : Layout) (edition : Bool) (image : List ℕ) (chip room : ℕ) → isBeyond form (l .size) ≡ true
+    → 1 ≡ makeNumber form l edition image chip room
 unfolding makeNumber makeCauses
-make-other form l image chip room h = reached (stop h)
+make-other form l edition image chip room h = reached (stop h)
 
 -- a narrow sheet's total is a byte: its image is of the smaller size
 small-total : (form : Form) (l : Layout) (n : ℕ) → isBeyond form (l .size) ≡ false → n ≤ imageLength (l .size) → n ≤ largest form
@@ -213,41 +219,42 @@ unfolding isBeyond
 small-total Narrow l n h f = omega (arith, small-length (l .size) h)
 small-total Wide l n h f = let g = geometry l in omega arith
 
-module _ (form : Form) (l : Layout) (served : isBeyond form (l .size) ≡ false) (image : List ℕ) (chip : ℕ) (r : Reading)
-    (er : r ≡ judgedReading image (newest l chip)) where
-  number-read : r .answer .number ≡ firstMet (judgeCauses image (newest l chip))
+module _ (form : Form) (l : Layout) (edition : Bool) (served : isBeyond form (l .size) ≡ false) (image : List ℕ) (chip : ℕ) (r : Reading)
+    (er : r ≡ judgedReading image (newestIn l edition chip)) where
+  number-read : r .answer .number ≡ firstMet (judgeCauses image (newestIn l edition chip))
   unfolding judgedReading
-  number-read = reading-number (firstMet (judgeCauses image (newest l chip))) image (newest l chip) r er
+  number-read = reading-number (firstMet (judgeCauses image (newestIn l edition chip))) image (newestIn l edition chip) r er
 
-  pub make-refused : (room : ℕ) → (r .answer .number ≡ 0 → ⊥) → r .answer .number ≡ makeNumber form l image chip room
+  pub make-refused : (room : ℕ) → (r .answer .number ≡ 0 → ⊥) → r .answer .number ≡ makeNumber form l edition image chip room
   unfolding makeNumber makeCauses
-  make-refused room z = reached (skip served (among (judgeCauses image (newest l chip)) _ z (sym number-read)))
+  make-refused room z = reached (skip served (among (judgeCauses image (newestIn l edition chip)) _ z (sym number-read)))
 
   module _ (z : r .answer .number ≡ 0) where
-    pub is-read : Accepted image (newest l chip) r
-    is-read = accepted-judged image (newest l chip) r er z
+    pub is-read : Accepted image (newestIn l edition chip) r
+    is-read = accepted-judged image (newestIn l edition chip) r er z
 
-    past-reading : (room : ℕ) → makeNumber form l image chip room
+    past-reading : (room : ℕ) → makeNumber form l edition image chip room
         ≡ firstMet ((27 ⇒ not (isTidy l chip image)) ∷ (12 ⇒ ltb room (length (sheetFor form l image chip))) ∷ [])
     unfolding makeNumber makeCauses firstMet
     past-reading room =
         pick-false (isBeyond form (l .size)) _ _ served
-        ∙ after-accepted (judgeCauses image (newest l chip)) _ (judge-numbered image (newest l chip)) (sym number-read ∙ z)
+        ∙ after-accepted (judgeCauses image (newestIn l edition chip)) _ (judge-numbered image (newestIn l edition chip)) (sym number-read
+        ∙ z)
 
     module _ (leaves : List ℕ) (q : leaves ≡ restFrom l image 0) (m : Measured)
         (em : m ≡ measuredOf (r .row) (r .start) (r .answer .blocks) (drop (r .start) leaves)) where
       measured : m ≡ measuredOf (r .row) (r .start) (r .answer .blocks) (restFrom l image (r .start))
-      measured = rw (read-leaf l chip is-read leaves q) at em
+      measured = rw (read-leaf l edition chip is-read leaves q) at em
 
       pub end-fits : m .end ≤ length leaves → m .end ≤ imageLength (l .size)
-      end-fits h = let g = geometry l in omega (arith, leaves-long l chip is-read leaves q)
+      end-fits h = let g = geometry l in omega (arith, leaves-long l edition chip is-read leaves q)
 
       bodies-are : m .bodies ≡ length (bodyBytes (imageFrom l chip image .entries))
       unfolding measuredOf
-      bodies-are = rw (measured, read-entries l chip is-read)
+      bodies-are = rw (measured, read-entries l edition chip is-read)
 
       end-is : m .end ≡ leafEnd l chip image
-      unfolding leafEnd measuredOf acceptedReading acceptedAnswer newest
+      unfolding leafEnd measuredOf acceptedReading acceptedAnswer newestIn
       end-is =
           rw measured
           (stepping-sizes (r .row) (r .start) (r .answer .blocks) (restFrom l image (r .start)) ∙ rw (is-read .known))
@@ -257,21 +264,21 @@ module _ (form : Form) (l : Layout) (served : isBeyond form (l .size) ≡ false)
       tidy-is = rw end-is
 
       module _ (room : ℕ) {t : Bool} (et : t ≡ isTidyFrom l (m .end) image) where
-        pub make-untidy : t ≡ false → 27 ≡ makeNumber form l image chip room
+        pub make-untidy : t ≡ false → 27 ≡ makeNumber form l edition image chip room
         make-untidy e = reached (stop (ap not (sym (et ∙ tidy-is) ∙ e))) ∙ sym (past-reading room)
 
         module _ (neat : t ≡ true) {k : ℕ} (ek : k ≡ shift form) where
           long : k + headLength + 3 * r .answer .blocks + m .bodies ≡ length (sheetFor form l image chip)
           long =
-              ap₂ (λ (j n : ℕ). j + headLength + 3 * r .answer .blocks + n) ek bodies-are ∙ sym (read-long l chip is-read form)
+              ap₂ (λ (j n : ℕ). j + headLength + 3 * r .answer .blocks + n) ek bodies-are ∙ sym (read-long l edition chip is-read form)
 
-          pub make-short : room < k + headLength + 3 * r .answer .blocks + m .bodies → 12 ≡ makeNumber form l image chip room
+          pub make-short : room < k + headLength + 3 * r .answer .blocks + m .bodies → 12 ≡ makeNumber form l edition image chip room
           make-short h =
               reached (skip (ap not (sym (et ∙ tidy-is) ∙ neat)) (stop (lt-ltb room (length (sheetFor form l image chip)) (rw long at h))))
               ∙ sym (past-reading room)
 
           module _ (h : k + headLength + 3 * r .answer .blocks + m .bodies ≤ room) where
-            make-accepted : 0 ≡ makeNumber form l image chip room
+            make-accepted : 0 ≡ makeNumber form l edition image chip room
             make-accepted =
                 reached (skip (ap not (sym (et ∙ tidy-is) ∙ neat)) (skip
                 (le-ltb room (length (sheetFor form l image chip)) (rw long at h)) end))
@@ -280,6 +287,7 @@ module _ (form : Form) (l : Layout) (served : isBeyond form (l .size) ≡ false)
             pub make-room : (buffer : List ℕ) → length buffer ≡ room → m .end ≤ length leaves → m .bodies ≤ m .end
                 → Sheetable form l buffer image chip r (m .bodies)
             make-room buffer eb f g = record {
+              edition = edition;
               read = er;
               accepted = z;
               bodies = bodies-are;
@@ -289,9 +297,9 @@ module _ (form : Form) (l : Layout) (served : isBeyond form (l .size) ≡ false)
 
             pub make-done : (buffer : List ℕ) → length buffer ≡ room → {last : List ℕ} → last ≡ put buffer 0 (sheetFor form l image chip)
                 → (_≡_ {A = Made} (record { number = 0; length = k + headLength + 3 * r .answer .blocks + m .bodies })
-                (madeFor form l image chip room)) × (last ≡ made form l image chip buffer)
+                (madeFor form l edition image chip room)) × (last ≡ made form l edition image chip buffer)
             unfolding madeFor makeLength made put over pick
             make-done buffer eb el =
-                let f : makeNumber form l image chip room ≡ 0 = sym make-accepted in
-                let g : makeNumber form l image chip (length buffer) ≡ 0 = ap (makeNumber form l image chip) eb ∙ f in
+                let f : makeNumber form l edition image chip room ≡ 0 = sym make-accepted in
+                let g : makeNumber form l edition image chip (length buffer) ≡ 0 = ap (makeNumber form l edition image chip) eb ∙ f in
                 (rw (f, long), el ∙ rw (g, zero-add))

@@ -4,6 +4,7 @@ use native.Mathlib.Omega.{arith}
 use native.Mathlib.Nat.{sub-zero}
 use mathlib.Core.Path.{_≡_, refl, sym, ap, ap₂, _∙_}
 use mathlib.Core.List.{List, [], _∷_, _++_, append-assoc}
+use mathlib.Core.Bool.{Bool}
 use lib.ListN.{length, take, drop, length-append, length-drop}
 use lib.Seq.{length-take-le, take-suc, drop-cons, getD-drop}
 use Rattle.rom.specs.declared.Layout.{Layout}
@@ -23,7 +24,7 @@ use Rattle.sheet.specs.Record.{Entry}
 use Rattle.sheet.specs.declared.Form.{Form}
 use Rattle.sheet.specs.Form.{shift, countsOf}
 use Rattle.sheet.specs.Sheet.{headOf, bodyBytes, partsOf, contentOf, sheetOf}
-use Rattle.sheet.specs.Image.{leafStart, newest, imageFrom}
+use Rattle.sheet.specs.Image.{leafStart, newestIn, imageFrom}
 use Rattle.sheet.specs.Make.{sheetFor}
 use Rattle.sheet.proofs.Blocks.{entries-length}
 use Rattle.sheet.proofs.Sheets.{kind-length, size-length, counts-length}
@@ -165,30 +166,30 @@ parts-long es = simp length-append (omega (arith, kind-length es, size-length es
 
 -- ## The sheet of an image that is read
 
-module _ (l : Layout) (chip : ℕ) {image : List ℕ} {r : Reading} (c : Accepted image (newest l chip) r) where
+module _ (l : Layout) (edition : Bool) (chip : ℕ) {image : List ℕ} {r : Reading} (c : Accepted image (newestIn l edition chip) r) where
   pub read-whole : length image ≡ imageLength (l .size)
-  unfolding newest
-  read-whole = whole-image image (newest l chip) (c .header)
+  unfolding newestIn
+  read-whole = whole-image image (newestIn l edition chip) (c .header)
 
   -- the leaf's blocks, in the image up to where leaves end
   module _ (leaves : List ℕ) (q : leaves ≡ restFrom l image 0) where
     pub read-leaf : drop (r .start) leaves ≡ restFrom l image (r .start)
-    unfolding restFrom newest
+    unfolding restFrom newestIn
     read-leaf =
         let e : leavesEnd l - 0 ≡ r .start + (leavesEnd l - r .start) = omega (arith, reading-start c) in
         ap (drop (r .start)) (q ∙ ap (λ (n : ℕ). take n image) e) ∙ drop-take (r .start) (leavesEnd l - r .start) image
 
     pub leaves-long : length leaves ≡ leavesEnd l
-    unfolding restFrom newest
+    unfolding restFrom newestIn
     leaves-long =
         ap length q ∙ ap (λ (n : ℕ). length (take n image)) (sub-zero (leavesEnd l)) ∙ length-take-le (leavesEnd l) image (reading-end c)
 
     pub read-blocks : (r .start ≤ length leaves) × AcceptedBlocks (r .row) (r .answer .blocks) (drop (r .start) leaves)
-    unfolding newest
+    unfolding newestIn
     read-blocks = (omega (arith, leaves-long, reading-start c), rw read-leaf (reading-blocks c))
 
   pub read-entries : entriesOf (r .row) (r .answer .blocks) (restFrom l image (r .start)) ≡ imageFrom l chip image .entries
-  unfolding entriesOf imageFrom acceptedReading acceptedAnswer newest
+  unfolding entriesOf imageFrom acceptedReading acceptedAnswer newestIn
   read-entries = rw (c .known)
 
   pub read-count : r .answer .blocks ≡ length (imageFrom l chip image .entries)
@@ -202,10 +203,10 @@ module _ (l : Layout) (chip : ℕ) {image : List ℕ} {r : Reading} (c : Accepte
       ∙ ap (λ (es : List Entry). headOf (imageFrom l chip image) ++ partsOf es) read-entries
     where
       connection : r .answer .connection ≡ imageFrom l chip image .connection
-      connection = unfold imageFrom acceptedReading acceptedAnswer newest in rw (c .known)
+      connection = unfold imageFrom acceptedReading acceptedAnswer newestIn in rw (c .known)
 
       control : r .answer .control ≡ imageFrom l chip image .control
-      control = unfold imageFrom acceptedReading acceptedAnswer newest in rw (c .known)
+      control = unfold imageFrom acceptedReading acceptedAnswer newestIn in rw (c .known)
 
   pub content-long : 2 + length (contentOf (imageFrom l chip image))
       ≡ headLength + 3 * r .answer .blocks + length (bodyBytes (imageFrom l chip image .entries))

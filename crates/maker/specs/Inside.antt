@@ -12,6 +12,7 @@ use Rattle.rom.specs.Store.{wordBytes}
 use Rattle.rom.specs.Refusal.{firstMet}
 use Rattle.format.specs.Chips.{newestLevel}
 use Rattle.header.specs.Image.{controllerCount, leafAt}
+use Rattle.format.specs.Block.{laterVersion}
 use Rattle.leaf.specs.Leaf.{cut, blockCauses, startByStepping}
 use Rattle.reader.specs.declared.Answer.{Answer}
 use Rattle.reader.specs.declared.Reading.{Reading}
@@ -21,7 +22,7 @@ use Rattle.sheet.specs.declared.Form.{Form}
 use Rattle.sheet.specs.Form.{largest}
 use Rattle.sheet.specs.Layout.{idAt}
 use Rattle.sheet.specs.Sheet.{bodyBytes, contentOf}
-use Rattle.sheet.specs.Image.{leafStart, entryFrom, upToLeavesEnd, newest, imageFrom}
+use Rattle.sheet.specs.Image.{leafStart, entryFrom, upToLeavesEnd, newestIn, imageFrom}
 use Rattle.sheet.specs.Make.{sheetFor}
 use Rattle.maker.specs.declared.parts.Measured.{Measured}
 
@@ -29,7 +30,7 @@ use Rattle.maker.specs.declared.parts.Measured.{Measured}
 
 -- so many blocks at the front of a leaf's rest, accepted at the newest level
 abbrev pub AcceptedBlocks : ℕ → ℕ → List ℕ → Type 0
-AcceptedBlocks row count s = firstMet (blockCauses row newestLevel (cut row count s)) ≡ 0
+AcceptedBlocks row count s = firstMet (blockCauses laterVersion row newestLevel (cut row count s)) ≡ 0
 
 -- what they mean
 unfoldable pub entriesOf : ℕ → ℕ → List ℕ → List Entry
@@ -56,15 +57,18 @@ unfoldable pub fieldBytes : Layout → ℕ → Answer → List ℕ → List ℕ
 fieldBytes l chip answer image =
     wordBytes chip ++ (wordBytes (answer .connection) ++ ((answer .control ∷ []) ++ take 2 (drop (leavesEnd l) image)))
 
--- an image that is read, and room for all that follows the counts of its sheet
+-- an image that is read in an edition, and room for all that follows the counts of its sheet
 pub record ContentFits (l : Layout) (shifted image : List ℕ) (chip : ℕ) (reading : Reading) : Type 0 where
-  pub read : reading ≡ judgedReading image (newest l chip)
+  pub edition : Bool
+  pub read : reading ≡ judgedReading image (newestIn l edition chip)
   pub accepted : reading .answer .number ≡ 0
   pub room : idAt + length (contentOf (imageFrom l chip image)) ≤ length shifted
 
--- an image that is read, the total of its body bytes, which the form can state, and a buffer that has room for its sheet
+-- an image that is read in an edition, the total of its body bytes, which the form can state, and a buffer that has room for its
+-- sheet
 pub record Sheetable (form : Form) (l : Layout) (sheet image : List ℕ) (chip : ℕ) (reading : Reading) (total : ℕ) : Type 0 where
-  pub read : reading ≡ judgedReading image (newest l chip)
+  pub edition : Bool
+  pub read : reading ≡ judgedReading image (newestIn l edition chip)
   pub accepted : reading .answer .number ≡ 0
   pub bodies : total ≡ length (bodyBytes (imageFrom l chip image .entries))
   pub stated : total ≤ largest form

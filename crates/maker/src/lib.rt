@@ -107,11 +107,18 @@ fn put_sheet(
     put_content(&mut sheet[start..], image, chip, layout, reading);
 }
 
-// The sheet of a tidy image for a chip, for the newest level and controller 0. A refusal leaves the buffer as it was, and
-// so stay its bytes past the sheet.
-pub fn make(image: &[u8], chip: u16, form: Form, layout: Layout, buffer: &mut [u8]) -> Made
-    ensures { λ r. ⌜ r ≡ madeFor form layout (now (image .entry)) chip (length (now (buffer .entry))) ⌝ }
-    ensures { λ r. ⌜ now (buffer .exit) ≡ made form layout (now (image .entry)) chip (now (buffer .entry)) ⌝ }
+// The sheet of a tidy image for a chip, for the newest level and controller 0, read in the edition. A refusal leaves the buffer as
+// it was, and so stay its bytes past the sheet.
+pub fn make(
+    image: &[u8],
+    chip: u16,
+    form: Form,
+    layout: Layout,
+    first_edition: bool,
+    buffer: &mut [u8],
+) -> Made
+    ensures { λ r. ⌜ r ≡ madeFor form layout «first_edition» (now (image .entry)) chip (length (now (buffer .entry))) ⌝ }
+    ensures { λ r. ⌜ now (buffer .exit) ≡ made form layout «first_edition» (now (image .entry)) chip (now (buffer .entry)) ⌝ }
 {
     let beyond = forms::is_beyond(form, layout.size);
     if beyond {
@@ -124,6 +131,7 @@ pub fn make(image: &[u8], chip: u16, form: Form, layout: Layout, buffer: &mut [u
             controller: 0,
             level: block::NEWEST_LEVEL,
             layout,
+            first_edition,
         },
     );
     let answer = reading.answer;

@@ -10,3 +10,5 @@ pub mod RemovedNumbers
 pub mod Counting
 pub mod Standing
 pub mod Repeated
+pub mod Editions
+pub mod Taken

@@ -101,11 +101,12 @@ unfolding anyBelow
 any-down p q zero h e = refl
 any-down p q (suc n) h e = or-mono (p n) (anyBelow p n) (q n) (anyBelow q n) (h n) (any-down p q n h) e
 
-pub blocks-down : (row older newest : ℕ) → older ≤ newest → (bs : List (List ℕ))
-    → Fewer (blockCauses row newest bs) (blockCauses row older bs)
+pub blocks-down : (first : Bool) (row older newest : ℕ) → older ≤ newest → (bs : List (List ℕ))
+    → Fewer (blockCauses first row newest bs) (blockCauses first row older bs)
 unfolding blockCauses
-blocks-down row older newest h [] = end
-blocks-down row older newest h (s ∷ bs) = fewer-append (causes-down row older newest s h) (blocks-down row older newest h bs)
+blocks-down first row older newest h [] = end
+blocks-down first row older newest h (s ∷ bs) =
+    fewer-append (causes-down first row older newest s h) (blocks-down first row older newest h bs)
 
 -- what is tested over all blocks, at an older level
 module _ (row older newest : ℕ) (bs : List (List ℕ)) (h : older ≤ newest) where
@@ -125,7 +126,7 @@ module _ (row older newest : ℕ) (bs : List (List ℕ)) (h : older ≤ newest) 
 
 pub older-accepts : OlderAccepts
 unfolding leafCauses wholeCauses
-older-accepts row older newest bs h =
-    fewer (leaf-numbered row newest bs)
-    (fewer-append (blocks-down row older newest h bs)
+older-accepts first row older newest bs h =
+    fewer (leaf-numbered first row newest bs)
+    (fewer-append (blocks-down first row older newest h bs)
     (and (clash-vanishes row older newest bs h) (and (mode-vanishes row older newest bs h) end)))

@@ -15,8 +15,8 @@ use Rattle.rom.proofs.Fewer.{Fewer, end, and, fewer, fewer-append}
 use Rattle.format.specs.Chips.{newestLevel}
 use Rattle.format.specs.Block.{isKnown, isListed}
 use Rattle.header.specs.declared.Arguments.{Arguments}
-use Rattle.header.specs.Image.{restFrom, imageCauses, argumentCauses, leafHeaderCauses}
-use Rattle.header.specs.Header.{rowFor, leafFor, startFor, countFor, headerCauses, atLevel}
+use Rattle.header.specs.Image.{isFirstVersion, restFrom, imageCauses, argumentCauses, leafHeaderCauses}
+use Rattle.header.specs.Header.{rowFor, editionFor, leafFor, startFor, countFor, headerCauses, atLevel}
 use Rattle.header.proofs.Headers.{header-numbered}
 use Rattle.leaf.specs.Leaf.{Place, keep, countOf, tableOf, kindAt, startAt}
 use Rattle.leaf.proofs.Tables.{listed-length}
@@ -44,8 +44,8 @@ header-down image a older newest h =
     fewer-append (same (imageCauses (a .layout) image))
     (fewer-append
     (and (λ e. e)
-    (and (λ e. e) (and (λ e. le-ltb newestLevel older (omega (arith, ltb-false newestLevel newest e))) (and (λ e. e) end))))
-    (same (leafHeaderCauses (a .layout) image (rowFor a) (leafFor image a))))
+    (and (λ e. e) (and (λ e. e) (and (λ e. le-ltb newestLevel older (omega (arith, ltb-false newestLevel newest e))) (and (λ e. e) end)))))
+    (same (leafHeaderCauses (a .layout) image (editionFor image a) (rowFor a) (leafFor image a))))
 
 -- an accepted reading has an accepted header and an accepted leaf
 pub parts : (image : List ℕ) (a : Arguments) → firstMet (judgeCauses image a) ≡ 0
@@ -60,7 +60,7 @@ judge-down image a older newest h e =
     let b = parts image (atLevel a newest) e in
     let header = fewer (header-numbered image (atLevel a newest)) (header-down image a older newest h) (b .0) in
     after-accepted (headerCauses image (atLevel a older)) _ (header-numbered image (atLevel a older)) header
-    ∙ older-accepts (rowFor a) older newest (blocksFor image a) h (b .1)
+    ∙ older-accepts (isFirstVersion image) (rowFor a) older newest (blocksFor image a) h (b .1)
 
 -- ## What an accepted reading answers and writes
 
@@ -141,7 +141,7 @@ module _ (image : List ℕ) (a : Arguments) (older : ℕ) (h : older < newestLev
   unfolding acceptedAnswer leafCausesFor
   default-number =
       older-default (rowFor a) older newestLevel (blocksFor image a) down
-      (accepted-defaults (rowFor a) newestLevel (blocksFor image a) (parts image new e .1))
+      (accepted-defaults (isFirstVersion image) (rowFor a) newestLevel (blocksFor image a) (parts image new e .1))
       ∙ default-kept (rowFor a) older newestLevel (blocksFor image a)
 
   filtered : map (asEntry (rowFor a)) (tableFor image old) ≡ those (kept older) (map (asEntry (rowFor a)) (tableFor image new))

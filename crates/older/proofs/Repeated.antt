@@ -15,7 +15,7 @@ use Rattle.rom.proofs.Fewer.{fewer}
 use Rattle.format.specs.Chips.{newestLevel}
 use Rattle.format.specs.Block.{kindOf, factsOf, isPower, setsMode, causes}
 use Rattle.header.specs.declared.Arguments.{Arguments}
-use Rattle.header.specs.Image.{magicCauses, imageCauses, argumentCauses, leafHeaderCauses}
+use Rattle.header.specs.Image.{isFirstVersion, magicCauses, imageCauses, argumentCauses, leafHeaderCauses}
 use Rattle.header.specs.Header.{rowFor, headerCauses, atLevel}
 use Rattle.header.proofs.Headers.{header-numbered}
 use Rattle.leaf.specs.Leaf.{countOf, blockCauses, clashCause, modeCause, wholeCauses, leafCauses}
@@ -67,10 +67,11 @@ header-without : (image : List ℕ) (a : Arguments) → T (without 31 (headerCau
 unfolding headerCauses imageCauses magicCauses argumentCauses leafHeaderCauses
 header-without image a = tt
 
-blocks-without : (row level : ℕ) (bs : List (List ℕ)) → T (without 31 (blockCauses row level bs))
+blocks-without : (first : Bool) (row level : ℕ) (bs : List (List ℕ)) → T (without 31 (blockCauses first row level bs))
 unfolding blockCauses causes
-blocks-without row level [] = tt
-blocks-without row level (s ∷ bs) = without-append 31 (causes row level s) (blockCauses row level bs) tt (blocks-without row level bs)
+blocks-without first row level [] = tt
+blocks-without first row level (s ∷ bs) =
+    without-append 31 (causes first row level s) (blockCauses first row level bs) tt (blocks-without first row level bs)
 
 -- ## Below the newest level
 
@@ -102,6 +103,9 @@ module _ (image : List ℕ) (a : Arguments) (older : ℕ) (h : older < newestLev
   abbrev bs : List (List ℕ)
   bs = blocksFor image a
 
+  abbrev first : Bool
+  first = isFirstVersion image
+
   down : older ≤ newestLevel
   down = omega arith
 
@@ -109,18 +113,19 @@ module _ (image : List ℕ) (a : Arguments) (older : ℕ) (h : older < newestLev
   unfolding judgeCauses
   header-fine = not-met 31 _ _ (λ z. omega arith) (header-without image (atLevel a newestLevel)) e
 
-  leaf-31 : firstMet (leafCauses (rowFor a) newestLevel bs) ≡ 31
+  leaf-31 : firstMet (leafCauses first (rowFor a) newestLevel bs) ≡ 31
   unfolding judgeCauses leafCausesFor
   leaf-31 = sym (after-accepted _ _ (header-numbered image (atLevel a newestLevel)) header-fine) ∙ e
 
-  blocks-fine : firstMet (blockCauses (rowFor a) newestLevel bs) ≡ 0
+  blocks-fine : firstMet (blockCauses first (rowFor a) newestLevel bs) ≡ 0
   unfolding leafCauses
-  blocks-fine = not-met 31 _ _ (λ z. omega arith) (blocks-without (rowFor a) newestLevel bs) leaf-31
+  blocks-fine = not-met 31 _ _ (λ z. omega arith) (blocks-without first (rowFor a) newestLevel bs) leaf-31
 
   no-clash : clashCause (rowFor a) newestLevel bs .met ≡ false
   unfolding leafCauses wholeCauses clashCause firstMet pick
   no-clash = go (clashCause (rowFor a) newestLevel bs .met) refl
-      (sym (after-accepted (blockCauses (rowFor a) newestLevel bs) _ (blocks-numbered (rowFor a) newestLevel bs) blocks-fine) ∙ leaf-31)
+      (sym (after-accepted (blockCauses first (rowFor a) newestLevel bs) _ (blocks-numbered first (rowFor a) newestLevel bs) blocks-fine)
+      ∙ leaf-31)
     where
       go : (t : Bool) → clashCause (rowFor a) newestLevel bs .met ≡ t
           → pick t 18 (pick (modeCause (rowFor a) newestLevel bs .met) (modeCause (rowFor a) newestLevel bs .number) 0) ≡ 31
@@ -135,10 +140,12 @@ module _ (image : List ℕ) (a : Arguments) (older : ℕ) (h : older < newestLev
   accepted-below : firstMet (judgeCauses image (atLevel a older)) ≡ 0
   unfolding judgeCauses leafCausesFor leafCauses
   accepted-below =
-      after-accepted (headerCauses image (atLevel a older)) (leafCauses (rowFor a) older bs) (header-numbered image (atLevel a older))
+      after-accepted (headerCauses image (atLevel a older)) (leafCauses first (rowFor a) older bs)
+      (header-numbered image (atLevel a older))
       (fewer (header-numbered image (atLevel a newestLevel)) (header-down image a older newestLevel down) header-fine)
-      ∙ after-accepted (blockCauses (rowFor a) older bs) (wholeCauses (rowFor a) older bs) (blocks-numbered (rowFor a) older bs)
-      (fewer (blocks-numbered (rowFor a) newestLevel bs) (blocks-down (rowFor a) older newestLevel down bs) blocks-fine)
+      ∙ after-accepted (blockCauses first (rowFor a) older bs) (wholeCauses (rowFor a) older bs)
+      (blocks-numbered first (rowFor a) older bs)
+      (fewer (blocks-numbered first (rowFor a) newestLevel bs) (blocks-down first (rowFor a) older newestLevel down bs) blocks-fine)
       ∙ whole-below
 
   answered : judgeAnswer image (atLevel a older) ≡ acceptedAnswer image (atLevel a older)

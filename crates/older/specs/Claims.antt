@@ -1,21 +1,23 @@
 -- What is claimed of readings and walks. DEMAND 3 is one statement, `OlderReader`.
 use Prim.Native.Nat.{ℕ, _+_, _≤_, _<_}
 use mathlib.Core.Path.{_≡_}
-use mathlib.Core.List.{List, [], _∷_, map, reverse}
+use mathlib.Core.List.{List, [], _∷_, _++_, map, reverse}
 use mathlib.Core.Bool.{Bool, true, false, _&&_, not}
 use mathlib.Core.Logic.{_⊎_}
 use lib.Dec.{eqb, ltb}
 use lib.ListN.{length, getD}
-use Rattle.rom.specs.Geometry.{none}
-use Rattle.rom.specs.Bytes.{pick, one, isIn, Bytes}
+use Rattle.rom.specs.Geometry.{none, wrongLength, versionAt}
+use Rattle.rom.specs.Bytes.{pick, one, byteAt, wordAt, isIn, Bytes}
 use Rattle.rom.specs.Refusal.{firstMet}
-use Rattle.format.specs.Chips.{newestLevel}
+use Rattle.format.specs.Chips.{newestLevel, firstEdition, laterEdition, firstCodes, laterCodes, takenAs}
 use Rattle.format.specs.Block.{kindOf, isKnown, isListed, isReset, isPower, isSkipped, isDefault}
 use Rattle.header.specs.declared.Arguments.{Arguments}
-use Rattle.header.specs.Header.{rowFor, startFor, atLevel}
+use Rattle.header.specs.Image.{isFirstVersion}
+use Rattle.header.specs.Header.{rowFor, leafFor, startFor, atLevel, inEdition}
 use Rattle.leaf.specs.Leaf.{Place, placed, keep, table, countOf, firstFrom, leafCauses}
 use Rattle.reader.specs.declared.Answer.{Answer}
-use Rattle.reader.specs.Reading.{blocksFor, tableFor, judgeCauses, acceptedAnswer, judgeAnswer}
+use Rattle.reader.specs.Reading.{blocksFor, tableFor, judgeCauses, acceptedAnswer, judgeAnswer, readAnswer, readKinds, readOffsets}
+use Rattle.reader.specs.Reading.{viewFor}
 use Rattle.walk.specs.declared.Walk.{Walk}
 use Rattle.walk.specs.declared.Way.{Way}
 use Rattle.walk.specs.declared.Way.the-variants.{EveryLook, Once, Fixed}
@@ -119,8 +121,8 @@ SeenTells = (v w : Walk) → v .loaded ≡ true → w .loaded ≡ true → seen 
 
 -- what the newest reader accepts an older one accepts
 abbrev pub OlderAccepts : Type 0
-OlderAccepts = (row older newest : ℕ) (bs : List (List ℕ)) → older ≤ newest → firstMet (leafCauses row newest bs) ≡ 0
-    → firstMet (leafCauses row older bs) ≡ 0
+OlderAccepts = (first : Bool) (row older newest : ℕ) (bs : List (List ℕ)) → older ≤ newest → firstMet (leafCauses first row newest bs) ≡ 0
+    → firstMet (leafCauses first row older bs) ≡ 0
 
 -- the older table is the newest one without the removed entries, in the same order
 abbrev pub OlderTable : Type 0
@@ -238,3 +240,62 @@ StandsOnEntry = (w : Walk) → FromFresh w → (w .selected ≡ none) ⊎ (flagA
 -- and under a fixed type they have switched once at most
 abbrev pub FixedSwitches : Type 0
 FixedSwitches = (w : Walk) → FromFresh w → isFixed (wayOf (w .connection)) ≡ true → w .switches ≤ 1
+
+-- ## Versions and editions (document 02, request 12)
+
+-- versions 3 and 4 are read and walked alike in both editions: answer, table, view, and what is seen over every list of calls
+abbrev pub LaterAlike : Type 0
+LaterAlike =
+    (image : List ℕ) (a : Arguments) (edition other : Bool) → isFirstVersion image ≡ false →
+    let b = inEdition a edition in
+    let c = inEdition a other in
+    (judgeAnswer image b ≡ judgeAnswer image c)
+    × ((kinds offsets : List ℕ) →
+    (readAnswer image b (length kinds) (length offsets) ≡ readAnswer image c (length kinds) (length offsets))
+    × (readKinds image b kinds offsets ≡ readKinds image c kinds offsets)
+    × (readOffsets image b kinds offsets ≡ readOffsets image c kinds offsets))
+    × ((entry : ℕ) → viewFor image b entry ≡ viewFor image c entry)
+    × ((w : Walk) (calls : List Call) → run image b w calls ≡ run image c w calls)
+
+-- the connection type of the leaf that the arguments name, and the number of a reading in an edition
+abbrev pub codeFor : List ℕ → Arguments → ℕ
+codeFor image a = wordAt image (leafFor image a)
+
+abbrev pub numberIn : Bool → List ℕ → Arguments → ℕ
+numberIn edition image a = judgeAnswer image (inEdition a edition) .number
+
+-- in version 1 each edition refuses the codes of the other, with 11 where the other reads the image, so that no image with one of
+-- the four codes is read in both; one with another code is answered alike
+abbrev pub EachEdition : Type 0
+EachEdition =
+    (image : List ℕ) (a : Arguments) → isFirstVersion image ≡ true →
+    (isIn (codeFor image a) firstCodes ≡ true → (numberIn laterEdition image a ≡ 0 → ⊥)
+    × (numberIn firstEdition image a ≡ 0 → numberIn laterEdition image a ≡ 11))
+    × (isIn (codeFor image a) laterCodes ≡ true → (numberIn firstEdition image a ≡ 0 → ⊥)
+    × (numberIn laterEdition image a ≡ 0 → numberIn firstEdition image a ≡ 11))
+    × (isIn (codeFor image a) (firstCodes ++ laterCodes) ≡ false
+    → judgeAnswer image (inEdition a firstEdition) ≡ judgeAnswer image (inEdition a laterEdition))
+
+-- the versions that a programming leaves when it is interrupted (document 02, request 8) are refused with 2
+abbrev pub marks : List ℕ
+marks = 0 ∷ 255 ∷ []
+
+abbrev pub MarksRefused : Type 0
+MarksRefused =
+    (image : List ℕ) (a : Arguments) → wrongLength (a .layout .size) (length image) ≡ false → isIn (byteAt image versionAt) marks ≡ true
+    → judgeAnswer image a .number ≡ 2
+
+-- two cards that are read with the same blocks, for the same chip and level, of which the second has the type that the first one's
+-- is taken as: so one of 0x0200 in edition 1.00 and one of 0x0204 in 1.01
+pub record SameButCode (image other : List ℕ) (a b : Arguments) : Type 0 where
+  pub accepts : (firstMet (judgeCauses image a) ≡ 0) × (firstMet (judgeCauses other b) ≡ 0)
+  pub chip : rowFor b ≡ rowFor a
+  pub level : b .level ≡ a .level
+  pub blocks : blocksFor other b ≡ blocksFor image a
+  pub connection : acceptedAnswer other b .connection ≡ takenAs (acceptedAnswer image a .connection)
+
+-- they are walked alike over every list of calls
+abbrev pub WalkedAsTaken : Type 0
+WalkedAsTaken =
+    (image other : List ℕ) (a b : Arguments) → SameButCode image other a b →
+    (calls : List Call) → run image a freshWalk calls ≡ run other b freshWalk calls

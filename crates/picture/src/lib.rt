@@ -466,22 +466,23 @@ fn magic_words(line: Line, layout: Layout) -> Line {
     line
 }
 
-fn draw_title(file: i32, arguments: Arguments, number: u8) {
+fn draw_title(file: i32, image: &[u8], arguments: Arguments, number: u8) {
     let layout = arguments.layout;
     let line = text_at(b"title", 60, 36);
     let line = line.with(b"Serial ROM of a # card", [arguments.chip as u64, 0, 0, 0]);
     let line = magic_words(line, layout);
     end_text(report::size_words(line, false, layout.size), file);
-    draw_verdict(file, arguments, number);
+    draw_verdict(file, image, arguments, number);
 }
 
-fn draw_verdict(file: i32, arguments: Arguments, number: u8) {
+fn draw_verdict(file: i32, image: &[u8], arguments: Arguments, number: u8) {
     let line = text_at(b"words", 60, 64);
     if number == refusal::ACCEPTED {
         let line = line.with(
             b"accepted by a reader of level # for controller #",
             [arguments.level as u64, arguments.controller as u64, 0, 0],
         );
+        let line = report::edition_words(line, image, arguments.first_edition);
         end_text(line, file);
     } else {
         line.with(b"refused #: ", [number as u64, 0, 0, 0])
@@ -507,6 +508,11 @@ fn draw_unknown(file: i32, number: u8, place: Place, level: u8, y: u64) {
     }
 }
 
+// Whether the reader steps over the block at a byte. In version 1 it steps over none.
+fn is_stepped_over(image: &[u8], arguments: Arguments, start: u16) -> bool {
+    field_of(report::block_at(image, arguments, start)) == UNKNOWN
+}
+
 // The first blocks of the controller that the reader steps over, as many as there is room for.
 fn draw_unknowns(file: i32, image: &[u8], arguments: Arguments, blocks: u8) {
     let first = page_of(arguments.layout.size).unknowns as u64;
@@ -514,8 +520,8 @@ fn draw_unknowns(file: i32, image: &[u8], arguments: Arguments, blocks: u8) {
     let mut k = 0u8;
     while k < blocks {
         let place = survey::block_place(image, arguments, k);
-        let known = report::is_known(place.kind, arguments.level);
-        if !known {
+        let stepped_over = is_stepped_over(image, arguments, place.start);
+        if stepped_over {
             if drawn < 3 {
                 draw_unknown(file, k, place, arguments.level, first + 22 * drawn);
                 drawn += 1;
@@ -544,7 +550,7 @@ fn draw(file: i32, image: &[u8], arguments: Arguments, number: u8) -> bool {
     let layout = arguments.layout;
     let page = page_of(layout.size);
     open_page(file, page);
-    draw_title(file, arguments, number);
+    draw_title(file, image, arguments, number);
     draw_offsets(file, page, layout.size / 16);
     draw_cells(file, page, image, cells_of(image, arguments));
     draw_keys(file, page, layout);

@@ -6,7 +6,7 @@ use mathlib.Core.Path.{_≡_, refl, ap, sym}
 use lib.ListN.{length, take, drop, getD, length-map, List·getD-append, List·getD-eq-default}
 use lib.Seq.{getD-at}
 use Rattle.rom.specs.Refusal.{firstMet}
-use Rattle.format.specs.Block.{sizeOf}
+use Rattle.format.specs.Block.{sizeOf, laterVersion}
 use Rattle.leaf.specs.Leaf.{cut, blockCauses, Place, tableOf}
 use Rattle.leaf.proofs.Tables.{Every, every-at, Lies, every-lies}
 use Rattle.reader.specs.Table.{noPart, partAt, entryPart}
@@ -35,7 +35,7 @@ part-at row (p ∷ t) (suc e) d h = part-at row t e d (le-of-suc-le-suc h)
 -- ## Where it lies
 
 -- an entry's part ends where the bytes do, or before
-pub entry-inside : (row level count at : ℕ) (s : List ℕ) (e : ℕ) → firstMet (blockCauses row level (cut row count s)) ≡ 0
+pub entry-inside : (row level count at : ℕ) (s : List ℕ) (e : ℕ) → firstMet (blockCauses laterVersion row level (cut row count s)) ≡ 0
     → entryPart row (tableOf row level count at s) e .start + entryPart row (tableOf row level count at s) e .length ≤ at + length s
 unfolding entryPart
 entry-inside row level count at s e h = go (tableOf row level count at s) e (every-lies row level count at s h)
@@ -46,7 +46,7 @@ entry-inside row level count at s e h = go (tableOf row level count at s) e (eve
     go (p ∷ t) (suc e) f = go t e (f .1)
 
 -- starts where they do, or later
-pub entry-after : (row level count at : ℕ) (s : List ℕ) (e : ℕ) → firstMet (blockCauses row level (cut row count s)) ≡ 0
+pub entry-after : (row level count at : ℕ) (s : List ℕ) (e : ℕ) → firstMet (blockCauses laterVersion row level (cut row count s)) ≡ 0
     → e < length (tableOf row level count at s)
     → at ≤ entryPart row (tableOf row level count at s) e .start
 entry-after row level count at s e h l =
@@ -55,7 +55,8 @@ entry-after row level count at s e h l =
     (every-at (Lies row at s) (tableOf row level count at s) e d l (every-lies row level count at s h) .after)
 
 -- and holds its block's bytes
-pub entry-bytes : (row level count at : ℕ) (s : List ℕ) (e : ℕ) (d : Place) → firstMet (blockCauses row level (cut row count s)) ≡ 0
+pub entry-bytes : (row level count at : ℕ) (s : List ℕ) (e : ℕ) (d : Place)
+    → firstMet (blockCauses laterVersion row level (cut row count s)) ≡ 0
     → e < length (tableOf row level count at s)
     → take (entryPart row (tableOf row level count at s) e .length) (drop (entryPart row (tableOf row level count at s) e .start - at) s)
     ≡ take (sizeOf row (getD (tableOf row level count at s) e d .rest)) (getD (tableOf row level count at s) e d .rest)

@@ -11,7 +11,7 @@ use Rattle.rom.specs.Bytes.{pick}
 use Rattle.rom.specs.Refusal.{Numbered, firstMet}
 use Rattle.rom.proofs.First.{exact, numbered-append, both-accepted}
 use Rattle.header.specs.declared.Arguments.{Arguments}
-use Rattle.header.specs.Image.{restFrom}
+use Rattle.header.specs.Image.{isFirstVersion, restFrom}
 use Rattle.header.specs.Header.{rowFor, startFor, countFor, headerCauses}
 use Rattle.header.proofs.Headers.{header-numbered, start-fits}
 use Rattle.leaf.proofs.Cuts.{leaf-numbered, accepted-blocks}
@@ -29,7 +29,7 @@ use Rattle.reader.proofs.Readings.{answer-number}
 module _ (image : List ℕ) (a : Arguments) where
   leaf-causes-numbered : Numbered (leafCausesFor image a)
   unfolding leafCausesFor
-  leaf-causes-numbered = leaf-numbered (rowFor a) (a .level) (blocksFor image a)
+  leaf-causes-numbered = leaf-numbered (isFirstVersion image) (rowFor a) (a .level) (blocksFor image a)
 
   pub judge-numbered : Numbered (judgeCauses image a)
   unfolding judgeCauses
@@ -65,7 +65,7 @@ view-is-block image a e z l =
     let b = both-accepted (headerCauses image a) (leafCausesFor image a) (header-numbered image a) z in
     let start = startFor image a in
     let rest = restFrom (a .layout) image start in
-    let fine = accepted-blocks (rowFor a) (a .level) (blocksFor image a) (b .1) in
+    let fine = accepted-blocks (isFirstVersion image) (rowFor a) (a .level) (blocksFor image a) (b .1) in
     let p : Part = entryPart (rowFor a) (tableFor image a) e in
     let after : start ≤ p .start = entry-after (rowFor a) (a .level) (countFor image a) start rest e fine l in
     let within : p .start + p .length ≤ start + length rest = entry-inside (rowFor a) (a .level) (countFor image a) start rest e fine in

@@ -3,7 +3,7 @@ use Prim.Native.Nat.{ℕ, zero, suc, _+_, _-_, _≤_, _<_, zero-le}
 use native.Mathlib.Omega.{arith}
 use mathlib.Core.List.{List, _∷_}
 use mathlib.Core.Path.{_≡_, refl, ap, sym, _∙_}
-use mathlib.Core.Bool.{true, _||_}
+use mathlib.Core.Bool.{Bool, true, _||_}
 use lib.Dec.{eqb, ltb, lit<, eqb·suc-zero}
 use lib.ListN.{length, take, drop, length-take}
 use borrow.Author.Tests.{ne-eqb, lt-ltb, le-ltb, ltb-false}
@@ -15,9 +15,10 @@ use Rattle.rom.proofs.First.{none-here, after-accepted, after-refused, both-acc
 use Rattle.rom.proofs.Truth.{or-false}
 use Rattle.header.specs.declared.Arguments.{Arguments}
 use Rattle.header.specs.declared.Header.{Header}
-use Rattle.header.specs.Image.{restFrom}
+use Rattle.header.specs.Image.{isFirstVersion, restFrom}
 use Rattle.header.specs.Header.{rowFor, startFor, countFor, headerCauses, foundHeader, headerFor}
 use Rattle.header.proofs.Headers.{header-numbered, whole-image, start-fits, read-number, no-refusal, read-found, read-count}
+use Rattle.format.specs.Block.{laterVersion}
 use Rattle.leaf.specs.declared.Tally.{Tally}
 use Rattle.leaf.specs.Leaf.{Place, cut, blockCauses, tableOf}
 use Rattle.leaf.specs.Tally.{tallyOf, counts}
@@ -90,15 +91,16 @@ module _ (image : List ℕ) (a : Arguments) (k o : ℕ) (h : Header) (eh : h ≡
         refused-reading image a k o 12 (λ e. omega arith)
         (no-room image a k o accepted (simp (le-ltb k (countFor image a) (rw count at g), lt-ltb o (countFor image a) (rw count at l))))
 
-    module _ (hk : h .blocks ≤ k) (ho : h .blocks ≤ o) (rest : List ℕ) (er : rest ≡ restFrom (a .layout) image (h .start)) (t : Tally)
-        (et : t ≡ tallyOf (h .row) (a .level) (cut (h .row) (h .blocks) rest)) where
-      tally : t ≡ tallyOf (rowFor a) (a .level) (blocksFor image a)
+    module _ (hk : h .blocks ≤ k) (ho : h .blocks ≤ o) (rest : List ℕ) (er : rest ≡ restFrom (a .layout) image (h .start))
+        {first : Bool} (ef : first ≡ isFirstVersion image) (t : Tally)
+        (et : t ≡ tallyOf first (h .row) (a .level) (cut (h .row) (h .blocks) rest)) where
+      tally : t ≡ tallyOf (isFirstVersion image) (rowFor a) (a .level) (blocksFor image a)
       unfolding foundHeader
-      tally = rw found at (rw er at et)
+      tally = rw found at (rw (er, ef) at et)
 
       leaf-number : t .number ≡ firstMet (leafCausesFor image a)
       unfolding leafCausesFor
-      leaf-number = rw tally (tally-number (rowFor a) (a .level) (blocksFor image a))
+      leaf-number = rw tally (tally-number (isFirstVersion image) (rowFor a) (a .level) (blocksFor image a))
 
       all-causes : firstMet (readCauses image a k o) ≡ t .number
       all-causes = past-room image a k o accepted (rw count at hk) (rw count at ho) ∙ sym leaf-number
@@ -108,7 +110,7 @@ module _ (image : List ℕ) (a : Arguments) (k o : ℕ) (h : Header) (eh : h ≡
 
       all : t .number ≡ 0 → t ≡ counts (rowFor a) (a .level) (blocksFor image a)
       unfolding leafCausesFor
-      all e = tally ∙ tally-accepted (rowFor a) (a .level) (blocksFor image a) (sym leaf-number ∙ e)
+      all e = tally ∙ tally-accepted (isFirstVersion image) (rowFor a) (a .level) (blocksFor image a) (sym leaf-number ∙ e)
 
       both : t .number ≡ 0 → answerFrom h t ≡ acceptedAnswer image a
       unfolding answerFrom acceptedAnswer foundHeader counts
@@ -162,9 +164,9 @@ module _ {image : List ℕ} {a : Arguments} {r : Reading} (c : Accepted image a 
   pub reading-end : leavesEnd (a .layout) ≤ length image
   reading-end = let g = geometry (a .layout) in omega (arith, whole-image image a (c .header))
 
-  pub reading-blocks : firstMet (blockCauses (r .row) (a .level) (cut (r .row) (r .answer .blocks) (restOf image a r))) ≡ 0
+  pub reading-blocks : firstMet (blockCauses laterVersion (r .row) (a .level) (cut (r .row) (r .answer .blocks) (restOf image a r))) ≡ 0
   unfolding acceptedReading acceptedAnswer leafCausesFor
-  reading-blocks = rw (c .known) (accepted-blocks (rowFor a) (a .level) (blocksFor image a) (c .leaf))
+  reading-blocks = rw (c .known) (accepted-blocks (isFirstVersion image) (rowFor a) (a .level) (blocksFor image a) (c .leaf))
 
   pub reading-listed : r .answer .listed ≡ length (tableOf (r .row) (a .level) (r .answer .blocks) (r .start) (restOf image a r))
   unfolding acceptedReading acceptedAnswer
@@ -294,7 +296,7 @@ module _ (image : List ℕ) (a : Arguments) (e : ℕ) where
             geometry (a .layout) .board,
             length-take (leavesEnd (a .layout) - startFor image a) (drop (startFor image a) image),
             entry-inside (rowFor a) (a .level) (countFor image a) (startFor image a) (restFrom (a .layout) image (startFor image a)) e
-                (accepted-blocks (rowFor a) (a .level) (blocksFor image a) (b .1)),
+                (accepted-blocks (isFirstVersion image) (rowFor a) (a .level) (blocksFor image a) (b .1)),
           )
 
       go : (n : ℕ) → firstMet (judgeCauses image a) ≡ n

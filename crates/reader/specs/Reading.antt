@@ -8,7 +8,7 @@ use lib.ListN.{length, take, drop}
 use Rattle.rom.specs.Bytes.{pick, wordAt}
 use Rattle.rom.specs.Refusal.{Cause, _⇒_, firstMet}
 use Rattle.header.specs.declared.Arguments.{Arguments}
-use Rattle.header.specs.Image.{addressOf, controlByte, restFrom}
+use Rattle.header.specs.Image.{isFirstVersion, addressOf, controlByte, restFrom}
 use Rattle.header.specs.Header.{rowFor, leafFor, startFor, countFor, headerCauses}
 use Rattle.format.specs.Block.{isListed, isReset, isPower, isSkipped, isDefault}
 use Rattle.leaf.specs.Leaf.{Place, cut, countOf, firstFrom, leafCauses, kindAt, startAt, tableOf}
@@ -31,7 +31,7 @@ tableFor image a = tableOf (rowFor a) (a .level) (countFor image a) (startFor im
 
 -- 13 to 17, the blocks one after another, 18 and 31
 unfoldable pub leafCausesFor : List ℕ → Arguments → List Cause
-leafCausesFor image a = leafCauses (rowFor a) (a .level) (blocksFor image a)
+leafCausesFor image a = leafCauses (isFirstVersion image) (rowFor a) (a .level) (blocksFor image a)
 
 -- the reader's numbers, 12 apart
 unfoldable pub judgeCauses : List ℕ → Arguments → List Cause

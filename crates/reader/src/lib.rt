@@ -108,7 +108,8 @@ fn assess_for(image: &[u8], arguments: Arguments, kinds: usize, offsets: usize) 
     let row = h.row;
     let start = h.start;
     let rest = header::rest_from(image, arguments.layout, start);
-    let t = leaf::judge(rest, blocks, row, arguments.level);
+    let first_version = header::is_first_version(image);
+    let t = leaf::judge(rest, blocks, row, arguments.level, first_version);
     let number = t.number;
     if number != refusal::ACCEPTED {
         return refused(number);

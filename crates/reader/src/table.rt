@@ -6,6 +6,7 @@ ghost use Prim.Native.Nat.{_+_, _-_, _≤_, _<_};
 ghost use lib.ListN.{length};
 ghost use Rattle.rom.specs.Refusal.{firstMet};
 ghost use Rattle.block.specs.Answer.{listedIn, kindIn};
+ghost use Rattle.format.specs.Block.{laterVersion};
 ghost use Rattle.leaf.specs.Leaf.{cut, blockCauses, kindAt, startAt, tableOf};
 ghost use Rattle.reader.specs.Table.{tabled, entryPart};
 ghost use Rattle.reader.specs.Inside.{stored};
@@ -42,7 +43,7 @@ pub(crate) fn fill(
     kinds: &mut [u16],
     offsets: &mut [u16],
 )
-    requires { ⌜ firstMet (blockCauses row level (cut row count (now blocks))) ≡ 0 ⌝ }
+    requires { ⌜ firstMet (blockCauses laterVersion row level (cut row count (now blocks))) ≡ 0 ⌝ }
     requires { ⌜ listed ≡ length (tableOf row level count start (now blocks)) ⌝ }
     requires { ⌜ (listed ≤ length (now kinds)) × (listed ≤ length (now offsets)) × (start + length (now blocks) < 65536) ⌝ }
     ensures { λ r. ⌜ now (kinds .exit) ≡ tabled (kindAt row) (tableOf row level count start (now (blocks .entry))) (now (kinds .entry)) ⌝ }
@@ -73,7 +74,7 @@ pub(crate) fn find(
     listed: usize,
     entry: usize,
 ) -> Part
-    requires { ⌜ firstMet (blockCauses row level (cut row count (now blocks))) ≡ 0 ⌝ }
+    requires { ⌜ firstMet (blockCauses laterVersion row level (cut row count (now blocks))) ≡ 0 ⌝ }
     requires { ⌜ (listed ≡ length (tableOf row level count start (now blocks))) × (start + length (now blocks) < 65536) ⌝ }
     ensures { λ r. ⌜ r ≡ entryPart row (tableOf row level count start (now (blocks .entry))) entry ⌝ }
 {

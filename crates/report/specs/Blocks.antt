@@ -4,15 +4,15 @@ use mathlib.Core.List.{List}
 use lib.ListN.{take}
 use Rattle.rom.specs.declared.Layout.{Layout}
 use Rattle.block.specs.declared.Block.{Block}
-use Rattle.block.specs.Answer.{blockOf}
+use Rattle.block.specs.Answer.{blockIn}
 use Rattle.header.specs.declared.Arguments.{Arguments}
-use Rattle.header.specs.Image.{restFrom}
+use Rattle.header.specs.Image.{isFirstVersion, restFrom}
 use Rattle.header.specs.Header.{rowFor}
 use Rattle.survey.specs.declared.Place.{Place}
 
 -- what a reader finds the block at a byte to be
 unfoldable pub blockFrom : List ℕ → Arguments → ℕ → Block
-blockFrom image a start = blockOf (rowFor a) (a .level) (restFrom (a .layout) image start)
+blockFrom image a start = blockIn (isFirstVersion image) (rowFor a) (a .level) (restFrom (a .layout) image start)
 
 -- the bytes of a block, as far as leaves go
 unfoldable pub bytesAt : Layout → List ℕ → Place → List ℕ

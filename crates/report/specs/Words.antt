@@ -11,8 +11,9 @@ use Rattle.text.specs.Quoted.{quoted}
 use Rattle.text.specs.Numbers.{decimalOf}
 use Rattle.text.specs.Tables.{wordsFor}
 use Rattle.text.specs.Written.{withValues, withFields}
-use Rattle.format.specs.Chips.{kindCompact, kind21041}
+use Rattle.format.specs.Chips.{kindCompact, kind21041, takenAs}
 use Rattle.header.specs.declared.Arguments.{Arguments}
+use Rattle.header.specs.Image.{isFirstVersion}
 use Rattle.survey.specs.declared.Place.{Place}
 use Rattle.report.specs.Sizes.{isNamed}
 
@@ -58,6 +59,19 @@ layoutWords l = pick (l .magic) (quoted ", Magic Packet layout") []
 -- a size, where it is named
 unfoldable pub sizeWords : Bool → ℕ → List ℕ
 sizeWords given size = pick (isNamed given size) (says ", size #" (size ∷ 0 ∷ 0 ∷ 0 ∷ [])) []
+
+-- the edition in which an image of version 1 is read
+unfoldable pub editionWords : List ℕ → Bool → List ℕ
+editionWords image first =
+    pick (isFirstVersion image) (pick first (quoted ", read in edition 1.00") (quoted ", read in edition 1.01")) []
+
+-- what a code of edition 1.00 is since
+abbrev pub sinceWords : ℕ → List ℕ
+sinceWords code = says ", in edition 1.00 what @ is since" (takenAs code ∷ 0 ∷ 0 ∷ 0 ∷ [])
+
+-- a connection type's code
+unfoldable pub connectionWords : ℕ → List ℕ
+connectionWords code = says "@" (code ∷ 0 ∷ 0 ∷ 0 ∷ []) ++ pick (eqb (takenAs code) code) [] (sinceWords code)
 
 abbrev pub readerWords : Arguments → List ℕ
 readerWords a = says "chip #, controller #, level #" (a .chip ∷ a .controller ∷ a .level ∷ 0 ∷ [])

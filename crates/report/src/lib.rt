@@ -23,8 +23,9 @@ ghost use Rattle.text.specs.Written.{textOf, fitted};
 ghost use Rattle.format.specs.Block.{isKnown};
 ghost use Rattle.header.specs.Image.{leafAt};
 ghost use Rattle.report.specs.Blocks.{blockFrom, bytesAt};
-ghost use Rattle.report.specs.Layouts.{otherwise, ofLength, isAcceptedOtherwise, isAcceptedByLength, hasSromCrc};
-ghost use Rattle.report.specs.Words.{threeBytes, addressWords, sixWords, sizeWords, argumentsWords, placeWords};
+ghost use Rattle.report.specs.Layouts.{otherwise, ofLength, inOther};
+ghost use Rattle.report.specs.Layouts.{isAcceptedOtherwise, isAcceptedByLength, isAcceptedInOther, hasSromCrc};
+ghost use Rattle.report.specs.Words.{threeBytes, addressWords, sixWords, sizeWords, editionWords, argumentsWords, placeWords};
 
 // ## Parts of an image
 
@@ -73,6 +74,20 @@ pub fn size_words(line: Line, given: bool, size: u16) -> Line
         return line.with(b", size #", [size as u64, 0, 0, 0]);
     }
     line
+}
+
+// The edition in which an image of version 1 is read.
+pub fn edition_words(line: Line, image: &[u8], first_edition: bool) -> Line
+    ensures { λ r. ⌜ textOf r ≡ fitted (textOf line ++ editionWords (now (image .entry)) «first_edition») ⌝ }
+{
+    let first = header::is_first_version(image);
+    if !first {
+        return line;
+    }
+    if first_edition {
+        return line.text(b", read in edition 1.00");
+    }
+    line.text(b", read in edition 1.01")
 }
 
 // The arguments of a reading, and its size where that was given.
@@ -140,7 +155,7 @@ pub fn block_at(image: &[u8], arguments: Arguments, start: u16) -> Block
 {
     let row = chip::row_of(arguments.chip);
     let rest = header::rest_from(image, arguments.layout, start as usize);
-    block::judge_block(rest, row, arguments.level)
+    block::judge_in(rest, row, arguments.level, header::is_first_version(image))
 }
 
 // A block's bytes, as far as leaves go.
@@ -239,11 +254,12 @@ pub fn show_length(image: &[u8]) {
     ).print();
 }
 
-fn show_version(image: &[u8]) {
-    line::of(
+fn show_version(image: &[u8], first_edition: bool) {
+    let line = line::of(
         b"  format version, byte 18: #",
         [byte_of(image, rom::VERSION_AT), 0, 0, 0],
-    ).print();
+    );
+    edition_words(line, image, first_edition).print();
 }
 
 pub fn show_srom_crc(image: &[u8], layout: Layout) {
@@ -362,7 +378,7 @@ pub fn show_magic_field(image: &[u8], size: u16, number: u8) {
     }
 }
 
-// ## Another layout
+// ## Another layout or edition
 
 // The same arguments with a Magic Packet block where there was none, and the other way round.
 fn otherwise(arguments: Arguments) -> Arguments
@@ -381,6 +397,16 @@ fn of_length(arguments: Arguments, length: usize) -> Arguments
     let size = size::by_length(length);
     let mut other = arguments;
     other.layout.size = size;
+    other
+}
+
+// The same arguments in the other edition.
+fn in_other(arguments: Arguments) -> Arguments
+    ensures { λ r. ⌜ r ≡ inOther arguments ⌝ }
+{
+    let later = !arguments.first_edition;
+    let mut other = arguments;
+    other.first_edition = later;
     other
 }
 
@@ -405,7 +431,26 @@ fn is_accepted_by_length(image: &[u8], arguments: Arguments, number: u8) -> bool
     reader::judge(image, of_length(arguments, length)).number == refusal::ACCEPTED
 }
 
-// Nobody at a bench knows the layout beforehand.
+// Whether one that is refused with 11 is accepted in the other edition, as only an image of version 1 can be.
+fn is_accepted_in_other(image: &[u8], arguments: Arguments, number: u8) -> bool
+    ensures { λ r. ⌜ r ≡ isAcceptedInOther (now (image .entry)) arguments number ⌝ }
+{
+    if number != refusal::CONNECTION_TYPE {
+        return false;
+    }
+    reader::judge(image, in_other(arguments)).number == refusal::ACCEPTED
+}
+
+// The option with which the other edition is read.
+pub fn show_other_edition(first_edition: bool) {
+    if first_edition {
+        say(b"  accepted with --edition 1.01");
+    } else {
+        say(b"  accepted with --edition 1.00");
+    }
+}
+
+// Nobody at a bench knows layout or edition beforehand.
 fn show_otherwise(image: &[u8], arguments: Arguments, number: u8) {
     let accepted = is_accepted_otherwise(image, arguments, number);
     if accepted {
@@ -420,6 +465,10 @@ fn show_otherwise(image: &[u8], arguments: Arguments, number: u8) {
         let size = size::by_length(image.len());
         line::of(b"  accepted with --size #", [size as u64, 0, 0, 0]).print();
     }
+    let accepted = is_accepted_in_other(image, arguments, number);
+    if accepted {
+        show_other_edition(arguments.first_edition);
+    }
 }
 
 // Whether the SROM CRC that is stored is the board's.
@@ -433,13 +482,23 @@ pub fn has_srom_crc(image: &[u8], layout: Layout) -> bool
 // ## The verdict
 
 // The field that a refusal from 1 to 5 is about.
-fn show_image_field(image: &[u8], layout: Layout, number: u8) {
+fn show_image_field(image: &[u8], arguments: Arguments, number: u8) {
+    let layout = arguments.layout;
     match number {
         refusal::IMAGE_LENGTH => show_length(image),
-        refusal::VERSION => show_version(image),
+        refusal::VERSION => show_version(image, arguments.first_edition),
         refusal::SROM_CRC => show_srom_crc(image, layout),
         refusal::ID_CRC => show_id_crc(image, layout.size),
         _ => show_count(image, layout),
+    }
+}
+
+// A connection type that is not read; of an image of version 1 the edition decides.
+fn show_unread(image: &[u8], arguments: Arguments) {
+    show_connection(image, arguments.controller);
+    let first = header::is_first_version(image);
+    if first {
+        show_version(image, arguments.first_edition);
     }
 }
 
@@ -451,8 +510,16 @@ fn show_leaf_field(image: &[u8], arguments: Arguments, number: u8) {
         refusal::CONTROLLER => show_count(image, layout),
         refusal::ADDRESS => show_address(image),
         refusal::LEAF_HEADER => show_leaf(image, layout, controller),
-        refusal::CONNECTION_TYPE => show_connection(image, controller),
+        refusal::CONNECTION_TYPE => show_unread(image, arguments),
         _ => {}
+    }
+}
+
+// Why a type is not permitted, where that is for the version.
+fn show_type(image: &[u8]) {
+    let first = header::is_first_version(image);
+    if first {
+        say(b"  version 1 has no extended blocks");
     }
 }
 
@@ -461,6 +528,9 @@ fn show_block(image: &[u8], arguments: Arguments, number: u8) {
     show_refused_block(image, arguments);
     if number == refusal::BLOCK_END {
         show_leaves_end(arguments.layout);
+    }
+    if number == refusal::BLOCK_TYPE {
+        show_type(image);
     }
 }
 
@@ -476,7 +546,7 @@ fn is_clash(number: u8) -> bool {
 // Packet block.
 fn show_where(image: &[u8], arguments: Arguments, number: u8) {
     if number <= refusal::CONTROLLER_COUNT {
-        show_image_field(image, arguments.layout, number);
+        show_image_field(image, arguments, number);
     } else if number <= refusal::CONNECTION_TYPE {
         show_leaf_field(image, arguments, number);
     } else if number < refusal::CLASH {
@@ -484,6 +554,8 @@ fn show_where(image: &[u8], arguments: Arguments, number: u8) {
     } else if is_clash(number) {
         let blocks = header::read_header(image, arguments).blocks;
         show_clashes(image, arguments, number, blocks);
+    } else if number == refusal::FIRST_VERSION_CHIP {
+        show_version(image, arguments.first_edition);
     } else {
         show_magic_field(image, arguments.layout.size, number);
     }

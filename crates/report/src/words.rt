@@ -1,5 +1,6 @@
 // Words for numbers: the one table of each. Media, connection types, the bits of a Magic command and those of a mode byte are
 // named as 000 names them. Those of refusals end what they stand in, and go to a file.
+use block::chip;
 use text::decimal_words;
 use text::hex_words;
 use text::line::Line;
@@ -7,14 +8,15 @@ use text::slice::byte_at;
 ghost use mathlib.Core.Path.{_≡_};
 ghost use mathlib.Core.List.{_++_};
 ghost use Rattle.text.specs.Written.{textOf, fitted};
-ghost use Rattle.report.specs.Words.{mediaWords, kindWords, mediumWords, tableWords, commandWords, modeWords};
+ghost use Rattle.report.specs.Words.{mediaWords, connectionWords, kindWords, mediumWords};
+ghost use Rattle.report.specs.Words.{tableWords, commandWords, modeWords};
 
 // Document 01, 'Why a call is refused', and document 02; in words that fit every layout.
 pub fn show_refusal(number: u8, file: i32) {
     let words = decimal_words(
         b"0 accepted
 1 the image's length or its stated size is wrong
-2 the format version is neither 3 nor 4
+2 the format version is neither 1, 3 nor 4
 3 the SROM CRC is wrong
 4 the ID CRC is wrong
 5 the controller count is 0 or too high, or the reserved byte is not 0
@@ -23,10 +25,10 @@ pub fn show_refusal(number: u8, file: i32) {
 8 the level is over 7
 9 the controller's address is over 48 bits
 10 the leaf's header is outside its bounds
-11 the connection type is none of the chip's
+11 the connection type is none of the chip's, or of the other edition
 12 the room that is lent is too short
 13 the block runs into the maker's bytes
-14 the block's length is 0, or its type is not permitted for the chip
+14 the block's length is 0, or chip or version does not permit its type
 15 the block's length is wrong for its type
 16 the block's media code or one of its reserved bits is wrong
 17 the PHY advertises what it is not capable of
@@ -44,6 +46,7 @@ pub fn show_refusal(number: u8, file: i32) {
 31 a bit of the mode byte is set in two power blocks
 32 no listed block has the fixed medium
 33 the sheet has over 255 blocks, or too many body bytes to be narrowed
+38 the format version is 1, which has the 21041 and the 21140 alone
 ",
         number as u64,
     );
@@ -68,7 +71,32 @@ pub fn media_words(line: Line, code: u8) -> Line
     ))
 }
 
-// Ends a line with a connection type.
+// A connection type's code; one of edition 1.00 with what it is since.
+pub fn connection_words(line: Line, connection: u16) -> Line
+    ensures { λ r. ⌜ textOf r ≡ fitted (textOf line ++ connectionWords connection) ⌝ }
+{
+    let taken = chip::taken_as(connection);
+    let line = line.with(b"@", [connection as u64, 0, 0, 0]);
+    if taken == connection {
+        return line;
+    }
+    line.with(
+        b", in edition 1.00 what @ is since",
+        [taken as u64, 0, 0, 0],
+    )
+}
+
+// The line in which more is said of a connection type: behind its code, or where two codes fill a line, below them.
+pub fn connection_line(name: &[u8], connection: u16) -> Line {
+    let line = connection_words(Line::new().text(name), connection).byte(b',');
+    if chip::taken_as(connection) == connection {
+        return line.byte(b' ');
+    }
+    line.print();
+    Line::new().to(name.len())
+}
+
+// Ends a line with a connection type, by what it is taken as.
 pub fn show_connection(line: Line, connection: u16) {
     line.text(hex_words(
             b"0000 10BaseT
@@ -94,7 +122,7 @@ pub fn show_connection(line: Line, connection: u16) {
 0900 autosense with Nway
 ffff none selected
 ",
-            connection,
+            chip::taken_as(connection),
         ))
         .print();
 }

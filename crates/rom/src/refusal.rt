@@ -63,3 +63,5 @@ pub const REPEATED_MODE: u8 = 31;
 pub const NO_FIXED_MEDIUM: u8 = 32;
 
 pub const SHEET_TOO_LARGE: u8 = 33;
+
+pub const FIRST_VERSION_CHIP: u8 = 38;

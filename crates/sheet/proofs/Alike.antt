@@ -22,7 +22,7 @@ use Rattle.sheet.specs.Lists.{over}
 use Rattle.sheet.specs.Record.{Plain}
 use Rattle.sheet.specs.Form.{isBeyond, other, countIn, totalIn}
 use Rattle.sheet.specs.Sheet.{sheetOf, isSheet}
-use Rattle.sheet.specs.Image.{imageFrom, imageOf, newest, isTidy}
+use Rattle.sheet.specs.Image.{imageFrom, imageOf, newestIn, isTidy}
 use Rattle.sheet.specs.Write.{tooManyBlocks, wrongOutput, recordCauses, writeCauses, writeNumber, written}
 use Rattle.sheet.specs.Make.{sheetFor, makeCauses, makeNumber, makeLength, made, madeFor}
 use Rattle.sheet.specs.Convert.{converted, tooLarge, convertCauses, convertNumber, convertLength, convertedIn, convertedFor}
@@ -45,46 +45,48 @@ unfolding wrongOutput isBeyond otherSize
 same-output Narrow l n small = rw small
 same-output Wide l n small = rw small
 
-alike : (from : Form) (l : Layout) (s out : List ℕ) → Bytes s → isSheet from s ≡ true → tooLarge from s ≡ false → l .size ≡ smallSize
-    → firstMet (writeCauses (other from) l (converted from s) out) ≡ firstMet (writeCauses from l s out)
+alike : (from : Form) (l : Layout) (edition : Bool) (s out : List ℕ) → Bytes s → isSheet from s ≡ true → tooLarge from s ≡ false
+    → l .size ≡ smallSize
+    → firstMet (writeCauses (other from) l edition (converted from s) out) ≡ firstMet (writeCauses from l edition s out)
 unfolding writeCauses firstMet
-alike from l s out by is small size =
+alike from l edition s out by is small size =
     let few = few-both from s by small in
     let m = conversion-means from s is in
     pick-false (not (isSheet (other from) (converted from s))) _ _ (met-not _ (converted-is from s is))
     ∙ pick-false (tooManyBlocks (other from) (converted from s)) _ _ (few .1)
-    ∙ ap₂ (λ (b : Bool) (p : Plain). firstMet ((1 ⇒ b) ∷ (recordCauses l p ++ judgeCauses (imageOf l p out) (newest l (p .chip)))))
+    ∙ ap₂
+    (λ (b : Bool) (p : Plain). firstMet ((1 ⇒ b) ∷ (recordCauses l p ++ judgeCauses (imageOf l p out) (newestIn l edition (p .chip)))))
     (same-output from l (length out) size) m
     ∙ sym (pick-false (not (isSheet from s)) _ _ (met-not _ is) ∙ pick-false (tooManyBlocks from s) _ _ (few .0))
 
 pub written-alike : WrittenAlike
 unfolding writeNumber written
-written-alike from l s first out by h size =
+written-alike from l edition s first out by h size =
     let c = convertible from s (length first) h in
-    let a = alike from l s out by (c .is) (c .small) size in
+    let a = alike from l edition s out by (c .is) (c .small) size in
     rw (front-is from s first h)
     (a, ap₂ (λ (n : ℕ) (p : Plain). pick (eqb n 0) (imageOf l p out) out) a (conversion-means from s (c .is)))
 
 -- ## Made alike
 
-module _ (l : Layout) (image : List ℕ) (chip room : ℕ) where
+module _ (l : Layout) (edition : Bool) (image : List ℕ) (chip room : ℕ) where
   abbrev narrow : List ℕ
   narrow = sheetFor Narrow l image chip
 
   -- only 12 is left to both
-  same-number : firstMet (judgeCauses image (newest l chip)) ≡ 0 → isTidy l chip image ≡ true → isSheet Narrow narrow ≡ true
-      → makeNumber Wide l image chip room ≡ convertNumber Narrow narrow room
+  same-number : firstMet (judgeCauses image (newestIn l edition chip)) ≡ 0 → isTidy l chip image ≡ true → isSheet Narrow narrow ≡ true
+      → makeNumber Wide l edition image chip room ≡ convertNumber Narrow narrow room
   unfolding makeNumber makeCauses convertNumber convertCauses converted sheetOf isBeyond tooLarge firstMet pick
   same-number reads neat is =
-      after-accepted (judgeCauses image (newest l chip)) _ (judge-numbered image (newest l chip)) reads
+      after-accepted (judgeCauses image (newestIn l edition chip)) _ (judge-numbered image (newestIn l edition chip)) reads
       ∙ pick-false (not (isTidy l chip image)) _ _ (met-not _ neat) ∙ sym (pick-false (not (isSheet Narrow narrow)) _ _ (met-not _ is))
 
 pub made-alike : MadeAlike
 unfolding madeFor convertedFor makeLength convertLength made convertedIn converted sheetOf
-made-alike l image chip first buffer by h =
-    let m = makeable Narrow l image chip (length first) h in
-    let z = means-sized l chip image by (accepted l chip image (m .reads)) (tidy l chip image (m .neat)) in
-    let n = same-number l image chip (length buffer) (m .reads) (m .neat) (sheet-is Narrow (imageFrom l chip image) z) in
+made-alike l edition image chip first buffer by h =
+    let m = makeable Narrow l edition image chip (length first) h in
+    let z = means-sized l chip image by (accepted l edition chip image (m .reads)) (tidy l chip image (m .neat)) in
+    let n = same-number l edition image chip (length buffer) (m .reads) (m .neat) (sheet-is Narrow (imageFrom l chip image) z) in
     let answer : ℕ → Made = λ k. record { number = k; length = pick (eqb k 0) (length (sheetFor Wide l image chip)) 0 } in
-    rw (made-front Narrow l image chip first h)
+    rw (made-front Narrow l edition image chip first h)
     (ap answer n, ap (λ (k : ℕ). pick (eqb k 0) (over buffer (sheetFor Wide l image chip)) buffer) n)

@@ -13,7 +13,7 @@ use Rattle.rom.specs.Refusal.{firstMet}
 use Rattle.rom.proofs.First.{none-here}
 use Rattle.rom.proofs.Truth.{true-false, or-false}
 use Rattle.format.specs.Chips.{row21041, kindCompact, kind21041}
-use Rattle.format.specs.Block.{isExtended, lengthOf, siaSize, sizeOf, kindOf, causes, refusalOf}
+use Rattle.format.specs.Block.{isExtended, lengthOf, siaSize, sizeOf, kindOf, causes, laterVersion, refusalOf}
 use Rattle.block.proofs.Whole.{Form, extended-form, compact-form, form-21041}
 use Rattle.leaf.specs.Leaf.{cut, blockCauses}
 use Rattle.leaf.proofs.Cuts.{first-accepted}
@@ -278,7 +278,8 @@ pub record Encoded (row n : ℕ) (s : List ℕ) : Type 0 where
   pub good : anyBad row (map (entryFrom row) (cut row n s)) ≡ false
   pub back : encodes (map (entryFrom row) (cut row n s)) ≡ take (sizes row (cut row n s)) s
 
-pub encodes-cut : (row level n : ℕ) (s : List ℕ) → Bytes s → firstMet (blockCauses row level (cut row n s)) ≡ 0 → Encoded row n s
+pub encodes-cut : (row level n : ℕ) (s : List ℕ) → Bytes s → firstMet (blockCauses laterVersion row level (cut row n s)) ≡ 0
+    → Encoded row n s
 unfolding cut sizes encodes anyBad
 encodes-cut row level zero s by h = record { fits = omega arith; good = refl; back = refl }
 encodes-cut row level (suc n) s by h =

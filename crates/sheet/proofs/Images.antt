@@ -19,7 +19,9 @@ use Rattle.rom.proofs.First.{none-here, both-accepted}
 use Rattle.rom.proofs.Truth.{true-false, and-true, or-false}
 use Rattle.crc.specs.Crc.{sromCrc, crc8Words, word, crc8, idCrc}
 use Rattle.format.specs.Chips.{chips, rowOf, row21140, newestLevel}
-use Rattle.header.specs.Image.{controllerCount, reservedAt, leafAt, headerLength, controlByte, blocksAt, blockCount, restFrom, badCount}
+use Rattle.format.specs.Block.{laterVersion}
+use Rattle.header.specs.Image.{isFirstVersion, controllerCount, reservedAt, leafAt, headerLength, controlByte, blocksAt, blockCount}
+use Rattle.header.specs.Image.{restFrom, badCount}
 use Rattle.header.specs.Image.{magicCauses, imageCauses, argumentCauses}
 use Rattle.header.specs.Header.{leafFor, startFor, countFor, headerCauses}
 use Rattle.header.proofs.Headers.{magic-numbered, image-numbered, argument-numbered, header-numbered}
@@ -29,7 +31,7 @@ use Rattle.reader.specs.Reading.{blocksFor, leafCausesFor, judgeCauses}
 use Rattle.sheet.specs.Lists.{padded}
 use Rattle.sheet.specs.Record.{Plain}
 use Rattle.sheet.specs.Image.{leafStart, frontWith, frontOf, encodes, controlBytes, leafHeadOf, leafOf, coveredOf, boardOf}
-use Rattle.sheet.specs.Image.{imageOf, newest}
+use Rattle.sheet.specs.Image.{imageOf, newestIn, newest}
 use Rattle.sheet.specs.Image.{entryFrom, imageFrom, sizes, leafEnd, upToLeavesEnd, isTidy}
 use Rattle.sheet.specs.Write.{anyBad, strayControl, cannotHold}
 use Rattle.rom.proofs.Layouts.{Geometry, geometry, right-length}
@@ -93,11 +95,11 @@ module _ (l : Layout) (chip : ℕ) (s : List ℕ) (leaf : wordAt s 27 ≡ leafSt
   leaf-at = leaf
 
   leaf-is : leafFor s (newest l chip) ≡ leafStart
-  unfolding newest leafAt
+  unfolding newestIn leafAt
   leaf-is = leaf
 
   start-is : startFor s (newest l chip) ≡ leafStart + headerLength (rowOf chip)
-  unfolding newest blocksAt
+  unfolding newestIn blocksAt
   start-is = ap (λ (n : ℕ). n + headerLength (rowOf chip)) leaf-is
 
   connection-is : wordAt s (leafFor s (newest l chip)) ≡ wordAt (drop leafStart s) 0
@@ -110,7 +112,7 @@ module _ (l : Layout) (chip : ℕ) (s : List ℕ) (leaf : wordAt s 27 ≡ leafSt
       ∙ ap (λ (b : ℕ). pick (eqb (rowOf chip) row21140) b 0) (byte-behind s 2)
 
   count-is : countFor s (newest l chip) ≡ byteAt (drop leafStart s) (headerLength (rowOf chip) - 1)
-  unfolding blockCount newest
+  unfolding blockCount newestIn
   count-is =
       let h = header-some (rowOf chip) in
       let n : leafStart + headerLength (rowOf chip) - 1 ≡ leafStart + (headerLength (rowOf chip) - 1) = omega (arith, h .0) in
@@ -128,7 +130,7 @@ module _ (l : Layout) (chip : ℕ) (s : List ℕ) (leaf : wordAt s 27 ≡ leafSt
   blocks-are : blocksFor s (newest l chip)
       ≡ cut (rowOf chip) (byteAt (drop leafStart s) (headerLength (rowOf chip) - 1))
       (take (room l - headerLength (rowOf chip)) (drop (headerLength (rowOf chip)) (drop leafStart s)))
-  unfolding newest
+  unfolding newestIn
   blocks-are = ap₂ (cut (rowOf chip)) count-is rest-is
 
   end-is : leafEnd l chip s ≡ leafStart + (headerLength (rowOf chip) + sizes (rowOf chip) (blocksFor s (newest l chip)))
@@ -303,19 +305,20 @@ pub record Accepted (l : Layout) (chip : ℕ) (s : List ℕ) : Type 0 where
   pub id : byteAt s 16 ≡ idCrc s
   pub reserved : byteAt s (reservedAt s) ≡ 0
   pub known-chip : isIn chip chips ≡ true
-  pub blocks : firstMet (blockCauses (rowOf chip) newestLevel (blocksFor s (newest l chip))) ≡ 0
+  pub blocks : firstMet (blockCauses laterVersion (rowOf chip) newestLevel (blocksFor s (newest l chip))) ≡ 0
 
 third : (p q r : Bool) → (p || q || r) ≡ false → r ≡ false
 third true q r e = true-false e
 third false true r e = true-false e
 third false false r e = e
 
-pub accepted : (l : Layout) (chip : ℕ) (s : List ℕ) → firstMet (judgeCauses s (newest l chip)) ≡ 0 → Accepted l chip s
-unfolding judgeCauses headerCauses imageCauses argumentCauses badCount leafCausesFor newest
-accepted l chip s h =
-    let j = both-accepted (headerCauses s (newest l chip)) _ (header-numbered s (newest l chip)) h in
+pub accepted : (l : Layout) (edition : Bool) (chip : ℕ) (s : List ℕ) → firstMet (judgeCauses s (newestIn l edition chip)) ≡ 0
+    → Accepted l chip s
+unfolding judgeCauses headerCauses imageCauses argumentCauses badCount leafCausesFor newestIn
+accepted l edition chip s h =
+    let j = both-accepted (headerCauses s (newestIn l edition chip)) _ (header-numbered s (newestIn l edition chip)) h in
     let i = both-accepted (imageCauses l s) _ (image-numbered l s) (j .0) in
-    let g = both-accepted (argumentCauses s (newest l chip)) _ (argument-numbered s (newest l chip)) (i .1) in
+    let g = both-accepted (argumentCauses s (newestIn l edition chip)) _ (argument-numbered s (newestIn l edition chip)) (i .1) in
     let a = none-here _ _ (lit< tt) (i .0) in
     let b = none-here _ _ (lit< tt) (a .1) in
     let c = none-here _ _ (lit< tt) (b .1) in
@@ -331,7 +334,7 @@ accepted l chip s h =
       id = eqb-true _ _ (not-false _ (d .0));
       reserved = eqb-true _ _ (not-false _ (third (eqb (controllerCount s) 0) (ltb (mostControllers l) (controllerCount s)) _ (e .0)));
       known-chip = not-false _ (n .0);
-      blocks = accepted-blocks (rowOf chip) newestLevel (blocksFor s (newest l chip)) (j .1);
+      blocks = accepted-blocks (isFirstVersion s) (rowOf chip) newestLevel (blocksFor s (newestIn l edition chip)) (j .1);
     }
 
 -- ## What tidiness adds
@@ -419,7 +422,7 @@ module _ (l : Layout) (chip : ℕ) (s : List ℕ) (by : Bytes s) (a : Accepted l
       e ∙ take-take used (room l - headerLength (rowOf chip)) _ (omega (arith, used-fits))
 
   means-count : length (imageFrom l chip s .entries) ≡ byteAt (drop leafStart s) (headerLength (rowOf chip) - 1)
-  unfolding imageFrom newest
+  unfolding imageFrom newestIn
   means-count =
       entries-length (rowOf chip) (countFor s (newest l chip)) (restFrom l s (startFor s (newest l chip))) ∙ count-is l chip s (t .leaf)
 

@@ -1,8 +1,8 @@
--- What is promised of the writer, the sheet maker and the converters together (demand 2; document 02, request 7), and that
+-- What is promised of the writer, the sheet maker and the converters together (demand 2; document 02, requests 7 and 12), and that
 -- their refusals are exact (demand 1).
 use Prim.Native.Nat.{ℕ, _+_, _≤_, _<_}
 use mathlib.Core.Path.{_≡_}
-use mathlib.Core.Bool.{true, false}
+use mathlib.Core.Bool.{Bool, true, false}
 use mathlib.Core.List.{List}
 use lib.ListN.{length, take, drop}
 use lib.Dec.{eqb}
@@ -17,7 +17,7 @@ use Rattle.sheet.specs.declared.Form.the-variants.{Narrow, Wide}
 use Rattle.sheet.specs.Lists.{over}
 use Rattle.sheet.specs.Form.{other, isBeyond, shift, countIn, totalIn}
 use Rattle.sheet.specs.Sheet.{chipIn, sheetFrom, isSheet}
-use Rattle.sheet.specs.Image.{isTidy, newest}
+use Rattle.sheet.specs.Image.{isTidy, newestIn}
 use Rattle.sheet.specs.Write.{cannotHold, tooManyBlocks, wrongOutput, writeCauses, writeNumber, written}
 use Rattle.sheet.specs.Make.{sheetFor, makeCauses, makeNumber, makeLength, made, madeFor}
 use Rattle.sheet.specs.Convert.{converted, tooLarge, convertCauses, convertNumber, convertLength, convertedIn, convertedFor}
@@ -28,17 +28,18 @@ use Rattle.sheet.specs.Convert.{converted, tooLarge, convertCauses, conv
 -- that sheet, byte for byte and in length; the buffer's bytes past it are unchanged
 abbrev pub SheetReturns : Type 0
 SheetReturns =
-    (form : Form) (l : Layout) (sheet out buffer : List ℕ) → Bytes sheet → writeNumber form l sheet out ≡ 0
+    (form : Form) (l : Layout) (edition : Bool) (sheet out buffer : List ℕ) → Bytes sheet → writeNumber form l edition sheet out ≡ 0
     → length sheet ≤ length buffer
-    → (makeNumber form l (written form l sheet out) (chipIn form sheet) (length buffer) ≡ 0)
-    × (makeLength form l (written form l sheet out) (chipIn form sheet) (length buffer) ≡ length sheet)
-    × (made form l (written form l sheet out) (chipIn form sheet) buffer ≡ over buffer sheet)
+    → (makeNumber form l edition (written form l edition sheet out) (chipIn form sheet) (length buffer) ≡ 0)
+    × (makeLength form l edition (written form l edition sheet out) (chipIn form sheet) (length buffer) ≡ length sheet)
+    × (made form l edition (written form l edition sheet out) (chipIn form sheet) buffer ≡ over buffer sheet)
 
 -- ## Image, sheet, image
 
 -- what the sheet maker leaves at the buffer's front
-abbrev pub sheetMade : Form → Layout → List ℕ → ℕ → List ℕ → List ℕ
-sheetMade form l image chip buffer = take (makeLength form l image chip (length buffer)) (made form l image chip buffer)
+abbrev pub sheetMade : Form → Layout → Bool → List ℕ → ℕ → List ℕ → List ℕ
+sheetMade form l edition image chip buffer =
+    take (makeLength form l edition image chip (length buffer)) (made form l edition image chip buffer)
 
 -- where there is a Magic Packet block, two images have the same
 abbrev pub SameBlock : Layout → List ℕ → List ℕ → Type 0
@@ -48,12 +49,12 @@ SameBlock l s t = l .magic ≡ true → drop (magicAt (l .size)) s ≡ drop (mag
 -- long enough and written over an output that already holds its Magic Packet block, if it has one, is that image byte for byte
 abbrev pub ImageReturns : Type 0
 ImageReturns =
-    (form : Form) (l : Layout) (image out buffer : List ℕ) (chip : ℕ) → isBeyond form (l .size) ≡ false
-    → Bytes image → firstMet (judgeCauses image (newest l chip)) ≡ 0 → isTidy l chip image ≡ true
+    (form : Form) (l : Layout) (edition : Bool) (image out buffer : List ℕ) (chip : ℕ) → isBeyond form (l .size) ≡ false
+    → Bytes image → firstMet (judgeCauses image (newestIn l edition chip)) ≡ 0 → isTidy l chip image ≡ true
     → length (sheetFor form l image chip) ≤ length buffer → length out ≡ imageLength (l .size) → SameBlock l out image
-    → (makeNumber form l image chip (length buffer) ≡ 0)
-    × (writeNumber form l (sheetMade form l image chip buffer) out ≡ 0)
-    × (written form l (sheetMade form l image chip buffer) out ≡ image)
+    → (makeNumber form l edition image chip (length buffer) ≡ 0)
+    × (writeNumber form l edition (sheetMade form l edition image chip buffer) out ≡ 0)
+    × (written form l edition (sheetMade form l edition image chip buffer) out ≡ image)
 
 -- ## Narrow, wide, narrow; wide, narrow, wide
 
@@ -89,18 +90,19 @@ ConversionMeans =
 -- an image of the smaller size is written alike from a sheet and from that sheet converted
 abbrev pub WrittenAlike : Type 0
 WrittenAlike =
-    (from : Form) (l : Layout) (sheet first out : List ℕ) → Bytes sheet → convertNumber from sheet (length first) ≡ 0
+    (from : Form) (l : Layout) (edition : Bool) (sheet first out : List ℕ) → Bytes sheet → convertNumber from sheet (length first) ≡ 0
     → l .size ≡ smallSize
-    → (writeNumber (other from) l (sheetConverted from sheet first) out ≡ writeNumber from l sheet out)
-    × (written (other from) l (sheetConverted from sheet first) out ≡ written from l sheet out)
+    → (writeNumber (other from) l edition (sheetConverted from sheet first) out ≡ writeNumber from l edition sheet out)
+    × (written (other from) l edition (sheetConverted from sheet first) out ≡ written from l edition sheet out)
 
 -- making the wide sheet of an image that has a narrow one is widening that one: answer and buffer are the same
 abbrev pub MadeAlike : Type 0
 MadeAlike =
-    (l : Layout) (image : List ℕ) (chip : ℕ) (first buffer : List ℕ) → Bytes image
-    → makeNumber Narrow l image chip (length first) ≡ 0
-    → (madeFor Wide l image chip (length buffer) ≡ convertedFor Narrow (sheetMade Narrow l image chip first) (length buffer))
-    × (made Wide l image chip buffer ≡ convertedIn Narrow (sheetMade Narrow l image chip first) buffer)
+    (l : Layout) (edition : Bool) (image : List ℕ) (chip : ℕ) (first buffer : List ℕ) → Bytes image
+    → makeNumber Narrow l edition image chip (length first) ≡ 0
+    → (madeFor Wide l edition image chip (length buffer)
+    ≡ convertedFor Narrow (sheetMade Narrow l edition image chip first) (length buffer))
+    × (made Wide l edition image chip buffer ≡ convertedIn Narrow (sheetMade Narrow l edition image chip first) buffer)
 
 -- ## The longest sheets
 
@@ -112,8 +114,8 @@ longestSheet form size = shift form + pick (eqb size largeSize) 1270 398
 -- a buffer of so many bytes is long enough
 abbrev pub SheetFits : Type 0
 SheetFits =
-    (form : Form) (l : Layout) (image : List ℕ) (chip : ℕ) → isBeyond form (l .size) ≡ false
-    → Bytes image → firstMet (judgeCauses image (newest l chip)) ≡ 0 → isTidy l chip image ≡ true
+    (form : Form) (l : Layout) (edition : Bool) (image : List ℕ) (chip : ℕ) → isBeyond form (l .size) ≡ false
+    → Bytes image → firstMet (judgeCauses image (newestIn l edition chip)) ≡ 0 → isTidy l chip image ≡ true
     → length (sheetFor form l image chip) ≤ longestSheet form (l .size)
 
 -- ## What is written
@@ -121,13 +123,13 @@ SheetFits =
 -- an accepted sheet's image is tidy and accepted by the newest reader
 abbrev pub WrittenIsTidy : Type 0
 WrittenIsTidy =
-    (form : Form) (l : Layout) (sheet out : List ℕ) → writeNumber form l sheet out ≡ 0
-    → (isTidy l (chipIn form sheet) (written form l sheet out) ≡ true)
-    × (firstMet (judgeCauses (written form l sheet out) (newest l (chipIn form sheet))) ≡ 0)
+    (form : Form) (l : Layout) (edition : Bool) (sheet out : List ℕ) → writeNumber form l edition sheet out ≡ 0
+    → (isTidy l (chipIn form sheet) (written form l edition sheet out) ≡ true)
+    × (firstMet (judgeCauses (written form l edition sheet out) (newestIn l edition (chipIn form sheet))) ≡ 0)
 
 -- told of a Magic Packet block, the writer keeps that of its output, whatever the sheet
 abbrev pub WriterKeepsBlock : Type 0
-WriterKeepsBlock = (form : Form) (l : Layout) (sheet out : List ℕ) → SameBlock l (written form l sheet out) out
+WriterKeepsBlock = (form : Form) (l : Layout) (edition : Bool) (sheet out : List ℕ) → SameBlock l (written form l edition sheet out) out
 
 -- ## Refusals
 
@@ -135,22 +137,24 @@ WriterKeepsBlock = (form : Form) (l : Layout) (sheet out : List ℕ) → SameBlo
 abbrev pub ExactRefusals : Type 0
 ExactRefusals =
     (form : Form)
-    → ((l : Layout) (sheet out : List ℕ) → Exact (writeCauses form l sheet out) (writeNumber form l sheet out))
-    × ((l : Layout) (image : List ℕ) (chip room : ℕ) → Exact (makeCauses form l image chip room) (makeNumber form l image chip room))
+    → ((l : Layout) (edition : Bool) (sheet out : List ℕ)
+    → Exact (writeCauses form l edition sheet out) (writeNumber form l edition sheet out))
+    × ((l : Layout) (edition : Bool) (image : List ℕ) (chip room : ℕ)
+    → Exact (makeCauses form l edition image chip room) (makeNumber form l edition image chip room))
     × ((sheet : List ℕ) (room : ℕ) → Exact (convertCauses form sheet room) (convertNumber form sheet room))
 
 -- the writer tries 24, then 33, then 1, then 7, then 25: each is its number whatever else of what comes later is met
 abbrev pub WriterOrder : Type 0
 WriterOrder =
-    (form : Form) (l : Layout) (sheet out : List ℕ)
-    → (isSheet form sheet ≡ false → writeNumber form l sheet out ≡ 24)
+    (form : Form) (l : Layout) (edition : Bool) (sheet out : List ℕ)
+    → (isSheet form sheet ≡ false → writeNumber form l edition sheet out ≡ 24)
     × (isSheet form sheet ≡ true
-    → (tooManyBlocks form sheet ≡ true → writeNumber form l sheet out ≡ 33)
+    → (tooManyBlocks form sheet ≡ true → writeNumber form l edition sheet out ≡ 33)
     × (tooManyBlocks form sheet ≡ false
-    → (wrongOutput form l (length out) ≡ true → writeNumber form l sheet out ≡ 1)
+    → (wrongOutput form l (length out) ≡ true → writeNumber form l edition sheet out ≡ 1)
     × (wrongOutput form l (length out) ≡ false
-    → (isIn (chipIn form sheet) chips ≡ false → writeNumber form l sheet out ≡ 7)
-    × (isIn (chipIn form sheet) chips ≡ true → cannotHold (sheetFrom form sheet) ≡ true → writeNumber form l sheet out ≡ 25))))
+    → (isIn (chipIn form sheet) chips ≡ false → writeNumber form l edition sheet out ≡ 7)
+    × (isIn (chipIn form sheet) chips ≡ true → cannotHold (sheetFrom form sheet) ≡ true → writeNumber form l edition sheet out ≡ 25))))
 
 -- and a converter 24, then 33, then 12
 abbrev pub ConverterOrder : Type 0
@@ -167,28 +171,29 @@ ConverterOrder =
 -- by the converter alone, T
 abbrev pub TooLargeExactly : Type 0
 TooLargeExactly =
-    ((l : Layout) (sheet out : List ℕ) (room : ℕ)
-    → (writeNumber Narrow l sheet out ≡ 33 → ⊥) × (convertNumber Narrow sheet room ≡ 33 → ⊥))
-    × ((l : Layout) (sheet out : List ℕ) (room : ℕ) → isSheet Wide sheet ≡ true
-    → (255 < countIn Wide sheet → (writeNumber Wide l sheet out ≡ 33) × (convertNumber Wide sheet room ≡ 33))
+    ((l : Layout) (edition : Bool) (sheet out : List ℕ) (room : ℕ)
+    → (writeNumber Narrow l edition sheet out ≡ 33 → ⊥) × (convertNumber Narrow sheet room ≡ 33 → ⊥))
+    × ((l : Layout) (edition : Bool) (sheet out : List ℕ) (room : ℕ) → isSheet Wide sheet ≡ true
+    → (255 < countIn Wide sheet → (writeNumber Wide l edition sheet out ≡ 33) × (convertNumber Wide sheet room ≡ 33))
     × (countIn Wide sheet ≤ 255
-    → (writeNumber Wide l sheet out ≡ 33 → ⊥)
+    → (writeNumber Wide l edition sheet out ≡ 33 → ⊥)
     × (255 < totalIn Wide sheet → convertNumber Wide sheet room ≡ 33)
     × (totalIn Wide sheet ≤ 255 → convertNumber Wide sheet room ≡ 33 → ⊥)))
 
 -- the narrow form gets 1 for any stated size but 128
 abbrev pub NarrowKeeps : Type 0
 NarrowKeeps =
-    (l : Layout) → (l .size ≡ smallSize → ⊥)
-    → ((sheet out : List ℕ) → isSheet Narrow sheet ≡ true → writeNumber Narrow l sheet out ≡ 1)
-    × ((image : List ℕ) (chip room : ℕ) → makeNumber Narrow l image chip room ≡ 1)
+    (l : Layout) (edition : Bool) → (l .size ≡ smallSize → ⊥)
+    → ((sheet out : List ℕ) → isSheet Narrow sheet ≡ true → writeNumber Narrow l edition sheet out ≡ 1)
+    × ((image : List ℕ) (chip room : ℕ) → makeNumber Narrow l edition image chip room ≡ 1)
 
 -- a refusal leaves what was lent as it was, and answers no length
 abbrev pub RefusalsChangeNothing : Type 0
 RefusalsChangeNothing =
     (form : Form)
-    → ((l : Layout) (sheet out : List ℕ) → (writeNumber form l sheet out ≡ 0 → ⊥) → written form l sheet out ≡ out)
-    × ((l : Layout) (image buffer : List ℕ) (chip : ℕ) → (makeNumber form l image chip (length buffer) ≡ 0 → ⊥)
-    → (makeLength form l image chip (length buffer) ≡ 0) × (made form l image chip buffer ≡ buffer))
+    → ((l : Layout) (edition : Bool) (sheet out : List ℕ) → (writeNumber form l edition sheet out ≡ 0 → ⊥)
+    → written form l edition sheet out ≡ out)
+    × ((l : Layout) (edition : Bool) (image buffer : List ℕ) (chip : ℕ) → (makeNumber form l edition image chip (length buffer) ≡ 0 → ⊥)
+    → (makeLength form l edition image chip (length buffer) ≡ 0) × (made form l edition image chip buffer ≡ buffer))
     × ((sheet buffer : List ℕ) → (convertNumber form sheet (length buffer) ≡ 0 → ⊥)
     → (convertLength form sheet (length buffer) ≡ 0) × (convertedIn form sheet buffer ≡ buffer))

@@ -1,5 +1,5 @@
 -- The image of a record, what an image means for a chip, and when it is tidy (document 01, 'The sheet', 'The image'; document
--- 02, request 1).
+-- 02, requests 1 and 12).
 use Prim.Native.Nat.{ℕ, _+_, _-_}
 use mathlib.Core.List.{List, [], _∷_, _++_, map}
 use mathlib.Core.Bool.{Bool, _&&_, _||_}
@@ -10,7 +10,7 @@ use Rattle.rom.specs.Geometry.{boardLength, leavesEnd, versionAt, addressAt, co
 use Rattle.rom.specs.Bytes.{pick, byteAt, wordAt, allZero}
 use Rattle.rom.specs.Store.{wordBytes}
 use Rattle.crc.specs.Crc.{sromCrc, idCrc}
-use Rattle.format.specs.Chips.{rowOf, row21140, kindCompact, kind21041, newestLevel}
+use Rattle.format.specs.Chips.{rowOf, row21140, kindCompact, kind21041, newestLevel, laterEdition}
 use Rattle.format.specs.Block.{isExtended, sizeOf, kindOf}
 use Rattle.header.specs.declared.Arguments.{Arguments}
 use Rattle.header.specs.Image.{controllerCount, leafAt, controlByte}
@@ -73,9 +73,14 @@ imageOf l p out = boardOf l p ++ drop (boardLength l) out
 
 -- ## What an image means for a chip
 
--- the newest level and controller 0
-unfoldable pub newest : Layout → ℕ → Arguments
-newest l chip = record { chip = chip; controller = 0; level = newestLevel; layout = l }
+-- the newest level and controller 0, and whether an image of version 1 is of edition 1.00
+unfoldable pub newestIn : Layout → Bool → ℕ → Arguments
+newestIn l edition chip =
+    record { chip = chip; controller = 0; level = newestLevel; layout = l; «first_edition» = edition }
+
+-- what an image means is the same in both editions
+abbrev pub newest : Layout → ℕ → Arguments
+newest l chip = newestIn l laterEdition chip
 
 -- how many bytes of a block stand before its body: length and type
 unfoldable pub openingLength : ℕ → List ℕ → ℕ

@@ -15,7 +15,7 @@ use Rattle.sheet.specs.declared.Form.{Form}
 use Rattle.sheet.specs.Form.{isWide, isBeyond, countIn}
 use Rattle.sheet.specs.Record.{Entry, Plain}
 use Rattle.sheet.specs.Sheet.{sheetFrom, isSheet}
-use Rattle.sheet.specs.Image.{leafStart, leafOf, imageOf, newest}
+use Rattle.sheet.specs.Image.{leafStart, leafOf, imageOf, newestIn}
 
 -- ## What no image of the chip can hold (25)
 
@@ -63,18 +63,18 @@ tooManyBlocks form sheet = isWide form && ltb 255 (countIn form sheet)
 unfoldable pub wrongOutput : Form → Layout → ℕ → Bool
 wrongOutput form l n = isBeyond form (l .size) || wrongLength (l .size) n
 
--- for an output; last the newest reader's, 12 apart, for controller 0 of the image to be written
-unfoldable pub writeCauses : Form → Layout → List ℕ → List ℕ → List Cause
-writeCauses form l sheet out =
+-- for an edition and an output; last the newest reader's, 12 apart, for controller 0 of the image to be written
+unfoldable pub writeCauses : Form → Layout → Bool → List ℕ → List ℕ → List Cause
+writeCauses form l edition sheet out =
     (24 ⇒ not (isSheet form sheet))
     ∷ (33 ⇒ tooManyBlocks form sheet)
     ∷ (1 ⇒ wrongOutput form l (length out))
     ∷ (recordCauses l (sheetFrom form sheet)
-    ++ judgeCauses (imageOf l (sheetFrom form sheet) out) (newest l (sheetFrom form sheet .chip)))
+    ++ judgeCauses (imageOf l (sheetFrom form sheet) out) (newestIn l edition (sheetFrom form sheet .chip)))
 
-unfoldable pub writeNumber : Form → Layout → List ℕ → List ℕ → ℕ
-writeNumber form l sheet out = firstMet (writeCauses form l sheet out)
+unfoldable pub writeNumber : Form → Layout → Bool → List ℕ → List ℕ → ℕ
+writeNumber form l edition sheet out = firstMet (writeCauses form l edition sheet out)
 
 -- the output after the call: the new image, or unchanged on a refusal
-unfoldable pub written : Form → Layout → List ℕ → List ℕ → List ℕ
-written form l sheet out = pick (eqb (writeNumber form l sheet out) 0) (imageOf l (sheetFrom form sheet) out) out
+unfoldable pub written : Form → Layout → Bool → List ℕ → List ℕ → List ℕ
+written form l edition sheet out = pick (eqb (writeNumber form l edition sheet out) 0) (imageOf l (sheetFrom form sheet) out) out

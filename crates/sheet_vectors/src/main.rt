@@ -2,7 +2,7 @@
 // refusal; of an output that is refused for its size a sheet is asked too. A record is words, the sheet's length, the stated
 // size, the length of the buffer for a sheet and the chip; then bytes, the form (1 wide, 0 narrow), the call (1 converted, 0
 // written), the layout (1 with a Magic Packet block, 0 without), whether the output has the larger size (1) or the smaller (0),
-// and the block that it holds before; then the sheet's bytes.
+// the edition (1 for 1.00, 0 for 1.01), and the block that the output holds before; then the sheet's bytes.
 use libc::STDIN_FILENO;
 use libc::STDOUT_FILENO;
 use rom::ByteOffset;
@@ -13,7 +13,7 @@ use sheet::Made;
 use text::slice::part;
 
 // The bytes of a record before the block.
-const BLOCK_AT: usize = 12;
+const BLOCK_AT: usize = 13;
 
 // The bytes of a record before the sheet's.
 const HEAD: usize = BLOCK_AT + rom::MAGIC_LENGTH;
@@ -25,6 +25,7 @@ struct Record {
     is_converted: bool,
     layout: Layout,
     is_large: bool,
+    first_edition: bool,
     room: usize,
 }
 
@@ -64,7 +65,7 @@ fn convert(sheet: &[u8], form: Form, buffer: &mut [u8]) -> Made {
 // The sheet written to an image of a size, and the sheet of that image again.
 fn print_written(sheet: &[u8], record: Record, image: &mut [u8], buffer: &mut [u8]) {
     let form = record.form;
-    let number = writer::write(sheet, form, record.layout, image);
+    let number = writer::write(sheet, form, record.layout, record.first_edition, image);
     if number != rom::refusal::ACCEPTED {
         print_refusal(number);
         if number != rom::refusal::IMAGE_LENGTH {
@@ -73,7 +74,14 @@ fn print_written(sheet: &[u8], record: Record, image: &mut [u8], buffer: &mut [u
     } else {
         print_line(image);
     }
-    let made = maker::make(image, record.chip, form, record.layout, buffer);
+    let made = maker::make(
+        image,
+        record.chip,
+        form,
+        record.layout,
+        record.first_edition,
+        buffer,
+    );
     print_made(buffer, made);
 }
 
@@ -123,6 +131,7 @@ fn record_of(head: &[u8]) -> Record {
         is_converted: rom::byte_at(head, ByteOffset(9)) == 1,
         layout,
         is_large: rom::byte_at(head, ByteOffset(11)) == 1,
+        first_edition: rom::byte_at(head, ByteOffset(12)) == 1,
         room: rom::word_at(head, ByteOffset(4)) as usize,
     }
 }

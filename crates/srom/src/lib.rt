@@ -119,11 +119,17 @@ pub extern "C" fn srom_write_magic(magic: Magic, image: &mut [u8], size: u16) ->
 
 // Writes the image of a sheet.
 #[no_mangle]
-pub extern "C" fn srom_write(sheet: &[u8], wide: bool, layout: Layout, image: &mut [u8]) -> u8
-    ensures { λ r. ⌜ r ≡ writeNumber (formNamed wide) layout (now (sheet .entry)) (now (image .entry)) ⌝ }
-    ensures { λ r. ⌜ now (image .exit) ≡ written (formNamed wide) layout (now (sheet .entry)) (now (image .entry)) ⌝ }
+pub extern "C" fn srom_write(
+    sheet: &[u8],
+    wide: bool,
+    layout: Layout,
+    first_edition: bool,
+    image: &mut [u8],
+) -> u8
+    ensures { λ r. ⌜ r ≡ writeNumber (formNamed wide) layout «first_edition» (now (sheet .entry)) (now (image .entry)) ⌝ }
+    ensures { λ r. ⌜ now (image .exit) ≡ written (formNamed wide) layout «first_edition» (now (sheet .entry)) (now (image .entry)) ⌝ }
 {
-    writer::write(sheet, forms::form_of(wide), layout, image)
+    writer::write(sheet, forms::form_of(wide), layout, first_edition, image)
 }
 
 // Makes the sheet of a tidy image.
@@ -133,12 +139,20 @@ pub extern "C" fn srom_make_sheet(
     chip: u16,
     wide: bool,
     layout: Layout,
+    first_edition: bool,
     buffer: &mut [u8],
 ) -> Made
-    ensures { λ r. ⌜ r ≡ madeFor (formNamed wide) layout (now (image .entry)) chip (length (now (buffer .entry))) ⌝ }
-    ensures { λ r. ⌜ now (buffer .exit) ≡ made (formNamed wide) layout (now (image .entry)) chip (now (buffer .entry)) ⌝ }
+    ensures { λ r. ⌜ r ≡ madeFor (formNamed wide) layout «first_edition» (now (image .entry)) chip (length (now (buffer .entry))) ⌝ }
+    ensures { λ r. ⌜ now (buffer .exit) ≡ made (formNamed wide) layout «first_edition» (now (image .entry)) chip (now (buffer .entry)) ⌝ }
 {
-    maker::make(image, chip, forms::form_of(wide), layout, buffer)
+    maker::make(
+        image,
+        chip,
+        forms::form_of(wide),
+        layout,
+        first_edition,
+        buffer,
+    )
 }
 
 // Makes a narrow sheet wide.

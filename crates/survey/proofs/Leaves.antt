@@ -2,14 +2,14 @@
 use Prim.Native.Nat.{ℕ, _≤_, _<_}
 use mathlib.Core.List.{List}
 use mathlib.Core.Path.{_≡_, ap, sym, _∙_}
-use mathlib.Core.Bool.{false}
+use mathlib.Core.Bool.{Bool, false}
 use borrow.Author.Tests.{ne-eqb, lt-ltb, le-ltb}
 use Rattle.rom.specs.Geometry.{none}
 use Rattle.rom.specs.Bytes.{pick}
 use Rattle.rom.specs.Refusal.{firstMet}
 use Rattle.header.specs.declared.Arguments.{Arguments}
 use Rattle.header.specs.declared.Header.{Header}
-use Rattle.header.specs.Image.{restFrom}
+use Rattle.header.specs.Image.{isFirstVersion, restFrom}
 use Rattle.header.specs.Header.{rowFor, startFor, countFor, headerCauses, foundHeader, headerFor}
 use Rattle.header.proofs.Headers.{read-number, no-refusal, read-found, read-count}
 use Rattle.leaf.specs.Leaf.{cut, firstFrom, placeByStepping}
@@ -55,7 +55,7 @@ module _ (image : List ℕ) (a : Arguments) (h : Header) (eh : h ≡ headerFor i
         let placed = placed-stepping (rowFor a) (startFor image a) (countFor image a) k s _ (rw count at l) in
         simp (accepted, lt-ltb k (countFor image a) (rw count at l)) (rw (e, found) (ap (placeAt (rowFor a)) (sym placed)))
 
-    pub leaf-refused : (rest : List ℕ) → rest ≡ restFrom (a .layout) image (h .start)
-        → firstFrom (isRefused (h .row) (a .level)) 0 (cut (h .row) (h .blocks) rest) ≡ refusedFor image a
+    pub leaf-refused : (rest : List ℕ) → rest ≡ restFrom (a .layout) image (h .start) → {first : Bool} → first ≡ isFirstVersion image
+        → firstFrom (isRefused first (h .row) (a .level)) 0 (cut (h .row) (h .blocks) rest) ≡ refusedFor image a
     unfolding refusedFor foundHeader pick
-    leaf-refused rest e = rw (e, found, accepted)
+    leaf-refused rest e ef = rw (e, ef, found, accepted)

@@ -3,6 +3,7 @@
 use Prim.Native.Nat.{ℕ, _+_, _-_, _≤_, _<_}
 use native.Mathlib.Omega.{arith}
 use mathlib.Core.List.{List, _∷_}
+use mathlib.Core.Bool.{Bool}
 use mathlib.Core.Path.{_≡_, sym, ap, _∙_}
 use lib.ListN.{length, take, drop, drop-of-length-le}
 use lib.Seq.{drop-length}
@@ -10,11 +11,12 @@ use borrow.Author.Tests.{eq-eqb, ne-eqb}
 use Rattle.rom.specs.Geometry.{none}
 use Rattle.rom.specs.Bytes.{pick}
 use Rattle.block.specs.declared.Block.{Block}
-use Rattle.format.specs.Block.{sizeOf, kindOf, refusalOf}
-use Rattle.block.specs.Answer.{blockOf, numberOf, sizeIn}
-use Rattle.block.proofs.Seen.{Seen, seen, seen-number, seen-size}
+use Rattle.format.specs.Block.{sizeOf, kindOf, refusalIn}
+use Rattle.block.specs.Answer.{blockIn, numberOf, sizeIn}
+use Rattle.block.proofs.Seen.{Seen, seen, seen-size}
+use Rattle.block.proofs.Versions.{answers-first, found-later}
 use Rattle.leaf.specs.Leaf.{cut, firstFrom, placeByStepping}
-use Rattle.leaf.proofs.Cuts.{cut-more, cut-none, rest-part}
+use Rattle.leaf.proofs.Cuts.{cut-more, cut-none, rest-part, size-fits}
 use Rattle.leaf.proofs.Stepping.{Stands}
 use Rattle.survey.specs.Survey.{placeAt, isRefused}
 
@@ -34,28 +36,36 @@ find-done row first number s e ek ez et = rw (ez, et, ← ek) (ap (placeAt row) 
 
 -- ## The first block that is refused
 
-module _ (row level : ℕ) (s : List ℕ) (bs : List (List ℕ)) (k : ℕ) where
-  pub first-here : (refusalOf row level s ≡ 0 → ⊥) → firstFrom (isRefused row level) k (s ∷ bs) ≡ k
+module _ (first : Bool) (row level : ℕ) (s : List ℕ) (bs : List (List ℕ)) (k : ℕ) where
+  pub first-here : (refusalIn first row level s ≡ 0 → ⊥) → firstFrom (isRefused first row level) k (s ∷ bs) ≡ k
   unfolding firstFrom isRefused pick
-  first-here n = simp (ne-eqb (refusalOf row level s) 0 n)
+  first-here n = simp (ne-eqb (refusalIn first row level s) 0 n)
 
-  pub first-later : refusalOf row level s ≡ 0
-      → firstFrom (isRefused row level) k (s ∷ bs) ≡ firstFrom (isRefused row level) (k + 1) bs
+  pub first-later : refusalIn first row level s ≡ 0
+      → firstFrom (isRefused first row level) k (s ∷ bs) ≡ firstFrom (isRefused first row level) (k + 1) bs
   unfolding firstFrom isRefused pick
-  first-later e = simp (eq-eqb (refusalOf row level s) 0 e)
+  first-later e = simp (eq-eqb (refusalIn first row level s) 0 e)
+
+-- an accepted block lies in the rest
+pub refused-fits : (first : Bool) (row level : ℕ) (s : List ℕ) {b : Block} {n z : ℕ} → b ≡ blockIn first row level s → n ≡ numberOf b
+    → n ≡ 0
+    → z ≡ sizeIn b → z ≤ length s
+refused-fits first row level s eb en e ez = size-fits row level s (found-later first row level s eb en e) en e ez
 
 -- The steps of `first_refused` in its own terms: b is what the next block is found to be, n its number, z its size.
-module _ (row level count : ℕ) (s : List ℕ) {k whole : ℕ} (inv : firstFrom (isRefused row level) k (cut row (count - k) s) ≡ whole) where
-  pub refused-here : {b : Block} {n : ℕ} → k < count → b ≡ blockOf row level s → n ≡ numberOf b → (n ≡ 0 → ⊥) → k ≡ whole
+module _ (first : Bool) (row level count : ℕ) (s : List ℕ) {k whole : ℕ}
+    (inv : firstFrom (isRefused first row level) k (cut row (count - k) s) ≡ whole) where
+  pub refused-here : {b : Block} {n : ℕ} → k < count → b ≡ blockIn first row level s → n ≡ numberOf b → (n ≡ 0 → ⊥) → k ≡ whole
   refused-here {b} {n} h eb en ne =
-      let v : Seen row level s b = rw eb (seen row level s) in
-      sym (first-here row level s _ k (λ e. ne (en ∙ seen-number v ∙ e))) ∙ (rw cut-more at inv)
+      let number = ap numberOf eb ∙ answers-first first row level s .0 in
+      sym (first-here first row level s _ k (λ e. ne (en ∙ number ∙ e))) ∙ (rw cut-more at inv)
 
-  pub refused-later : {b : Block} {n z : ℕ} → k < count → b ≡ blockOf row level s → n ≡ numberOf b → n ≡ 0 → z ≡ sizeIn b
-      → firstFrom (isRefused row level) (k + 1) (cut row (count - (k + 1)) (take (length s - z) (drop z s))) ≡ whole
+  pub refused-later : {b : Block} {n z : ℕ} → k < count → b ≡ blockIn first row level s → n ≡ numberOf b → n ≡ 0 → z ≡ sizeIn b
+      → firstFrom (isRefused first row level) (k + 1) (cut row (count - (k + 1)) (take (length s - z) (drop z s))) ≡ whole
   refused-later {b} {n} {z} h eb en e ez =
-      let v : Seen row level s b = rw eb (seen row level s) in
-      let f = first-later row level s _ k (sym (seen-number v) ∙ sym en ∙ e) in
+      let v : Seen row level s b = rw (found-later first row level s eb en e) (seen row level s) in
+      let number = ap numberOf eb ∙ answers-first first row level s .0 in
+      let f = first-later first row level s _ k (sym number ∙ sym en ∙ e) in
       rw (rest-part, ez, seen-size v (sym en ∙ e)) (sym f ∙ (rw cut-more at inv))
 
   pub refused-nowhere : count ≤ k → none ≡ whole

@@ -8,8 +8,9 @@ use lib.ListN.{getD}
 use Rattle.rom.specs.Geometry.{none}
 use Rattle.rom.specs.Bytes.{pick}
 use Rattle.rom.specs.Refusal.{firstMet}
-use Rattle.format.specs.Block.{sizeOf, kindOf, refusalOf}
+use Rattle.format.specs.Block.{sizeOf, kindOf, refusalIn}
 use Rattle.header.specs.declared.Arguments.{Arguments}
+use Rattle.header.specs.Image.{isFirstVersion}
 use Rattle.header.specs.Header.{rowFor, startFor, countFor, headerCauses}
 use Rattle.leaf.specs.Leaf.{firstFrom, placed, Place as Standing}
 use Rattle.reader.specs.Reading.{blocksFor}
@@ -36,9 +37,10 @@ placeFor image a k = pick (hasLeaf image a && ltb k (countFor image a)) (placeAt
 
 -- ## Which block is refused
 
-unfoldable pub isRefused : ℕ → ℕ → List ℕ → Bool
-isRefused row level s = not (eqb (refusalOf row level s) 0)
+-- `first` is whether the image is of version 1
+unfoldable pub isRefused : Bool → ℕ → ℕ → List ℕ → Bool
+isRefused first row level s = not (eqb (refusalIn first row level s) 0)
 
 -- the first one's number, none where none is
 unfoldable pub refusedFor : List ℕ → Arguments → ℕ
-refusedFor image a = pick (hasLeaf image a) (firstFrom (isRefused (rowFor a) (a .level)) 0 (blocksFor image a)) none
+refusedFor image a = pick (hasLeaf image a) (firstFrom (isRefused (isFirstVersion image) (rowFor a) (a .level)) 0 (blocksFor image a)) none

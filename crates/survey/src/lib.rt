@@ -78,13 +78,13 @@ pub fn block_place(image: &[u8], arguments: Arguments, number: u8) -> Place
 }
 
 // The number of the first block of a leaf that a reader of a level refuses.
-fn first_refused(blocks: &[u8], count: u8, row: usize, level: u8) -> u8
-    ensures { λ r. ⌜ r ≡ firstFrom (isRefused row level) 0 (cut row count (now (blocks .entry))) ⌝ }
+fn first_refused(blocks: &[u8], count: u8, row: usize, level: u8, first_version: bool) -> u8
+    ensures { λ r. ⌜ r ≡ firstFrom (isRefused «first_version» row level) 0 (cut row count (now (blocks .entry))) ⌝ }
 {
     let mut rest = blocks;
     let mut k = 0u8;
     while k < count {
-        let b = block::judge_block(rest, row, level);
+        let b = block::judge_in(rest, row, level, first_version);
         let number = block::number_of(b);
         if number != refusal::ACCEPTED {
             return k;
@@ -105,5 +105,11 @@ pub fn refused_block(image: &[u8], arguments: Arguments) -> u8
         return NONE;
     }
     let rest = header::rest_from(image, arguments.layout, h.start);
-    first_refused(rest, h.blocks, h.row, arguments.level)
+    first_refused(
+        rest,
+        h.blocks,
+        h.row,
+        arguments.level,
+        header::is_first_version(image),
+    )
 }

@@ -2,10 +2,11 @@
 -- `unfolding rows-compute`.
 use Rattle.rom.specs.Bytes.{pick, isIn, anyBelow}
 use Rattle.rom.specs.Refusal.{firstMet}
+use Rattle.format.specs.Chips.{takenAs}
 use Rattle.leaf.proofs.Computes.{leaf-computes}
 use Rattle.walk.specs.Walk.{everyLook, once, wayOf, flagAt, lastBelow, stays, isCandidate, firstUp, upIn, sensed, fixedBlock}
-use Rattle.walk.specs.Walk.{chosen, switched, stepped, badReport, lookCauses, walkedTo, lookFor, isCapable, hasMedium, isInvalid}
-use Rattle.walk.specs.Walk.{isFixedMedium, flags, rowsOf}
+use Rattle.walk.specs.Walk.{chosen, switched, stepped, badReport, lookCauses, walkedTo, lookFor, isCapable, hasMedium}
+use Rattle.walk.specs.Walk.{isInvalid, isFixedMedium, flags, rowsOf}
 
 unfoldable pub look-computes : Unit {0}
 unfolding pick isIn firstMet everyLook once wayOf flagAt lastBelow anyBelow
@@ -13,5 +14,5 @@ unfolding pick isIn firstMet everyLook once wayOf flagAt lastBelow anyBelow
 look-computes = tt
 
 unfoldable pub rows-compute : Unit {0}
-unfolding leaf-computes isIn everyLook once wayOf isCapable hasMedium isInvalid isFixedMedium flags rowsOf
+unfolding leaf-computes takenAs isIn everyLook once wayOf isCapable hasMedium isInvalid isFixedMedium flags rowsOf
 rows-compute = tt

@@ -6,3 +6,4 @@ pub mod Fixed
 pub mod Refusals
 pub mod Computes
 pub mod Worked
+pub mod Taken

@@ -8,6 +8,7 @@ use Rattle.rom.specs.Bytes.{pick}
 use Rattle.rom.specs.Refusal.{firstMet, Numbered}
 use Rattle.rom.proofs.First.{exact, numbered-append}
 use Rattle.header.specs.declared.Arguments.{Arguments}
+use Rattle.header.specs.Image.{isFirstVersion}
 use Rattle.header.specs.Header.{rowFor, headerCauses}
 use Rattle.header.proofs.Headers.{header-numbered}
 use Rattle.leaf.proofs.Cuts.{leaf-numbered}
@@ -21,7 +22,7 @@ unfolding loadCauses judgeCauses leafCausesFor
 load-numbered w image a = (
   lit< tt,
   numbered-append (headerCauses image a) (leafCausesFor image a) (header-numbered image a)
-      (leaf-numbered (rowFor a) (a .level) (blocksFor image a)),
+      (leaf-numbered (isFirstVersion image) (rowFor a) (a .level) (blocksFor image a)),
 )
 
 look-numbered : (w : Walk) (report : List ℕ) → Numbered (lookCauses w report)

@@ -6,11 +6,11 @@ use mathlib.Core.List.{List, [], _∷_, _++_, map}
 use lib.ListN.{replicate}
 use mathlib.Core.Bool.{true}
 use Rattle.rom.specs.Refusal.{firstMet, Exact}
-use Rattle.format.specs.Chips.{connectionRows}
+use Rattle.format.specs.Chips.{connectionRows, takenAs}
 use Rattle.header.specs.declared.Arguments.{Arguments}
 use Rattle.reader.specs.Reading.{judgeCauses}
 use Rattle.walk.specs.declared.Walk.{Walk}
-use Rattle.walk.specs.Walk.{flags, wayOf, isFixed, fixedBlock, mostLooks, lookCauses, loadCauses, loadFor, lookFor, clearFor}
+use Rattle.walk.specs.Walk.{flags, wayOf, isFixed, rowsOf, fixedBlock, mostLooks, lookCauses, loadCauses, loadFor, lookFor, clearFor}
 use Rattle.walk.specs.Cases.{looked, lookCases}
 use Rattle.walk.specs.FixedCases.{lookedAt, numberAfter, unlessMissing, fixedCases, typeOf, fixedTables, fixedOf}
 
@@ -112,3 +112,10 @@ FixedWorked =
 -- and these are of each fixed type of each chip's row
 abbrev pub FixedCovered : Type 0
 FixedCovered = map (λ types. map typeOf types) fixedTables ≡ map fixedOf connectionRows
+
+-- ## Codes of edition 1.00 (document 02, request 12)
+
+-- a type and what it is taken as are of one way, and the rows of blocks are the same under both
+abbrev pub TakenAlike : Type 0
+TakenAlike = (connection row level : ℕ) (bs : List (List ℕ)) →
+    (wayOf connection ≡ wayOf (takenAs connection)) × (rowsOf connection row level bs ≡ rowsOf (takenAs connection) row level bs)

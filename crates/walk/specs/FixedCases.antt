@@ -8,6 +8,7 @@ use lib.ListN.{length, replicate}
 use Rattle.rom.specs.Geometry.{none}
 use Rattle.rom.specs.Bytes.{pick}
 use Rattle.rom.specs.Refusal.{firstMet}
+use Rattle.format.specs.Block.{laterVersion}
 use Rattle.format.specs.Chips.{chips, rowOf, newestLevel}
 use Rattle.leaf.specs.Leaf.{cut, leafCauses}
 use Rattle.walk.specs.declared.Walk.{Walk}
@@ -47,7 +48,7 @@ fixedWalk looks c = record {
 -- what a look with this link at every block answers; where the leaf is refused, that number
 unfoldable pub lookedAt : ℕ → FixedCase → FixedCase
 lookedAt link c =
-    let refused = firstMet (leafCauses (rowOf (c .chip)) newestLevel (cutFor c)) in
+    let refused = firstMet (leafCauses laterVersion (rowOf (c .chip)) newestLevel (cutFor c)) in
     let r = lookFor (fixedWalk 0 c) (replicate (length (c .blocks)) link) in
     record {
       chip = c .chip;
@@ -195,4 +196,10 @@ fixedCases =
     -- and a medium not for a PHY
     ∷ caseOf 21140 0x0009 (compactBlock 8 ∷ type0 8 ∷ []) 32 none
     ∷ caseOf 21143 0x000D ((0x88 ∷ 4 ∷ 3 ∷ replicate 6 0xFF) ∷ []) 32 none
+    -- codes of edition 1.00: 0x0200 is fixed to medium 4 and 0x0203 to medium 5, not to 0 and 3 (document 02, request 12)
+    ∷ caseOf 21041 0x0200 (block21041 0 ∷ block21041 4 ∷ block21041 0 ∷ []) 0 1
+    ∷ caseOf 21041 0x0200 (block21041 0 ∷ []) 32 none
+    ∷ caseOf 21140 0x0200 (compactBlock 0 ∷ compactBlock 4 ∷ compactBlock 0 ∷ []) 0 1
+    ∷ caseOf 21140 0x0203 (compactBlock 3 ∷ compactBlock 5 ∷ compactBlock 3 ∷ []) 0 1
+    ∷ caseOf 21140 0x0203 (compactBlock 3 ∷ []) 32 none
     ∷ []

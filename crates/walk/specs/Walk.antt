@@ -1,4 +1,4 @@
--- The autosense walk: its state, and what each call answers (document 01, 'The walk'; document 02, requests 4 and 5). The
+-- The autosense walk: its state, and what each call answers (document 01, 'The walk'; document 02, requests 4, 5 and 12). The
 -- state is the code's struct `Walk`. A walk that is passed in may hold anything, so a flag past a row's end is none, and
 -- switches stay at their most.
 use Prim.Native.Nat.{ℕ, zero, suc, _+_, _-_, _%_}
@@ -9,6 +9,7 @@ use lib.ListN.{length, replicate}
 use Rattle.rom.specs.Geometry.{none}
 use Rattle.rom.specs.Bytes.{pick, byteAt, bit, isIn, one, anyBelow}
 use Rattle.rom.specs.Refusal.{Cause, _⇒_, firstMet}
+use Rattle.format.specs.Chips.{takenAs}
 use Rattle.format.specs.Block.{kindOf, factsOf, isListed}
 use Rattle.header.specs.declared.Arguments.{Arguments}
 use Rattle.header.specs.Header.{rowFor}
@@ -96,11 +97,12 @@ flagAt row k = eqb (byteAt row k) 1
 unfoldable pub isInvalid : ℕ → ℕ → List ℕ → Bool
 isInvalid row level s = isListed row level s && factsOf (kindOf row s) s .activeInvalid
 
--- a listed block that has the fixed medium; none where the type is not fixed
+-- a listed block that has the fixed medium; none where the type is not fixed. A code of edition 1.00 is taken as that of 1.01
+-- (document 02, request 12)
 unfoldable pub isFixedMedium : ℕ → ℕ → ℕ → List ℕ → Bool
 isFixedMedium connection row level s =
     let facts = factsOf (kindOf row s) s in
-    isListed row level s && (isFixed (wayOf connection) && hasMedium connection (facts .code) (facts .capabilities))
+    isListed row level s && (isFixed (wayOf connection) && hasMedium (takenAs connection) (facts .code) (facts .capabilities))
 
 -- no flag in any row
 unfoldable pub noRows : Rows

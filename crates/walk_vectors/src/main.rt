@@ -1,6 +1,7 @@
 // The walk over each record's list of calls on standard input, one line a call. A record is the image's length (word), chip
-// (word), controller, level, stated size (word), layout (1 with a Magic Packet block, 0 without), the number of calls, the image
-// and the calls; a call is 0 for a load, 1 for a clear, or 2, a length and a report for a look.
+// (word), controller, level, stated size (word), layout (1 with a Magic Packet block, 0 without), edition (1 for 1.00, 0 for
+// 1.01), the number of calls, the image and the calls; a call is 0 for a load, 1 for a clear, or 2, a length and a report for a
+// look.
 use autosense::Walk;
 use autosense::Walked;
 use libc::STDIN_FILENO;
@@ -15,7 +16,7 @@ const LOAD: u8 = 0;
 const CLEAR: u8 = 1;
 
 // The bytes of a record before the image's.
-const HEAD: usize = 10;
+const HEAD: usize = 11;
 
 fn print_number(n: u64) {
     io::print_decimal(STDOUT_FILENO, n);
@@ -115,10 +116,11 @@ fn next_record() -> bool {
             size: rom::word_at(&head, ByteOffset(6)),
             magic: head[8] == 1,
         },
+        first_edition: head[9] == 1,
     };
     let mut room = io::buffer();
     vectors::read_front(&mut room, length);
-    run(part(&room, 0, length), arguments, head[9]);
+    run(part(&room, 0, length), arguments, head[10]);
     true
 }
 

@@ -2,7 +2,9 @@
 use Rattle.crc.specs.Crc.{sromCrc, idCrc}
 use Rattle.magic.proofs.Computes.{magic-computes}
 use Rattle.format.specs.Chips.{connections21041, connections21140, connections21142, connectionRows, isConnection}
-use Rattle.header.specs.Image.{versions, controllerCount, reservedAt, baseAddress, addressOf, leafAt, headerLength, controlByte, blocksAt}
+use Rattle.format.specs.Chips.{firstChips, laterCodes, takenAs, isRead}
+use Rattle.header.specs.Image.{versions, isFirstVersion, controllerCount, reservedAt, baseAddress, addressOf, leafAt, headerLength}
+use Rattle.header.specs.Image.{controlByte, blocksAt}
 use Rattle.header.specs.Image.{blockCount}
 use Rattle.header.specs.Image.{restFrom, badCount, magicCauses, imageCauses, argumentCauses, leafHeaderCauses}
 use Rattle.header.specs.Header.{headerCauses}
@@ -20,7 +22,7 @@ use Rattle.sheet.specs.Lists.{sum, padded, over}
 use Rattle.sheet.specs.Form.{isBeyond}
 use Rattle.sheet.specs.Sheet.{headOf, kindBytes, sizeBytes, bodyBytes, partsOf, sheetOf, entriesFrom, plainFrom, isSheet}
 use Rattle.sheet.specs.Image.{frontWith, frontOf, isWhole, openingOf, encodes, controlBytes, leafHeadOf, leafOf}
-use Rattle.sheet.specs.Image.{coveredOf, boardOf, imageOf, newest}
+use Rattle.sheet.specs.Image.{coveredOf, boardOf, imageOf, newestIn}
 use Rattle.sheet.specs.Image.{openingLength, bodyOf, imageFrom, sizes, leafEnd, upToLeavesEnd, isTidy}
 use Rattle.sheet.specs.Write.{isOtherFamily, isBadBody, isBad, anyBad, strayControl, cannotHold, recordCauses, tooManyBlocks}
 use Rattle.sheet.specs.Write.{wrongOutput, writeCauses, writeNumber, written}
@@ -30,9 +32,9 @@ use Rattle.worked.specs.Cases.{sharing, unsealedAt, unsealed, sealed, be
 -- a whole image, and why it is refused
 unfoldable pub image-computes : Unit {0}
 unfolding leaf-computes magic-computes sromCrc idCrc
-    connections21041 connections21140 connections21142 connectionRows isConnection
-    versions controllerCount reservedAt baseAddress addressOf leafAt headerLength controlByte blocksAt blockCount restFrom badCount
-    magicCauses imageCauses argumentCauses leafHeaderCauses headerCauses leafCausesFor judgeCauses
+    connections21041 connections21140 connections21142 connectionRows isConnection firstChips laterCodes takenAs isRead
+    versions isFirstVersion controllerCount reservedAt baseAddress addressOf leafAt headerLength controlByte blocksAt blockCount
+    restFrom badCount magicCauses imageCauses argumentCauses leafHeaderCauses headerCauses leafCausesFor judgeCauses
     sharing unsealedAt unsealed sealed behindBoard imageWith
 image-computes = tt
 
@@ -53,7 +55,7 @@ unfoldable pub sheet-computes : Unit {0}
 unfolding image-computes wordBytes sum padded over
     headOf kindBytes sizeBytes bodyBytes partsOf sheetOf entriesFrom plainFrom isSheet
     frontWith frontOf isWhole openingOf encodes controlBytes leafHeadOf leafOf isBeyond coveredOf boardOf imageOf
-    newest openingLength bodyOf imageFrom sizes leafEnd upToLeavesEnd isTidy
+    newestIn openingLength bodyOf imageFrom sizes leafEnd upToLeavesEnd isTidy
     isOtherFamily isBadBody isBad anyBad strayControl cannotHold recordCauses tooManyBlocks wrongOutput writeCauses writeNumber written
     makeCauses makeNumber makeLength made
 sheet-computes = tt

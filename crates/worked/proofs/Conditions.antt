@@ -7,7 +7,7 @@ use mathlib.Core.Bool.{false, true}
 use lib.Dec.{lit<}
 use Rattle.rom.specs.Geometry.{withoutMagic, none}
 use Rattle.rom.specs.Refusal.{firstMet}
-use Rattle.format.specs.Chips.{newestLevel}
+use Rattle.format.specs.Chips.{newestLevel, laterEdition}
 use Rattle.format.specs.Block.{isListed}
 use Rattle.header.specs.declared.Arguments.{Arguments}
 use Rattle.header.specs.Header.{rowFor, atLevel}
@@ -22,7 +22,7 @@ use Rattle.worked.specs.Claims.{RemovedDefault, RemovedUp, RemovedChoice
 use Rattle.worked.proofs.Computes.{walk-computes}
 
 abbrev for21143 : Arguments
-for21143 = record { chip = 21143; controller = 0; level = newestLevel; layout = withoutMagic }
+for21143 = record { chip = 21143; controller = 0; level = newestLevel; layout = withoutMagic; «first_edition» = laterEdition }
 
 abbrev after-load : After
 after-load = then false none 0 0

@@ -10,6 +10,7 @@ use Rattle.rom.specs.Bytes.{pick}
 use Rattle.rom.specs.Refusal.{firstMet}
 use Rattle.crc.specs.Crc.{sromCrc, idCrc}
 use Rattle.magic.specs.Cases.{wholeBlock, otherCrc, strayLast}
+use Rattle.format.specs.Chips.{laterEdition}
 use Rattle.header.specs.declared.Arguments.{Arguments}
 use Rattle.leaf.specs.Cases as leaves
 use Rattle.reader.specs.Reading.{judgeCauses}
@@ -58,7 +59,7 @@ pub record ImageCase : Type 0 where
   pub seen : List After
 
 unfoldable pub argumentsOf : Layout → leaves.LeafCase → Arguments
-argumentsOf l c = record { chip = c .chip; controller = 0; level = c .level; layout = l }
+argumentsOf l c = record { chip = c .chip; controller = 0; level = c .level; layout = l; «first_edition» = laterEdition }
 
 -- lent arrays, longer than any case needs
 abbrev room : Arrays

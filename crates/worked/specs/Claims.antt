@@ -6,7 +6,7 @@ use mathlib.Core.Bool.{Bool, true, false}
 use lib.ListN.{replicate, set}
 use Rattle.rom.specs.Geometry.{withoutMagic, withMagic}
 use Rattle.rom.specs.Refusal.{firstMet}
-use Rattle.format.specs.Chips.{newestLevel}
+use Rattle.format.specs.Chips.{newestLevel, laterEdition}
 use Rattle.format.specs.Block.{isListed}
 use Rattle.header.specs.declared.Arguments.{Arguments}
 use Rattle.header.specs.Header.{rowFor, atLevel}
@@ -47,22 +47,22 @@ abbrev pub SheetsWorked : Type 0
 SheetsWorked =
     (map sheets.runSheet sheets.sheetCases ≡ sheets.sheetCases)
     × (map try changes ≡ changes)
-    × (map (λ n. writeNumber Narrow withoutMagic (long n) allOnes) (91 ∷ 92 ∷ []) ≡ 0 ∷ 26 ∷ [])
-    × (map (λ n. writeNumber Narrow withoutMagic (unknownBody n) allOnes) (89 ∷ 90 ∷ 126 ∷ 127 ∷ []) ≡ 0 ∷ 26 ∷ 26 ∷ 25 ∷ [])
-    × (writeNumber Narrow withoutMagic (case21143 .sheet) (0 ∷ allOnes) ≡ 1)
-    × (makeLength Narrow withoutMagic (case21143 .image) 21143 57 ≡ 55)
-    × (made Narrow withoutMagic (case21143 .image) 21143 (replicate 57 1) ≡ case21143 .sheet ++ 1 ∷ 1 ∷ [])
-    × (makeNumber Narrow withoutMagic (case21143 .image) 21143 54 ≡ 12)
-    × (makeNumber Narrow withoutMagic untidy 21143 57 ≡ 27)
+    × (map (λ n. writeNumber Narrow withoutMagic laterEdition (long n) allOnes) (91 ∷ 92 ∷ []) ≡ 0 ∷ 26 ∷ [])
+    × (map (λ n. writeNumber Narrow withoutMagic laterEdition (unknownBody n) allOnes) (89 ∷ 90 ∷ 126 ∷ 127 ∷ []) ≡ 0 ∷ 26 ∷ 26 ∷ 25 ∷ [])
+    × (writeNumber Narrow withoutMagic laterEdition (case21143 .sheet) (0 ∷ allOnes) ≡ 1)
+    × (makeLength Narrow withoutMagic laterEdition (case21143 .image) 21143 57 ≡ 55)
+    × (made Narrow withoutMagic laterEdition (case21143 .image) 21143 (replicate 57 1) ≡ case21143 .sheet ++ 1 ∷ 1 ∷ [])
+    × (makeNumber Narrow withoutMagic laterEdition (case21143 .image) 21143 54 ≡ 12)
+    × (makeNumber Narrow withoutMagic laterEdition untidy 21143 57 ≡ 27)
 
 -- and before a Magic Packet block: it is kept, and judged; leaves end before it, and tidiness does
 abbrev pub MagicSheetsWorked : Type 0
 MagicSheetsWorked =
-    (written Narrow withMagic (caseMagic .sheet) (set (caseMagic .image) 33 0) ≡ caseMagic .image)
-    × (made Narrow withMagic (caseMagic .image) 21143 (replicate 55 1) ≡ caseMagic .sheet)
-    × (writeNumber Narrow withMagic (caseMagic .sheet) allOnes ≡ 29)
-    × (map (λ n. writeNumber Narrow withMagic (long n) (caseMagic .image)) (59 ∷ 60 ∷ []) ≡ 0 ∷ 26 ∷ [])
-    × (makeNumber Narrow withMagic untidyMagic 21143 57 ≡ 27)
+    (written Narrow withMagic laterEdition (caseMagic .sheet) (set (caseMagic .image) 33 0) ≡ caseMagic .image)
+    × (made Narrow withMagic laterEdition (caseMagic .image) 21143 (replicate 55 1) ≡ caseMagic .sheet)
+    × (writeNumber Narrow withMagic laterEdition (caseMagic .sheet) allOnes ≡ 29)
+    × (map (λ n. writeNumber Narrow withMagic laterEdition (long n) (caseMagic .image)) (59 ∷ 60 ∷ []) ≡ 0 ∷ 26 ∷ [])
+    × (makeNumber Narrow withMagic laterEdition untidyMagic 21143 57 ≡ 27)
 
 -- ## Without one of the conditions of demand 3, two walks differ
 

@@ -5,6 +5,7 @@ use mathlib.Core.List.{List, [], _∷_, _++_}
 use lib.ListN.{length, take, drop, replicate, set}
 use Rattle.rom.specs.Geometry.{smallSize, withoutMagic}
 use Rattle.magic.specs.Cases.{wholeBlock}
+use Rattle.format.specs.Chips.{laterEdition}
 use Rattle.sheet.specs.declared.Form.the-variants.{Narrow}
 use Rattle.sheet.specs.Write.{writeNumber, written}
 use Rattle.sheet.specs.Make.{made}
@@ -107,8 +108,8 @@ allOnes = replicate smallSize 1
 unfoldable pub runSheet : SheetCase → SheetCase
 runSheet c = record {
   chip = c .chip;
-  sheet = made Narrow withoutMagic (c .image) (c .chip) (replicate (length (c .sheet)) 1);
-  image = written Narrow withoutMagic (c .sheet) allOnes;
+  sheet = made Narrow withoutMagic laterEdition (c .image) (c .chip) (replicate (length (c .sheet)) 1);
+  image = written Narrow withoutMagic laterEdition (c .sheet) allOnes;
 }
 
 unfoldable pub sheetCases : List SheetCase
@@ -128,7 +129,7 @@ try c = record {
   sheet = c .sheet;
   at = c .at;
   value = c .value;
-  number = writeNumber Narrow withoutMagic (set (c .sheet) (c .at) (c .value)) allOnes;
+  number = writeNumber Narrow withoutMagic laterEdition (set (c .sheet) (c .at) (c .value)) allOnes;
 }
 
 abbrev change : SheetCase → ℕ → ℕ → ℕ → Change

@@ -10,6 +10,7 @@ use Rattle.rom.specs.Refusal.{firstMet}
 use Rattle.crc.specs.Crc.{idCrc}
 use Rattle.crc.specs.Answer.{sromAnswer, idAnswer, magicAnswer}
 use Rattle.magic.specs.Answer.{magicReadNumber, magicWriteNumber}
+use Rattle.format.specs.Chips.{laterEdition}
 use Rattle.header.specs.declared.Arguments.{Arguments}
 use Rattle.leaf.specs.Cases as leaves
 use Rattle.reader.specs.Reading.{judgeCauses}
@@ -41,8 +42,13 @@ everyBlock = record { kinds = replicate 255 0; offsets = replicate 255 0 }
 unfoldable pub readCard : CardCase → CardCase
 readCard c =
     let image = cardWith (c .layout) (c .controllers) (c .start) (c .reading .leaf) in
-    let a : Arguments
-    = record { chip = c .reading .chip; controller = c .controllers - 1; level = c .reading .level; layout = c .layout } in
+    let a : Arguments = record {
+      chip = c .reading .chip;
+      controller = c .controllers - 1;
+      level = c .reading .level;
+      layout = c .layout;
+      «first_edition» = laterEdition;
+    } in
     record {
       layout = c .layout;
       controllers = c .controllers;

@@ -2,6 +2,7 @@
 use mathlib.Core.Path.{_≡_}
 use mathlib.Core.List.{[], _∷_, map}
 use lib.ListN.{replicate}
+use Rattle.format.specs.Chips.{laterEdition}
 use Rattle.rom.specs.Geometry.{smallSize, largeSize, withoutMagic, withMagic, large}
 use Rattle.sheet.specs.declared.Form.the-variants.{Narrow}
 use Rattle.sheet.specs.Write.{writeNumber}
@@ -20,5 +21,6 @@ LargeImagesWorked =
     × (refusals smallSize (wholeCard (large withMagic)) ≡ replicate 6 1)
     × (refusals largeSize (wholeCard withMagic) ≡ replicate 6 1)
     × (refusals 256 (replicate 256 0) ≡ replicate 6 1)
-    × (makeNumber Narrow (large withoutMagic) (wholeCard (large withoutMagic)) 21143 largeSize ≡ 1)
-    × (map (λ sheet. writeNumber Narrow (large withoutMagic) sheet (replicate largeSize 1)) (case21143 .sheet ∷ [] ∷ []) ≡ 1 ∷ 24 ∷ [])
+    × (makeNumber Narrow (large withoutMagic) laterEdition (wholeCard (large withoutMagic)) 21143 largeSize ≡ 1)
+    × (map (λ sheet. writeNumber Narrow (large withoutMagic) laterEdition sheet (replicate largeSize 1)) (case21143 .sheet ∷ [] ∷ [])
+    ≡ 1 ∷ 24 ∷ [])

@@ -26,7 +26,7 @@ use Rattle.sheet.specs.Record.{Plain}
 use Rattle.sheet.specs.declared.Form.{Form}
 use Rattle.sheet.specs.Form.{isBeyond, shifted, countIn}
 use Rattle.sheet.specs.Sheet.{plainFrom, sheetFrom, isSheet}
-use Rattle.sheet.specs.Image.{leafStart, encodes, leafOf, imageOf, newest}
+use Rattle.sheet.specs.Image.{leafStart, encodes, leafOf, imageOf, newestIn}
 use Rattle.sheet.specs.Write.{anyBad, strayControl, cannotHold, tooManyBlocks, wrongOutput, recordCauses, writeCauses, writeNumber, written}
 use Rattle.sheet.proofs.Returns.{writer-order, record-numbered}
 use Rattle.writer.specs.Inside.{entryCauses, Counted, Writable, issueNumber, issued}
@@ -78,22 +78,23 @@ module _ (l : Layout) (p : Plain) (row : ℕ) (er : row ≡ rowOf (p .chip)) whe
 
 -- ## What a refusal leaves
 
-pub kept : (form : Form) (l : Layout) (s out : List ℕ) (n : ℕ) → n ≡ writeNumber form l s out → (n ≡ 0 → ⊥)
-    → (n ≡ writeNumber form l s out) × (out ≡ written form l s out)
+pub kept : (form : Form) (l : Layout) (edition : Bool) (s out : List ℕ) (n : ℕ) → n ≡ writeNumber form l edition s out → (n ≡ 0 → ⊥)
+    → (n ≡ writeNumber form l edition s out) × (out ≡ written form l edition s out)
 unfolding written
-kept form l s out n e z = (e, sym (pick-false _ _ _ (ne-eqb (writeNumber form l s out) 0 (λ h. z (e ∙ h)))))
+kept form l edition s out n e z = (e, sym (pick-false _ _ _ (ne-eqb (writeNumber form l edition s out) 0 (λ h. z (e ∙ h)))))
 
 -- ## The whole list
 
-module _ (form : Form) (l : Layout) (s out : List ℕ) where
-  pub write-24 : isSheet form s ≡ false → 24 ≡ writeNumber form l s out
-  write-24 h = sym (writer-order form l s out .0 h)
+module _ (form : Form) (l : Layout) (edition : Bool) (s out : List ℕ) where
+  pub write-24 : isSheet form s ≡ false → 24 ≡ writeNumber form l edition s out
+  write-24 h = sym (writer-order form l edition s out .0 h)
 
-  pub write-33 : isSheet form s ≡ true → tooManyBlocks form s ≡ true → 33 ≡ writeNumber form l s out
-  write-33 is h = sym (writer-order form l s out .1 is .0 h)
+  pub write-33 : isSheet form s ≡ true → tooManyBlocks form s ≡ true → 33 ≡ writeNumber form l edition s out
+  write-33 is h = sym (writer-order form l edition s out .1 is .0 h)
 
-  pub write-1 : isSheet form s ≡ true → tooManyBlocks form s ≡ false → wrongOutput form l (length out) ≡ true → 1 ≡ writeNumber form l s out
-  write-1 is few h = sym (writer-order form l s out .1 is .1 few .0 h)
+  pub write-1 : isSheet form s ≡ true → tooManyBlocks form s ≡ false → wrongOutput form l (length out) ≡ true
+      → 1 ≡ writeNumber form l edition s out
+  write-1 is few h = sym (writer-order form l edition s out .1 is .1 few .0 h)
 
 -- a sheet past 24, 33 and 1, with the count and the part of it that the code hands on
 pub record Passed (form : Form) (l : Layout) (s out : List ℕ) (n : ℕ) (t : List ℕ) : Type 0 where
@@ -124,56 +125,58 @@ module _ {form : Form} {l : Layout} {s out : List ℕ} {n : ℕ} {t : List ℕ} 
   passed-writable z =
       record { is = passed-counted; right = or-false (isBeyond form (l .size)) _ (p .right) .1; number = z }
 
-  later : writeNumber form l s out
+  behind : (edition : Bool) → writeNumber form l edition s out
       ≡ firstMet (recordCauses l (sheetFrom form s)
-      ++ judgeCauses (imageOf l (sheetFrom form s) out) (newest l (sheetFrom form s .chip)))
+      ++ judgeCauses (imageOf l (sheetFrom form s) out) (newestIn l edition (sheetFrom form s .chip)))
   unfolding writeNumber writeCauses firstMet
-  later =
+  behind edition =
       pick-false (not (isSheet form s)) _ _ (ap not (p .is)) ∙ pick-false (tooManyBlocks form s) _ _ (p .few)
       ∙ pick-false (wrongOutput form l (length out)) _ _ (p .right)
 
   same : plainFrom n t ≡ sheetFrom form s
   same = ap₂ plainFrom (p .count) (p .part)
 
-  pub write-record : (m : ℕ) → m ≡ firstMet (recordCauses l (plainFrom n t)) → (m ≡ 0 → ⊥)
-      → (m ≡ writeNumber form l s out) × (out ≡ written form l s out)
-  write-record m em z =
-      kept form l s out m
-      (sym (later ∙ after-refused (recordCauses l (sheetFrom form s)) _ m z
+  pub write-record : (edition : Bool) (m : ℕ) → m ≡ firstMet (recordCauses l (plainFrom n t)) → (m ≡ 0 → ⊥)
+      → (m ≡ writeNumber form l edition s out) × (out ≡ written form l edition s out)
+  write-record edition m em z =
+      kept form l edition s out m
+      (sym (behind edition ∙ after-refused (recordCauses l (sheetFrom form s)) _ m z
       (sym (em ∙ ap (λ (q : Plain). firstMet (recordCauses l q)) same)))) z
 
   -- the reader's number is left
-  pub write-issued : firstMet (recordCauses l (plainFrom n t)) ≡ 0 → {r : ℕ} {left : List ℕ}
-      → r ≡ issueNumber l (plainFrom n t) out → left ≡ issued l (plainFrom n t) out
-      → (r ≡ writeNumber form l s out) × (left ≡ written form l s out)
+  pub write-issued : (edition : Bool) → firstMet (recordCauses l (plainFrom n t)) ≡ 0 → {r : ℕ} {left : List ℕ}
+      → r ≡ issueNumber l edition (plainFrom n t) out → left ≡ issued l edition (plainFrom n t) out
+      → (r ≡ writeNumber form l edition s out) × (left ≡ written form l edition s out)
   unfolding issueNumber issued written
-  write-issued z er el =
-      let number : issueNumber l (sheetFrom form s) out ≡ writeNumber form l s out
-      = sym (later ∙ after-accepted (recordCauses l (sheetFrom form s)) _ (record-numbered l (sheetFrom form s))
+  write-issued edition z er el =
+      let number : issueNumber l edition (sheetFrom form s) out ≡ writeNumber form l edition s out
+      = sym (behind edition ∙ after-accepted (recordCauses l (sheetFrom form s)) _ (record-numbered l (sheetFrom form s))
       (ap (λ (q : Plain). firstMet (recordCauses l q)) (sym same) ∙ z)) in (
-        er ∙ ap (λ (q : Plain). issueNumber l q out) same ∙ number,
-        el ∙ ap (λ (q : Plain). issued l q out) same
+        er ∙ ap (λ (q : Plain). issueNumber l edition q out) same ∙ number,
+        el ∙ ap (λ (q : Plain). issued l edition q out) same
             ∙ ap (λ (k : ℕ). pick (eqb k 0) (imageOf l (sheetFrom form s) out) out) number,
       )
 
 -- ## The built image judged
 
-module _ (l : Layout) (p : Plain) (out : List ℕ) {built : List ℕ} (eb : built ≡ imageOf l p out) {chip : ℕ} (ec : chip ≡ p .chip)
-    {r : Answer} (er : r ≡ judgeAnswer built (newest l chip)) where
-  number : r .number ≡ issueNumber l p out
+module _ (l : Layout) (edition : Bool) (p : Plain) (out : List ℕ) {built : List ℕ} (eb : built ≡ imageOf l p out)
+    {chip : ℕ} (ec : chip ≡ p .chip)
+    {r : Answer} (er : r ≡ judgeAnswer built (newestIn l edition chip)) where
+  number : r .number ≡ issueNumber l edition p out
   unfolding judgeAnswer issueNumber
   number =
-      ap (λ (x : Answer). x .number) er ∙ answer-number (firstMet (judgeCauses built (newest l chip))) built (newest l chip)
-      ∙ ap₂ (λ (x : List ℕ) (c : ℕ). firstMet (judgeCauses x (newest l c))) eb ec
+      ap (λ (x : Answer). x .number) er
+      ∙ answer-number (firstMet (judgeCauses built (newestIn l edition chip))) built (newestIn l edition chip)
+      ∙ ap₂ (λ (x : List ℕ) (c : ℕ). firstMet (judgeCauses x (newestIn l edition c))) eb ec
 
-  pub issue-refused : (r .number ≡ 0 → ⊥) → (r .number ≡ issueNumber l p out) × (out ≡ issued l p out)
+  pub issue-refused : (r .number ≡ 0 → ⊥) → (r .number ≡ issueNumber l edition p out) × (out ≡ issued l edition p out)
   unfolding issued
-  issue-refused z = (number, sym (pick-false _ _ _ (ne-eqb (issueNumber l p out) 0 (λ e. z (number ∙ e)))))
+  issue-refused z = (number, sym (pick-false _ _ _ (ne-eqb (issueNumber l edition p out) 0 (λ e. z (number ∙ e)))))
 
   pub issue-copied : r .number ≡ 0 → length built ≡ length out → {left : List ℕ} → left ≡ laid out 0 built
-      → (0 ≡ issueNumber l p out) × (left ≡ issued l p out)
+      → (0 ≡ issueNumber l edition p out) × (left ≡ issued l edition p out)
   unfolding issued
   issue-copied z long el = (
     sym z ∙ number,
-    el ∙ laid-whole out built long ∙ eb ∙ sym (pick-true _ _ _ (eq-eqb (issueNumber l p out) 0 (sym number ∙ z))),
+    el ∙ laid-whole out built long ∙ eb ∙ sym (pick-true _ _ _ (eq-eqb (issueNumber l edition p out) 0 (sym number ∙ z))),
   )

@@ -2,7 +2,7 @@
 use Prim.Native.Nat.{ℕ, _+_, _-_, _*_, _≤_}
 use mathlib.Core.Path.{_≡_}
 use mathlib.Core.List.{List, [], _∷_, _++_}
-use mathlib.Core.Bool.{false}
+use mathlib.Core.Bool.{Bool, false}
 use lib.ListN.{length, take, set, replicate}
 use lib.Dec.{eqb, ltb}
 use Rattle.rom.specs.declared.Layout.{Layout}
@@ -17,7 +17,7 @@ use Rattle.sheet.specs.Lists.{sum}
 use Rattle.sheet.specs.Layout.{headLength}
 use Rattle.sheet.specs.Record.{Entry, Plain}
 use Rattle.sheet.specs.Sheet.{sizesIn, entriesFrom, plainFrom}
-use Rattle.sheet.specs.Image.{leafStart, isWhole, encodes, leafOf, imageOf, newest}
+use Rattle.sheet.specs.Image.{leafStart, isWhole, encodes, leafOf, imageOf, newestIn}
 use Rattle.sheet.specs.Write.{isBad, anyBad, recordCauses}
 
 -- ## Bytes laid into others
@@ -97,9 +97,9 @@ headIn s = plainFrom 0 s
 
 -- ## What is written out
 
--- the newest reader's number for controller 0 of a record's image, and an output after it
-unfoldable pub issueNumber : Layout → Plain → List ℕ → ℕ
-issueNumber l p out = firstMet (judgeCauses (imageOf l p out) (newest l (p .chip)))
+-- the newest reader's number in an edition for controller 0 of a record's image, and an output after it
+unfoldable pub issueNumber : Layout → Bool → Plain → List ℕ → ℕ
+issueNumber l edition p out = firstMet (judgeCauses (imageOf l p out) (newestIn l edition (p .chip)))
 
-unfoldable pub issued : Layout → Plain → List ℕ → List ℕ
-issued l p out = pick (eqb (issueNumber l p out) 0) (imageOf l p out) out
+unfoldable pub issued : Layout → Bool → Plain → List ℕ → List ℕ
+issued l edition p out = pick (eqb (issueNumber l edition p out) 0) (imageOf l p out) out

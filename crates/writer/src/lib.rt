@@ -145,11 +145,19 @@ fn build(image: &mut [u8], shifted: &[u8], blocks: u8, layout: Layout, output: &
     put_bytes(image, ByteOffset(end), &output[end..]);
 }
 
-// Builds the image of a sheet in zeros, and writes it out where the newest reader, which judges it for controller 0, accepts it.
-fn issue(built: &mut [u8], shifted: &[u8], blocks: u8, layout: Layout, image: &mut [u8]) -> u8
+// Builds the image of a sheet in zeros, and writes it out where the newest reader, which judges it for controller 0 in the
+// edition, accepts it.
+fn issue(
+    built: &mut [u8],
+    shifted: &[u8],
+    blocks: u8,
+    layout: Layout,
+    first_edition: bool,
+    image: &mut [u8],
+) -> u8
     requires { ⌜ Writable layout blocks (now shifted) (now image) × (now built ≡ zeros (imageLength (layout .size))) ⌝ }
-    ensures { λ r. ⌜ r ≡ issueNumber layout (plainFrom blocks (now (shifted .entry))) (now (image .entry)) ⌝ }
-    ensures { λ r. ⌜ now (image .exit) ≡ issued layout (plainFrom blocks (now (shifted .entry))) (now (image .entry)) ⌝ }
+    ensures { λ r. ⌜ r ≡ issueNumber layout «first_edition» (plainFrom blocks (now (shifted .entry))) (now (image .entry)) ⌝ }
+    ensures { λ r. ⌜ now (image .exit) ≡ issued layout «first_edition» (plainFrom blocks (now (shifted .entry))) (now (image .entry)) ⌝ }
 {
     build(built, shifted, blocks, layout, image);
     let arguments = Arguments {
@@ -157,6 +165,7 @@ fn issue(built: &mut [u8], shifted: &[u8], blocks: u8, layout: Layout, image: &m
         controller: 0,
         level: block::NEWEST_LEVEL,
         layout,
+        first_edition,
     };
     let judged = reader::judge(built, arguments).number;
     if judged != refusal::ACCEPTED {
@@ -184,10 +193,10 @@ fn blank() -> [u8; rom::LARGE_LENGTH]
 }
 
 // Writes the image of a sheet, or answers the first refusal and leaves the image as it was. Told of a Magic Packet block, it
-// keeps the image's own. The newest reader judges the image, for controller 0, before any of it is written out.
-pub fn write(sheet: &[u8], form: Form, layout: Layout, image: &mut [u8]) -> u8
-    ensures { λ r. ⌜ r ≡ writeNumber form layout (now (sheet .entry)) (now (image .entry)) ⌝ }
-    ensures { λ r. ⌜ now (image .exit) ≡ written form layout (now (sheet .entry)) (now (image .entry)) ⌝ }
+// keeps the image's own. The newest reader judges the image, for controller 0 in the edition, before any of it is written out.
+pub fn write(sheet: &[u8], form: Form, layout: Layout, first_edition: bool, image: &mut [u8]) -> u8
+    ensures { λ r. ⌜ r ≡ writeNumber form layout «first_edition» (now (sheet .entry)) (now (image .entry)) ⌝ }
+    ensures { λ r. ⌜ now (image .exit) ≡ written form layout «first_edition» (now (sheet .entry)) (now (image .entry)) ⌝ }
 {
     let whole = forms::is_sheet(sheet, form);
     if !whole {
@@ -208,5 +217,12 @@ pub fn write(sheet: &[u8], form: Form, layout: Layout, image: &mut [u8]) -> u8
         return number;
     }
     let mut room = blank();
-    issue(&mut room[..image.len()], shifted, blocks, layout, image)
+    issue(
+        &mut room[..image.len()],
+        shifted,
+        blocks,
+        layout,
+        first_edition,
+        image,
+    )
 }

@@ -4,6 +4,7 @@
 
 use library::{Answer, Form, Layout, Made, Magic, Walk};
 use second::crc;
+use second::edition::FIRST_VERSION;
 use second::images::block::{self, Phy};
 use second::images::{Card, Image, MagicBlock};
 use second::layout::{LARGE, SMALL};
@@ -53,7 +54,8 @@ fn main() {
     contest_walking("typical", newest, &tidy);
     contest_walking("longest", newest_21041, &longest);
     contest_walking("fixed", newest, &fixed);
-    let narrow = (Form::Narrow, Layout::PLAIN);
+    let narrow = (Form::Narrow, Layout::PLAIN, false);
+    contest_first_edition();
     contest_sheets("typical", 21143, narrow, &tidy);
     contest_sheets("longest", 21041, narrow, &longest);
     // How the cost of making grows with the blocks.
@@ -114,6 +116,17 @@ fn powered_card() -> Card {
 fn fixed_card() -> Card {
     let mut card = typical_card();
     card.leaves[0].connection = 0x0003;
+    card
+}
+
+/// A card of version 1 as a 21140 has it, in edition 1.00 set to 100BaseTx full duplex: four compact blocks, and the private
+/// bytes of the ID block alone.
+fn first_card(random: &mut Random) -> Card {
+    let blocks = [(0, 0x0000), (4, 0x8000), (3, 0x4000), (5, 0x8000)];
+    let blocks = blocks.map(|(code, command)| block::compact(code, 0x1B, command | 0x61));
+    let mut card = Card::tidy(21140, 0x0203, blocks.to_vec());
+    card.version = FIRST_VERSION;
+    card.private[..18].copy_from_slice(&random.bytes::<18>());
     card
 }
 
@@ -223,6 +236,15 @@ fn contest_walking(leaf: &str, arguments: Arguments, images: &[Image]) {
     );
 }
 
+/// Reading, loading and writing a card of edition 1.00.
+fn contest_first_edition() {
+    let first = images(first_card);
+    let newest = Arguments::newest(21140).in_edition(true);
+    contest_reading("first", newest, &first);
+    contest_walking("first", newest, &first);
+    contest_sheets("first", 21140, (Form::Narrow, Layout::PLAIN, true), &first);
+}
+
 /// What it costs that a walk goes in and comes back by value: a call that only hands out a fresh one,
 /// and one that takes a walk too.
 fn contest_by_value(images: &[Image]) {
@@ -249,8 +271,8 @@ fn settled(image: &[u8], arguments: Arguments) -> Walk {
     walked.walk
 }
 
-/// The form of a sheet, and the layout of its image.
-type Served = (Form, Layout);
+/// The form of a sheet, the layout of its image, and whether its edition is 1.00.
+type Served = (Form, Layout, bool);
 
 /// What is timed of sheets and images.
 const SHEET_CALLS: [&str; 2] = ["write", "make"];
@@ -282,8 +304,8 @@ fn contest_making(leaf: &str, chip: u16, served: Served, images: &[Image]) {
 /// The same of wide sheets: of the typical leaf in both sizes, and how their cost grows with the blocks
 /// in the larger one, up to the most.
 fn contest_wide_sheets(tidy: &[Image]) {
-    contest_sheets("wide", 21143, (Form::Wide, Layout::PLAIN), tidy);
-    let large = (Form::Wide, Layout::LARGE_PLAIN);
+    contest_sheets("wide", 21143, (Form::Wide, Layout::PLAIN, false), tidy);
+    let large = (Form::Wide, Layout::LARGE_PLAIN, false);
     if is_asked(&SHEET_CALLS, "wide 512") {
         let leaf = images(|random| tidy_card(random).sized(LARGE));
         contest_sheets("wide 512", 21143, large, &leaf);
@@ -301,13 +323,13 @@ fn contest_wide_sheets(tidy: &[Image]) {
 fn contest_converting(tidy: &[Image]) {
     let calls = ["widen", "narrow"];
     if is_asked(&calls, "typical") {
-        let small = (Form::Wide, Layout::PLAIN);
+        let small = (Form::Wide, Layout::PLAIN, false);
         contest_conversions("typical", &sheets(21143, small, tidy));
     }
     for count in [50, 100, 200, 255] {
         let name = count.to_string();
         if is_asked(&calls, &name) {
-            let large = (Form::Wide, Layout::LARGE_PLAIN);
+            let large = (Form::Wide, Layout::LARGE_PLAIN, false);
             contest_conversions(&name, &sheets(21041, large, &large_leaf(count)));
         }
     }
@@ -342,10 +364,11 @@ fn contest_conversions(leaf: &str, wide: &[Vec<u8>]) {
 }
 
 /// The sheets of tidy images.
-fn sheets(chip: u16, (form, layout): Served, images: &[Image]) -> Vec<Vec<u8>> {
+fn sheets(chip: u16, served: Served, images: &[Image]) -> Vec<Vec<u8>> {
+    let (form, layout, first_edition) = served;
     let sheet = |image: &Image| {
         let mut buffer = [0; LONGEST_WIDE_SHEET];
-        let made = sheet::make(image, chip, form, layout, &mut buffer);
+        let made = sheet::make(image, chip, form, layout, first_edition, &mut buffer);
         assert_eq!(made.number, 0, "the leaf is tidy");
         buffer[..made.length].to_vec()
     };
@@ -354,21 +377,30 @@ fn sheets(chip: u16, (form, layout): Served, images: &[Image]) -> Vec<Vec<u8>> {
 
 /// A call with an image of its own.
 fn writing(
-    (form, layout): Served,
-    write: impl Fn(&[u8], Form, Layout, &mut [u8]) -> u8,
+    (form, layout, first_edition): Served,
+    write: impl Fn(&[u8], Form, Layout, bool, &mut [u8]) -> u8,
 ) -> impl FnMut(&[u8]) -> u8 {
     let mut image = vec![0; layout.size.into()];
-    move |sheet| write(sheet, form, layout, black_box(&mut image))
+    move |sheet| write(sheet, form, layout, first_edition, black_box(&mut image))
 }
 
 /// A call with a buffer of its own.
 fn making(
     chip: u16,
-    (form, layout): Served,
-    make: impl Fn(&[u8], u16, Form, Layout, &mut [u8]) -> Made,
+    (form, layout, first_edition): Served,
+    make: impl Fn(&[u8], u16, Form, Layout, bool, &mut [u8]) -> Made,
 ) -> impl FnMut(&[u8]) -> Made {
     let mut buffer = [0; LONGEST_WIDE_SHEET];
-    move |image| make(image, chip, form, layout, black_box(&mut buffer))
+    move |image| {
+        make(
+            image,
+            chip,
+            form,
+            layout,
+            first_edition,
+            black_box(&mut buffer),
+        )
+    }
 }
 
 /// The same of a conversion.

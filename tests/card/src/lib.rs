@@ -1,6 +1,7 @@
 //! The bench tool `./card`, run from the root of the repository.
 
 use second::crc::{magic_crc, srom_crc};
+use second::edition::taken_as;
 use second::layout::{LARGE, Layout, SIZES, SMALL, magic_offset};
 use second::magic::{CRC_OFFSET, LAST_RESERVED, RESERVED};
 use second::reader::{Arguments, EXTENDED, POWER, controller_offset, first_leaf, starts};
@@ -64,11 +65,23 @@ pub fn words(arguments: Arguments, image: &[u8]) -> String {
         controller,
         level,
         layout,
+        first_edition,
     } = arguments;
     format!(
-        "{chip} --controller {controller} --level {level}{}",
-        options(layout, image)
+        "{chip} --controller {controller} --level {level}{}{}",
+        options(layout, image),
+        edition_option(first_edition)
     )
+}
+
+/// The option that names an edition, behind other words: "1.01 where it is not given".
+pub fn edition_option(first_edition: bool) -> &'static str {
+    if first_edition { " --edition 1.00" } else { "" }
+}
+
+/// An edition, as 000 numbers it.
+pub fn edition(first_edition: bool) -> &'static str {
+    if first_edition { "1.00" } else { "1.01" }
 }
 
 /// The options that name a layout of an image, behind other words: its size where the image's length says another.
@@ -97,6 +110,7 @@ pub fn asked(arguments: Arguments, image: &[u8]) -> String {
         controller,
         level,
         layout: Layout { size, magic },
+        ..
     } = arguments;
     let is_named = size != SMALL || size != size_by_length(image);
     let size = if is_named {
@@ -190,12 +204,25 @@ const FIXED_NAMES: [(u16, &str); 18] = [
     (0x0211, "MII 100BaseFx full duplex"),
 ];
 
-/// The name of a fixed connection type; none of one that is autosensed.
+/// The name of a fixed connection type, by what it is taken as; none of one that is autosensed.
 pub fn fixed_name(connection: u16) -> Option<&'static str> {
     let mut names = FIXED_NAMES.iter();
     names
-        .find(|(it, _)| *it == connection)
+        .find(|(it, _)| *it == taken_as(connection))
         .map(|(_, name)| *name)
+}
+
+/// What is said of a connection type, behind the words that begin its line: `read` and `walk` name both codes ('0x0200, in
+/// edition 1.00 what 0x0204 is since'), and then the rest has a line of its own.
+pub fn connection_lines(begin: &str, connection: u16, words: &str) -> String {
+    match taken_as(connection) {
+        taken if taken == connection => format!("{begin}0x{connection:04x}, {words}"),
+        taken => format!(
+            "{begin}0x{connection:04x}, in edition 1.00 what 0x{taken:04x} is since,\n{:1$}{words}",
+            "",
+            begin.len()
+        ),
+    }
 }
 
 /// A power block: its number, its places and its mode byte.
@@ -236,14 +263,20 @@ pub fn temporary(name: &str) -> PathBuf {
     folder.canonicalize().unwrap()
 }
 
-/// The sample images: each file's name, the newest reader's arguments for its chip and layout, and its
-/// bytes, as samples/README.md lists them.
+/// The sample images: each file's name, the newest reader's arguments for its chip, layout and edition, and
+/// its bytes, as samples/README.md lists them.
 pub fn samples() -> Vec<(String, Arguments, Vec<u8>)> {
     let image = |row: Row| {
-        let [chip, layout, ..] = row.cells.as_slice() else {
-            panic!("samples/README.md has no chip and layout for {}", row.name);
+        let [chip, layout, edition, ..] = row.cells.as_slice() else {
+            panic!(
+                "samples/README.md has no chip, layout and edition for {}",
+                row.name
+            );
         };
-        let arguments = Arguments::newest(chip.parse().unwrap()).laid_out(layout_named(layout));
+        let newest = Arguments::newest(chip.parse().unwrap());
+        let arguments = newest
+            .laid_out(layout_named(layout))
+            .in_edition(edition == "1.00");
         (row.name, arguments, row.bytes)
     };
     rows(".rom").into_iter().map(image).collect()

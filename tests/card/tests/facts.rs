@@ -1,10 +1,11 @@
 //! What the bench tool says of a card, held to the second implementation.
 
 use card::{
-    PowerBlock, asked, card, fixed_name, options, power_blocks, reasons, samples, size_by_length,
-    temporary, words,
+    PowerBlock, asked, card, connection_lines, edition, edition_option, fixed_name, options,
+    power_blocks, reasons, samples, size_by_length, temporary, words,
 };
 use second::crc::{lay_srom_crc, srom_crc};
+use second::edition::{EDITIONS, FIRST_CHIPS, FIRST_VERSION, Rules};
 use second::images::{Card, Sample, WRONG_SIZES, block};
 use second::layout::{LAYOUTS, Layout, SIZES, SMALL};
 use second::magic::{Magic, read_magic, write_magic};
@@ -32,6 +33,7 @@ fn expected(image: &[u8], arguments: Arguments) -> Vec<String> {
         let mut facts = vec![format!("REFUSED {}", answer.number)];
         facts.push(asked(arguments, image));
         facts.extend(reasons(image, arguments.layout, answer.number));
+        facts.extend(version_reason(image, arguments, answer.number));
         if answer.number == 31 {
             facts.extend(shared_modes(image, arguments));
         }
@@ -40,6 +42,7 @@ fn expected(image: &[u8], arguments: Arguments) -> Vec<String> {
     }
     let mut facts = vec!["ACCEPTED".to_string()];
     facts.push(asked(arguments, image));
+    facts.push(version(image, arguments));
     facts.push(six(&answer.address.to_be_bytes()[2..]));
     facts.push(format!("0x{:04x}", answer.connection));
     facts.push(format!(
@@ -58,6 +61,27 @@ fn expected(image: &[u8], arguments: Arguments) -> Vec<String> {
         facts.extend(blocks.iter().map(|it| modes(it, it.mode)));
     }
     facts
+}
+
+/// The format version, and of version 1 the edition in which it is read.
+fn version(image: &[u8], arguments: Arguments) -> String {
+    match image[18] {
+        FIRST_VERSION => format!("1, read in edition {}", edition(arguments.first_edition)),
+        version => version.to_string(),
+    }
+}
+
+/// What is shown of a refusal that the version has a say in: of 11 where it is 1, whose edition decides, and of 14, since "Version
+/// 1 has 21041 and compact blocks only".
+fn version_reason(image: &[u8], arguments: Arguments, number: u8) -> Option<String> {
+    let is_first = image.get(18) == Some(&FIRST_VERSION);
+    let line = || format!("format version, byte 18: {}", version(image, arguments));
+    match number {
+        2 | 38 => Some(line()),
+        11 if is_first => Some(line()),
+        14 if is_first => Some("version 1 has no extended blocks".to_string()),
+        _ => None,
+    }
 }
 
 /// The line of a power block, and modes of it in words.
@@ -79,8 +103,8 @@ fn shared_modes(image: &[u8], arguments: Arguments) -> Vec<String> {
     sharing.map(|it| modes(it, it.mode & shared)).collect()
 }
 
-/// What the lines of `reasons` begin with, and that about another layout.
-const BEGINS: [&str; 8] = [
+/// What the lines of `reasons` begin with, those about the version, and that about another layout or edition.
+const BEGINS: [&str; 10] = [
     "the image has",
     "SROM CRC,",
     "controller count (",
@@ -88,25 +112,38 @@ const BEGINS: [&str; 8] = [
     "leaves end",
     "Magic CRC,",
     "reserved byte,",
+    "format version, byte",
+    "version 1 has",
     "accepted with",
 ];
 
-/// What is said of an image that is refused with 3 and accepted with a Magic Packet block or without it, or refused with 1 and
-/// accepted at the size that its length says.
+/// What is said of an image that is refused with 3 and accepted with a Magic Packet block or without it, refused with 1 and
+/// accepted at the size that its length says, or refused with 11 "in the one edition and accepted in the other".
 fn otherwise(image: &[u8], arguments: Arguments) -> Option<String> {
     let number = |arguments| read_all(image, arguments).0.number;
-    let layout = arguments.layout;
+    let Arguments {
+        layout,
+        first_edition,
+        ..
+    } = arguments;
     let (other, words) = match number(arguments) {
         1 => {
             let size = size_by_length(image);
-            (Layout { size, ..layout }, format!("with --size {size}"))
+            let layout = Layout { size, ..layout };
+            (arguments.laid_out(layout), format!("with --size {size}"))
         }
-        3 if layout.magic => (other(layout), "without --magic".to_string()),
-        3 => (other(layout), "with --magic".to_string()),
+        3 => {
+            let words = if layout.magic { "without" } else { "with" };
+            let other = arguments.laid_out(other(layout));
+            (other, format!("{words} --magic"))
+        }
+        11 => {
+            let words = format!("with --edition {}", edition(!first_edition));
+            (arguments.in_edition(!first_edition), words)
+        }
         _ => return None,
     };
-    let is_accepted = number(arguments.laid_out(other)) == 0;
-    is_accepted.then(|| format!("accepted {words}"))
+    (number(other) == 0).then(|| format!("accepted {words}"))
 }
 
 /// "the command's bits in 000's words", and by its number one that must be 0.
@@ -170,6 +207,7 @@ fn shown(written: &str) -> Vec<String> {
         return facts;
     }
     for name in [
+        "format version",
         "station address",
         "connection type",
         "blocks",
@@ -217,8 +255,9 @@ fn below_blocks(written: &str, name: &str) -> Vec<String> {
 }
 
 /// The arguments that a sample is read with: at every level for two controllers and for the first in
-/// the other layout, and at the newest level with every other chip and size.
-fn readers(newest: Arguments) -> Vec<Arguments> {
+/// the other layout, and at the newest level with every other chip and size; where it is of version 1 all
+/// of them in both editions, and else the newest reader.
+fn readers(newest: Arguments, image: &[u8]) -> Vec<Arguments> {
     let chips = CHIPS.into_iter().filter(|&chip| chip != newest.chip);
     let mut readers: Vec<_> = chips.map(|chip| Arguments { chip, ..newest }).collect();
     let sizes = SIZES.into_iter().chain(WRONG_SIZES);
@@ -236,7 +275,22 @@ fn readers(newest: Arguments) -> Vec<Arguments> {
         };
         readers.extend([own, second, own.laid_out(other(own.layout))]);
     }
+    let otherwise = |it: &Arguments| it.in_edition(!it.first_edition);
+    let others: Vec<_> = match editions(newest, image).as_slice() {
+        [_] => vec![otherwise(&newest)],
+        _ => readers.iter().map(otherwise).collect(),
+    };
+    readers.extend(others);
     readers
+}
+
+/// The editions that can matter to an image, its own first.
+fn editions(own: Arguments, image: &[u8]) -> Vec<Arguments> {
+    let other = own.in_edition(!own.first_edition);
+    match image.get(18) {
+        Some(&FIRST_VERSION) => vec![own, other],
+        _ => vec![own],
+    }
 }
 
 fn other(layout: Layout) -> Layout {
@@ -247,12 +301,12 @@ fn other(layout: Layout) -> Layout {
 }
 
 /// Reading: what is shown of a card, the Magic Packet block too, or why it is refused; and whether it
-/// would be accepted in the other layout.
+/// would be accepted in the other layout or edition.
 #[test]
 fn readings() {
     let mut verdicts = BTreeMap::new();
     for (name, own, image) in samples() {
-        for arguments in readers(own) {
+        for arguments in readers(own, &image) {
             let run = card(&format!("read samples/{name} {}", words(arguments, &image)));
             let facts = expected(&image, arguments);
             assert_eq!(
@@ -275,10 +329,13 @@ fn readings() {
         ("accepted without --magic", 10),
         ("accepted with --size 128", 100),
         ("accepted with --size 512", 10),
+        ("accepted with --edition 1.00", 10),
+        ("accepted with --edition 1.01", 10),
+        ("REFUSED 31", 0),
+        ("REFUSED 38", 10),
     ] {
         assert!(verdicts[fact] > least, "{verdicts:?}");
     }
-    assert!(verdicts.contains_key("REFUSED 31"), "{verdicts:?}");
 }
 
 /// The same of random cards of all layouts, whose blocks say anything.
@@ -302,20 +359,22 @@ fn random_cards() {
     }
 }
 
-/// Every command that shows the verdict of a reading says where another layout would accept; but a narrow `sheet` of no other
-/// size, since "the old form gets 1 for any but 128 bytes".
+/// Every command that shows the verdict of a reading says where another layout or edition would accept; but a narrow `sheet` of
+/// no other size, since "the old form gets 1 for any but 128 bytes".
 #[test]
 fn other_layout() {
     let folder = temporary("other_layout");
     let out = folder.join("out").display().to_string();
-    let mut count = 0;
+    let mut counts = BTreeMap::new();
     for (name, own, image) in samples() {
-        for layout in LAYOUTS {
-            let arguments = own.laid_out(layout);
+        let in_layouts = |own: Arguments| LAYOUTS.map(|layout| own.laid_out(layout));
+        for arguments in editions(own, &image).into_iter().flat_map(in_layouts) {
+            let layout = arguments.layout;
             let line = otherwise(&image, arguments).map(|line| format!("  {line}"));
             let chip = own.chip;
-            let options = options(layout, &image);
-            let is_sheet = |line: &&String| layout.size == SMALL && line.ends_with("--magic");
+            let edition = edition_option(arguments.first_edition);
+            let options = format!("{}{edition}", options(layout, &image));
+            let is_sheet = |line: &&String| layout.size == SMALL && !line.contains("--size");
             let of_sheet = line.as_ref().filter(is_sheet);
             for (command, line) in [
                 (
@@ -346,11 +405,17 @@ fn other_layout() {
                 let run = card(&command);
                 let said = run.written.lines().find(|it| it.starts_with("  accepted"));
                 assert_eq!(said, line.map(|it| &**it), "{command}\n{}", run.written);
-                count += usize::from(said.is_some());
+                if let Some(line) = line {
+                    *counts.entry(line.clone()).or_insert(0) += 1;
+                }
             }
         }
     }
-    assert!(count > 50, "{count} times");
+    assert!(counts.values().sum::<usize>() > 50, "{counts:?}");
+    for edition in ["1.00", "1.01"] {
+        let line = format!("  accepted with --edition {edition}");
+        assert!(counts[&line] > 10, "{counts:?}");
+    }
 }
 
 /// The block for which an image is refused: the last of the fewest blocks that are refused so, were they the whole leaf.
@@ -529,8 +594,9 @@ fn is_walked(name: &str, image: &[u8], arguments: Arguments, random: &mut Random
         controller,
         level,
         layout,
+        first_edition,
     } = arguments;
-    let options = options(layout, image);
+    let options = options(layout, image) + edition_option(first_edition);
     let mut walk = Autosense::Fresh;
     let number = walk.load(image, arguments);
     if number != 0 {
@@ -550,7 +616,9 @@ fn is_walked(name: &str, image: &[u8], arguments: Arguments, random: &mut Random
     ));
     let lines: Vec<_> = run.written.lines().collect();
     let long = reports.iter().filter(|report| is_long(report)).count();
-    let count = 2 + reports.len() + long;
+    let way = way_lines(walk.walk().connection);
+    let head = 1 + way.lines().count();
+    let count = head + reports.len() + long;
     assert_eq!(lines.len(), count, "{name}\n{}", run.written);
     let loaded = format!(
         "LOADED  {}, {} blocks",
@@ -558,9 +626,9 @@ fn is_walked(name: &str, image: &[u8], arguments: Arguments, random: &mut Random
         starts.len()
     );
     assert_eq!(lines[0], loaded, "{name}");
-    assert_eq!(lines[1], way_line(walk.walk().connection), "{name}");
+    assert_eq!(lines[1..head].join("\n"), way, "{name}");
     let mut refused = false;
-    let mut lines = lines[2..].iter();
+    let mut lines = lines[head..].iter();
     for report in &reports {
         let links: Vec<u8> = report.bytes().map(|digit| digit - b'0').collect();
         let number = walk.look(&links);
@@ -611,33 +679,57 @@ fn links_line(report: &str) -> String {
 }
 
 /// A connection type and its way to walk.
-fn way_line(connection: u16) -> String {
+fn way_lines(connection: u16) -> String {
     let way = match Way::of(connection) {
         Way::EveryLook => "autosensed at every look".to_string(),
         Way::Once => "autosensed once".to_string(),
         Way::Fixed => format!("fixed: {}", fixed_name(connection).unwrap()),
     };
-    format!("  connection type 0x{connection:04x}, {way}")
+    connection_lines("  connection type ", connection, &way)
 }
 
 /// "every other type counts as fixed", and a look under it at a card without a block gets 32: each type of
-/// each chip. Of a fixed one `read` has the same name.
+/// each chip, and of each edition. Of a fixed one `read` has the same name.
 #[test]
 fn ways_to_walk() {
     let file = temporary("ways_to_walk").join("card.rom");
     for chip in CHIPS {
         for connection in connections(chip) {
             fs::write(&file, Card::tidy(chip, connection, vec![]).image()).unwrap();
-            let run = card(&format!("walk {} {chip} 0", file.display()));
-            let name = fixed_name(connection);
-            assert_eq!(run.written.lines().nth(1), Some(&*way_line(connection)));
-            let is_refused = run.written.contains("REFUSED 32: ");
-            assert_eq!(is_refused, name.is_some(), "{}", run.written);
-            assert_eq!(run.status, i32::from(is_refused), "{}", run.written);
-            let read = card(&format!("read {} {chip}", file.display())).written;
-            let line = name.map(|name| format!("  connection type  0x{connection:04x}, {name}\n"));
-            assert!(line.is_none_or(|line| read.contains(&line)), "{read}");
+            hold_way(&format!("{} {chip}", file.display()), connection);
         }
+    }
+    let editions = FIRST_CHIPS.map(|chip| EDITIONS.map(|first_edition| (chip, first_edition)));
+    for (chip, first_edition) in editions.into_iter().flatten() {
+        let rules = Rules {
+            chip,
+            version: FIRST_VERSION,
+            first_edition,
+        };
+        for connection in rules.connections() {
+            let mut made = Card::tidy(chip, connection, vec![]);
+            made.version = FIRST_VERSION;
+            fs::write(&file, made.image()).unwrap();
+            let option = edition_option(first_edition);
+            hold_way(&format!("{} {chip}{option}", file.display()), connection);
+        }
+    }
+}
+
+/// Holds what `walk` and `read` say of the connection type of a card without a block, which these words name.
+fn hold_way(words: &str, connection: u16) {
+    let run = card(&format!("walk {words} 0"));
+    let name = fixed_name(connection);
+    let way = format!("\n{}\n", way_lines(connection));
+    assert!(run.written.contains(&way), "{}", run.written);
+    let is_refused = run.written.contains("REFUSED 32: ");
+    assert_eq!(is_refused, name.is_some(), "{}", run.written);
+    assert_eq!(run.status, i32::from(is_refused), "{}", run.written);
+    let read = card(&format!("read {words}")).written;
+    assert!(read.lines().all(|line| line.len() <= 80), "{read}");
+    if let Some(name) = name {
+        let lines = connection_lines("  connection type  ", connection, name);
+        assert!(read.contains(&format!("\n{lines}\n")), "{read}");
     }
 }
 

@@ -114,7 +114,7 @@ fn a_large_image_is_read_in_each_form() {
 #[test]
 fn a_long_sheet_is_read_in_each_form() {
     let folder = temporary("sheet_forms");
-    let longest = Sheet::longest(&mut Random::new(1), Layout::LARGE_PLAIN).bytes(Wide);
+    let longest = Sheet::longest(&mut Random::new(1), Layout::LARGE_PLAIN, false).bytes(Wide);
     assert_eq!(longest.len(), LONGEST_WIDE_SHEET);
     fs::write(folder.join("raw"), &longest).unwrap();
     let written = |file: &str, out: &str| {

@@ -1,6 +1,9 @@
 //! The picture of a ROM: well formed, a cell for each byte with its value and its field.
 
-use card::{PowerBlock, card, options, power_blocks, samples, temporary, words};
+use card::{
+    PowerBlock, card, edition, edition_option, options, power_blocks, samples, temporary, words,
+};
+use second::edition::{EDITIONS, FIRST_VERSION};
 use second::images::{Card, block};
 use second::layout::{LAYOUTS, Layout, MAGIC_LENGTH, SMALL, is_of_size, magic_offset};
 use second::magic::{ADDRESS_OFFSET, COMMAND_OFFSET, CRC_OFFSET, LAST_RESERVED, PASSWORD_OFFSET};
@@ -43,6 +46,7 @@ const MEDIUM: usize = 9;
 const PHY: usize = 10;
 const POWER: usize = 12;
 const UNKNOWN: usize = 13;
+const REFUSED: usize = 14;
 const MAKER: usize = 15;
 const SROM_CRC: usize = 16;
 const PASSWORD: usize = 17;
@@ -413,5 +417,41 @@ fn replacement_card() {
     ] {
         let found = cells.iter().filter(|(_, it)| *it == field).count();
         assert_eq!(found, bytes, "field {field}");
+    }
+}
+
+/// A card of version 1 in each edition, whose line below the title names it; and "extended ones get 14 at every level", so that
+/// one of a type that nobody has met is refused and not stepped over.
+#[test]
+fn first_version() {
+    let folder = temporary("first_version");
+    let (file, svg) = (folder.join("card.rom"), folder.join("card.svg"));
+    for blocks in [
+        vec![block::compact(3, 0, 0)],
+        vec![block::compact(3, 0, 0), block::extended(9, &[1, 2])],
+    ] {
+        let is_accepted = blocks.len() == 1;
+        let mut made = Card::tidy(21140, 0x0800, blocks);
+        made.version = FIRST_VERSION;
+        fs::write(&file, made.image()).unwrap();
+        for first_edition in EDITIONS {
+            let (file, picture) = (file.display(), svg.display());
+            let option = edition_option(first_edition);
+            let run = card(&format!("map {file} 21140 {picture} --force{option}"));
+            assert_eq!(run.status, i32::from(!is_accepted), "{}", run.written);
+            let tags = tags(&fs::read_to_string(&svg).unwrap());
+            let drawn = assert_page(&tags, Layout::PLAIN);
+            let has = |words: &str| drawn.iter().any(|it| it.words.contains(words));
+            let read = format!(
+                "accepted by a reader of level 7 for controller 0, read in edition {}",
+                edition(first_edition)
+            );
+            assert_eq!(has(&read), is_accepted, "{drawn:?}");
+            assert_eq!(has("refused 14: "), !is_accepted, "{drawn:?}");
+            assert!(!has("steps over"), "{drawn:?}");
+            let count = |field| cells(&tags).iter().filter(|(_, it)| *it == field).count();
+            let refused = if is_accepted { 0 } else { 4 };
+            assert_eq!([MEDIUM, UNKNOWN, REFUSED].map(count), [4, 0, refused]);
+        }
     }
 }

@@ -1,5 +1,5 @@
 //! The sentences of `./card older`, held to all walks of the second implementation: every list of looks, a reader and an older
-//! one side by side (document 01, 'The walk' and demand 3; document 02, requests 4 and 5).
+//! one side by side (document 01, 'The walk' and demand 3; document 02, requests 4, 5 and 12).
 
 use card::{card, fixed_name, samples, temporary, words};
 use second::calls::{block_count, connect, mark};
@@ -289,10 +289,10 @@ impl Tally {
     }
 
     /// The same of a made card, through a file.
-    fn hold_made(&mut self, folder: &Path, made: &Card, chip: u16) {
+    fn hold_made(&mut self, folder: &Path, made: &Card, newest: Arguments) {
         let file = folder.join("card.rom");
         fs::write(&file, made.image()).unwrap();
-        let newest = Arguments::newest(chip).laid_out(made.layout());
+        let newest = newest.laid_out(made.layout());
         self.hold_card(file.to_str().unwrap(), &made.image(), newest);
     }
 }
@@ -306,18 +306,22 @@ fn title(reader: u8) -> String {
     }
 }
 
-/// A random card for the chip, of any layout, autosensed or fixed, whose first controller has from 1 to 12 blocks, and in
-/// half of the cases with more blocks that have Active_Invalid.
-fn random_card(random: &mut Random, chip: u16) -> Card {
+/// A random card that a newest reader reads, of any layout, autosensed or fixed, whose first controller has from 1 to 12
+/// blocks, and in half of the cases with more blocks that have Active_Invalid.
+fn random_card(random: &mut Random, newest: Arguments) -> Card {
+    let Arguments {
+        chip,
+        first_edition,
+        ..
+    } = newest;
     loop {
         let layout = random.pick(&LAYOUTS);
-        let mut card = Card::valid(random, chip, layout);
-        connect(random, &mut card);
+        let mut card = Card::valid(random, chip, layout, first_edition);
+        connect(random, &mut card, first_edition);
         if random.one_in(2) {
             mark(random, &mut card);
         }
-        let newest = Arguments::newest(chip).laid_out(layout);
-        let blocks = block_count(&card.image(), newest);
+        let blocks = block_count(&card.image(), newest.laid_out(layout));
         if (1..=MOST_BLOCKS).contains(&blocks) {
             return card;
         }
@@ -376,14 +380,15 @@ fn older_sentences() {
     let mut made = long_cards();
     made.push((fixed_card(), 21140));
     for (card, chip) in made {
-        tally.hold_made(&folder, &card, chip);
+        tally.hold_made(&folder, &card, Arguments::newest(chip));
         cards += 1;
     }
     let mut random = Random::new(21143);
     for _ in 0..12 {
         for chip in CHIPS {
-            let card = random_card(&mut random, chip);
-            tally.hold_made(&folder, &card, chip);
+            let newest = Arguments::newest(chip).in_edition(random.one_in(2));
+            let card = random_card(&mut random, newest);
+            tally.hold_made(&folder, &card, newest);
             cards += 1;
         }
     }

@@ -1,12 +1,16 @@
 //! Sheets of both forms, made, written and converted by the bench tool, held to the second implementation: the same bytes, or no
 //! file and the same number, and what is said of it.
 
-use card::{Run, card, options, reasons, sample_sheets, samples, size_by_length, temporary, words};
+use card::{
+    Run, card, edition, edition_option, options, reasons, sample_sheets, samples, size_by_length,
+    temporary, words,
+};
+use second::edition::EDITIONS;
 use second::images::{Card, MagicBlock};
 use second::layout::{LARGE, LAYOUTS, Layout, SMALL};
 use second::random::Random;
 use second::reader::{Arguments, read_all};
-use second::sheet::{self, FORMS, Form, LONGEST_WIDE_SHEET, Made, served};
+use second::sheet::{self, FORMS, Form, LONGEST_WIDE_SHEET, Made, served, served_editions};
 use second::sheets::converted::convert_damages;
 use second::sheets::{Sheet, output, sheet_damages};
 use std::collections::{BTreeMap, BTreeSet};
@@ -21,18 +25,20 @@ fn wide(form: Form) -> &'static str {
     if form.is_wide() { " --wide" } else { "" }
 }
 
-/// The sheet of every sample in every form and layout, and the image of that sheet, with the sample's own block where it has
-/// one.
+/// The sheet of every sample in every form, layout and edition, and the image of that sheet, with the sample's own block where
+/// it has one.
 #[test]
 fn sheets_of_samples() {
     let folder = temporary("sheets");
     let mut counts = BTreeMap::new();
     for (name, own, image) in samples() {
-        for form in FORMS {
-            for layout in LAYOUTS {
-                let made = folder.join(&name).with_extension("sheet");
-                let written = folder.join(&name);
-                let arguments = own.laid_out(layout);
+        let in_layouts = |form| LAYOUTS.map(|layout| (form, own.laid_out(layout)));
+        for (form, arguments) in FORMS.into_iter().flat_map(in_layouts) {
+            let layout = arguments.layout;
+            let made = folder.join(&name).with_extension("sheet");
+            let written = folder.join(&name);
+            for first_edition in EDITIONS {
+                let arguments = arguments.in_edition(first_edition);
                 if is_sheet_made(&name, &image, arguments, form, [&made, &written]) {
                     let kind = (form.is_wide(), layout.size, layout.magic);
                     *counts.entry(kind).or_insert(0) += 1;
@@ -42,7 +48,7 @@ fn sheets_of_samples() {
     }
     println!("{counts:?}");
     for form in [false, true] {
-        assert!(counts[&(form, SMALL, false)] >= 10, "{counts:?}");
+        assert!(counts[&(form, SMALL, false)] >= 20, "{counts:?}");
         assert!(counts[&(form, SMALL, true)] >= 1, "{counts:?}");
     }
     assert!(counts[&(true, LARGE, false)] >= 1, "{counts:?}");
@@ -57,14 +63,19 @@ fn is_sheet_made(
     form: Form,
     [made, written]: [&Path; 2],
 ) -> bool {
-    let Arguments { chip, layout, .. } = arguments;
+    let Arguments {
+        chip,
+        layout,
+        first_edition,
+        ..
+    } = arguments;
     let _ = fs::remove_file(made);
-    let wide = wide(form);
+    let wide = format!("{}{}", wide(form), edition_option(first_edition));
     let options = options(layout, image);
     let words = format!("samples/{name} {chip} {}{options}", made.display());
     let run = card(&format!("sheet {words}{wide}"));
     let mut buffer = [0; LONGEST_WIDE_SHEET];
-    let answer = sheet::make(image, chip, form, layout, &mut buffer);
+    let answer = sheet::make(image, chip, form, layout, first_edition, &mut buffer);
     if answer.number != 0 {
         run.assert_refused(answer.number, made);
         let is_told = run.written.contains(&keeps_to(image));
@@ -85,7 +96,8 @@ fn is_sheet_made(
         true => image.to_vec(),
         false => vec![0; layout.size.into()],
     };
-    assert_eq!(sheet::write(bytes, form, layout, &mut output), 0, "{name}");
+    let number = sheet::write(bytes, form, layout, first_edition, &mut output);
+    assert_eq!(number, 0, "{name}");
     run.assert_written(written, &output);
     true
 }
@@ -131,7 +143,7 @@ fn kept_blocks() {
     let image = fs::read(card::root().join("samples/magic-21143.rom")).unwrap();
     for form in FORMS {
         let mut buffer = [0; LONGEST_WIDE_SHEET];
-        let made = sheet::make(&image, 21143, form, Layout::MAGIC, &mut buffer);
+        let made = sheet::make(&image, 21143, form, Layout::MAGIC, false, &mut buffer);
         let bytes = &buffer[..made.length];
         fs::write(&file, bytes).unwrap();
         let mut numbers = BTreeSet::new();
@@ -144,7 +156,7 @@ fn kept_blocks() {
                 "write {file} {words} --magic samples/{name}{wide}"
             ));
             let layout = Layout::new(size_by_length(&image), true);
-            let number = sheet::write(bytes, form, layout, &mut image);
+            let number = sheet::write(bytes, form, layout, false, &mut image);
             numbers.insert((number, layout.size));
             if number == 0 {
                 run.assert_written(&out, &image);
@@ -205,7 +217,8 @@ fn sizes() {
             let stated = size.unwrap_or(SMALL);
             let length = if stated == LARGE { LARGE } else { SMALL };
             let mut image = vec![0; length.into()];
-            let number = sheet::write(&bytes, form, Layout::new(stated, false), &mut image);
+            let layout = Layout::new(stated, false);
+            let number = sheet::write(&bytes, form, layout, false, &mut image);
             if number == 0 {
                 run.assert_written(&out, &image);
                 continue;
@@ -255,21 +268,18 @@ fn is_raw(bytes: &[u8]) -> bool {
     bytes.len() <= ROOM && bytes.iter().any(|&byte| byte < 9)
 }
 
-/// Sheets with a damaged field, in each form and layout: each number of the writer's, from the sheet and from its image. Those
-/// refused with 24 are often sheets of the other form.
+/// Sheets with a damaged field, in each form, layout and edition: each number of the writer's, from the sheet and from its image.
+/// Those refused with 24 are often sheets of the other form, and those refused with 11 of the other edition.
 #[test]
 fn refused_sheets() {
     let folder = temporary("refused_sheets");
     let [file, from, out] = ["card.sheet", "old.rom", "card.rom"].map(|name| folder.join(name));
     let mut random = Random::new(21143);
     let mut hints = BTreeMap::new();
-    for (form, layout) in served() {
+    for (form, layout, first_edition) in served_editions() {
         for number in sheet_damages(form) {
             for _ in 0..3 {
-                let mut bytes = Sheet::damaged(&mut random, number, form, layout);
-                if number == 24 && random.one_in(2) {
-                    bytes = Sheet::valid(&mut random, layout).bytes(form.other());
-                }
+                let bytes = refused(&mut random, number, form, layout, first_edition);
                 if !is_raw(&bytes) {
                     continue;
                 }
@@ -279,8 +289,9 @@ fn refused_sheets() {
                     true => format!(" --magic {}", from.display()),
                     false => format!(" --size {}", layout.size),
                 };
+                let option = option + edition_option(first_edition) + wide(form);
                 let (file, words) = (file.display(), out.display());
-                let run = card(&format!("write {file} {words}{option}{}", wide(form)));
+                let run = card(&format!("write {file} {words}{option}"));
                 run.assert_refused(number, &out);
                 let lines = match number {
                     24 => lengths(&bytes, form, write_otherwise(form)),
@@ -288,14 +299,20 @@ fn refused_sheets() {
                         "  {} blocks; a leaf has up to 255",
                         form.sizes(&bytes).0
                     )],
-                    26 => {
-                        let line = fits_larger(&bytes, form, layout);
+                    11 | 26 => {
+                        let line = match number {
+                            26 => fits_larger(&bytes, form, layout, first_edition),
+                            _ => {
+                                let over = fs::read(&from).unwrap();
+                                is_of_other(&bytes, form, layout, first_edition, over)
+                            }
+                        };
                         let told = told(&run)
                             .into_iter()
                             .find(|it| it.starts_with("  accepted"));
                         assert_eq!(told, line, "{}", run.written);
                         *hints
-                            .entry((26, form.is_wide(), line.is_some()))
+                            .entry((number, form.is_wide(), line.is_some()))
                             .or_insert(0) += 1;
                         continue;
                     }
@@ -315,16 +332,56 @@ fn refused_sheets() {
     }
     assert!(hints[&(33, true, false)] > 5, "{hints:?}");
     assert!(hints.contains_key(&(26, true, true)), "{hints:?}");
+    for is_wide in [false, true] {
+        for is_hint in [false, true] {
+            assert!(hints.contains_key(&(11, is_wide, is_hint)), "{hints:?}");
+        }
+    }
+}
+
+/// A sheet that the writer refuses with a number in a form, a layout and an edition.
+fn refused(
+    random: &mut Random,
+    number: u8,
+    form: Form,
+    layout: Layout,
+    first_edition: bool,
+) -> Vec<u8> {
+    match number {
+        24 if random.one_in(2) => Sheet::valid(random, layout, first_edition).bytes(form.other()),
+        11 if random.one_in(2) => loop {
+            let sheet = Sheet::first_version(random, layout, !first_edition);
+            let bytes = sheet.bytes(form);
+            let mut image = output(random, layout);
+            if sheet::write(&bytes, form, layout, first_edition, &mut image) == 11 {
+                return bytes;
+            }
+        },
+        _ => Sheet::damaged(random, number, form, layout, first_edition),
+    }
+}
+
+/// What is said of a sheet whose image is refused with 11 in the one edition and accepted in the other, over an image whose block is
+/// kept.
+fn is_of_other(
+    bytes: &[u8],
+    form: Form,
+    layout: Layout,
+    first_edition: bool,
+    mut over: Vec<u8>,
+) -> Option<String> {
+    let number = sheet::write(bytes, form, layout, !first_edition, &mut over);
+    (number == 0).then(|| format!("  accepted with --edition {}", edition(!first_edition)))
 }
 
 /// What is said of a sheet whose leaf has room in the larger ROM alone.
-fn fits_larger(bytes: &[u8], form: Form, layout: Layout) -> Option<String> {
+fn fits_larger(bytes: &[u8], form: Form, layout: Layout, first_edition: bool) -> Option<String> {
     let mut image = vec![0; LARGE.into()];
     let larger = Layout {
         size: LARGE,
         ..layout
     };
-    let number = sheet::write(bytes, form, larger, &mut image);
+    let number = sheet::write(bytes, form, larger, first_edition, &mut image);
     (number == 0).then(|| format!("  accepted with --size {LARGE}"))
 }
 
@@ -404,7 +461,7 @@ fn sheets_that_are_stored() {
         let (size, wide, words) = (layout.size, wide(form), out.display());
         let run = card(&format!("write samples/{name} {words} --size {size}{wide}"));
         let mut image = vec![0; size.into()];
-        let number = sheet::write(&bytes, form, layout, &mut image);
+        let number = sheet::write(&bytes, form, layout, false, &mut image);
         numbers.insert(number);
         if number != 0 {
             run.assert_refused(number, &out);

@@ -1,7 +1,7 @@
 //! Transcripts of the bench tool: each line that begins with `$ ` is run at the root, and what it
 //! writes and its exit status must be as stored. `TRANSCRIPTS=write cargo test -p card` stores
-//! them anew, so they guard against change alone; tests/facts.rs holds verdicts in every layout,
-//! header fields, counts, tables, Magic Packet blocks, modes of power blocks, named blocks, walks and
+//! them anew, so they guard against change alone; tests/facts.rs holds verdicts in every layout and
+//! edition, header fields, counts, tables, Magic Packet blocks, modes of power blocks, named blocks, walks and
 //! columns to the second implementation, tests/sheets.rs sheets of both forms, and tests/sentences.rs
 //! what is said of older drivers.
 
@@ -39,6 +39,9 @@ macro_rules! transcripts {
 }
 
 transcripts! {
+    /// Document 02, request 12: cards of version 1 in each edition, read, walked, drawn, made sheets of and written again, and
+    /// refused; and what `--edition` takes.
+    edition,
     /// Files that are written: whole, and never over one that exists unless forced.
     files,
     /// The forms of hexadecimal text, and what is none of them.
@@ -76,12 +79,12 @@ fn every_transcript() {
 }
 
 /// "every number": but those that no command can cause (docs/DECISIONS.md, 'The bench tool'), and
-/// the list has all. There is no 28, and "Refusal 22 is retired".
+/// the list has all. There is no 28, "Refusal 22 is retired", and 34 to 37 are of requests that have not landed.
 #[test]
 fn every_refusal() {
     let stored = fs::read_to_string(folder().join("refusals.txt")).unwrap();
-    for number in 1..=33 {
-        let is_number = ![22, 28].contains(&number);
+    for number in 1..=38 {
+        let is_number = ![22, 28, 34, 35, 36, 37].contains(&number);
         let is_caused = stored.contains(&format!("REFUSED {number}: "));
         let can_be_caused = is_number && ![12, 20, 21].contains(&number);
         assert_eq!(is_caused, can_be_caused, "{number}");

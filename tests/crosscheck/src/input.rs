@@ -51,13 +51,14 @@ pub enum Input {
         sheet: Vec<u8>,
         form: Form,
         layout: Layout,
+        first_edition: bool,
         image: Vec<u8>,
     },
+    /// For the chip, in the layout and the edition of the arguments.
     MakeSheet {
         image: Vec<u8>,
-        chip: u16,
         form: Form,
-        layout: Layout,
+        arguments: Arguments,
         length: usize,
     },
     /// From this form to the other.
@@ -97,7 +98,9 @@ impl Input {
                 offsets,
             } => {
                 let reading = compare::read(image, *arguments, (*kinds, *offsets))?;
-                tally.count(Name::Read, reading.answer.number);
+                let number = reading.answer.number;
+                tally.count(Name::Read, number);
+                tally.editions.count_image(image, *arguments, number);
             }
             Self::View {
                 image,
@@ -123,20 +126,23 @@ impl Input {
                 sheet,
                 form,
                 layout,
+                first_edition,
                 image,
             } => {
-                let (number, _) = compare::write(sheet, *form, *layout, image)?;
+                let (number, _) = compare::write(sheet, *form, *layout, *first_edition, image)?;
                 tally.count_sheet(*form, Name::Write, number);
+                let editions = &mut tally.editions;
+                editions.count_sheet(sheet, *form, *first_edition, number);
             }
             Self::MakeSheet {
                 image,
-                chip,
                 form,
-                layout,
+                arguments,
                 length,
             } => {
-                let (made, _) = compare::make_sheet(image, *chip, *form, *layout, *length)?;
+                let (made, _) = compare::make_sheet(image, *form, *arguments, *length)?;
                 tally.count_sheet(*form, Name::MakeSheet, made.number);
+                tally.editions.count_made(image, *arguments, made.number);
             }
             Self::Convert {
                 sheet,
@@ -158,9 +164,7 @@ impl Input {
     /// with it. None for steps without a load, and for conversions.
     fn layout(&self) -> Option<Layout> {
         match self {
-            Self::SromCrc(_, layout)
-            | Self::Write { layout, .. }
-            | Self::MakeSheet { layout, .. } => Some(*layout),
+            Self::SromCrc(_, layout) | Self::Write { layout, .. } => Some(*layout),
             Self::IdCrc(_, size) => Some(Layout::new(*size, false)),
             Self::MagicCrc(_, size) | Self::ReadMagic(_, size) | Self::WriteMagic(_, _, size) => {
                 Some(Layout::new(*size, true))
@@ -168,7 +172,8 @@ impl Input {
             Self::Read { arguments, .. }
             | Self::View { arguments, .. }
             | Self::Levels { arguments, .. }
-            | Self::Twins { arguments, .. } => Some(arguments.layout),
+            | Self::Twins { arguments, .. }
+            | Self::MakeSheet { arguments, .. } => Some(arguments.layout),
             Self::Walk(steps) => steps.iter().find_map(|(step, _)| loaded(step)),
             Self::Convert { .. } => None,
         }
@@ -207,7 +212,11 @@ fn compare_steps(steps: &[(Step, usize)], tally: &mut Tally) -> Result<(), Diffe
             Step::Clear => Name::Clear,
         };
         for _ in 0..*times {
-            tally.count(name, pair.step(step)?);
+            let number = pair.step(step)?;
+            tally.count(name, number);
+            if let (Step::Load(image, arguments), true) = (step, number != 21) {
+                tally.editions.count_image(image, *arguments, number);
+            }
         }
     }
     Ok(())

@@ -3,7 +3,7 @@
 //! `cargo run --release -p crosscheck -- SECONDS SEED [ROUNDS]`. Where ROUNDS is given, it decides
 //! instead of the clock. The status is 0, 1 at a difference, which is shown with the smallest input
 //! found for it, or where either size has less than a third of the calls, or either form of the calls
-//! with sheets, and 2 for wrong arguments.
+//! with sheets, or a refusal of version 1 comes too seldom, and 2 for wrong arguments.
 
 mod input;
 mod rounds;
@@ -84,13 +84,18 @@ fn main() -> ExitCode {
     );
     let Some(input) = differing else {
         let (sizes, forms) = (tally.rare_sizes(), tally.rare_forms());
+        let editions = tally.rare_editions();
         if !sizes.is_empty() {
             println!("less than a third of the calls state a size of {sizes:?}");
         }
         if !forms.is_empty() {
             println!("less than a third of the calls with sheets are {forms:?}");
         }
-        return ExitCode::from(u8::from(!sizes.is_empty() || !forms.is_empty()));
+        if !editions.is_empty() {
+            println!("too few calls are answered {editions:?}");
+        }
+        let is_complete = sizes.is_empty() && forms.is_empty() && editions.is_empty();
+        return ExitCode::from(u8::from(!is_complete));
     };
     println!("\nround {rounds} differs; the smallest input found:");
     let (input, difference) = smallest(input);

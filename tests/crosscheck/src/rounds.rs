@@ -5,6 +5,7 @@ use crate::input::Input;
 use library::levels::Older;
 use second::calls::{self, Habits, Step};
 use second::crc::lay_crcs;
+use second::edition::{CODES, EDITIONS};
 use second::images::{Card, DAMAGES, Image, MagicBlock, Sample, WRONG_SIZES, block, random_image};
 use second::layout::{LAYOUTS, Layout, SIZES, is_of_size};
 use second::random::Random;
@@ -60,6 +61,7 @@ impl Iterator for Rounds {
         for (form, layout) in served() {
             inputs.extend(writings(random, form, layout));
         }
+        inputs.extend(editions(random));
         inputs.push(twins(random));
         for form in FORMS {
             inputs.extend(makings(random, form));
@@ -268,6 +270,69 @@ fn levels(random: &mut Random, layout: Layout) -> Vec<Input> {
     (0..NEWEST_LEVEL).map(level).collect()
 }
 
+/// Document 02, request 12: a card of version 1, mostly under a code of one of its editions, read, loaded
+/// and looked at, and, where it is tidy, made a sheet of, in each edition; and sheets of version 1 with
+/// such a code.
+fn editions(random: &mut Random) -> Vec<Input> {
+    let layout = random.pick(&LAYOUTS);
+    let first_edition = random.one_in(2);
+    let mut sample = Sample::first_version(random, layout, first_edition);
+    match random.below(8) {
+        0 => {
+            let number = random.pick(&DAMAGES);
+            sample.damage(random, number);
+        }
+        1 => _ = sample.damage(random, 14),
+        2 => _ = sample.damage(random, 38),
+        3 => {}
+        _ => {
+            let code = random.pick(&CODES);
+            let leaves = sample.card.leaves.iter_mut();
+            leaves.for_each(|leaf| leaf.connection = code);
+        }
+    }
+    if random.one_in(4) {
+        sample.arguments.level = random.pick(&LEVELS);
+    }
+    let (image, form) = (sample.card.image(), Form::of(random.one_in(2)));
+    let habits = Habits::new(random, calls::block_count(&image, sample.arguments));
+    let mut inputs = Vec::new();
+    for first_edition in EDITIONS {
+        let arguments = sample.arguments.in_edition(first_edition);
+        inputs.push(Input::Read {
+            image: image.clone(),
+            arguments,
+            kinds: ROOMY,
+            offsets: ROOMY,
+        });
+        let looks = habits.reports(random, 3).into_iter().map(Step::Look);
+        let load = Step::Load(image.clone(), arguments);
+        let steps = [load].into_iter().chain(looks).collect();
+        inputs.push(Input::Walk(once(steps)));
+        inputs.push(Input::MakeSheet {
+            image: image.clone(),
+            form,
+            arguments,
+            length: ROOMY_BUFFER,
+        });
+        let layout = random.pick(form.layouts());
+        let mut sheet = Sheet::first_version(random, layout, first_edition);
+        if random.one_in(2) {
+            sheet.connection = random.pick(&CODES);
+        }
+        let mut output = random.row(layout.size.into());
+        MagicBlock::valid(random).lay(&mut output);
+        inputs.push(Input::Write {
+            sheet: sheet.bytes(form),
+            form,
+            layout,
+            first_edition,
+            image: output,
+        });
+    }
+    inputs
+}
+
 /// Looks at a card with an empty connection word.
 fn twins(random: &mut Random) -> Input {
     let Sample { card, arguments } = calls::emptied(random);
@@ -287,7 +352,7 @@ fn spent(random: &mut Random, size: u16) -> Input {
     let media = [0, 1].map(|code| block::sia(code, None, 0, 0));
     let layout = Layout::new(size, random.one_in(2));
     let mut card = Card::tidy(21143, AUTOSENSE, media.to_vec()).laid_out(random, layout);
-    calls::connect(random, &mut card);
+    calls::connect(random, &mut card, false);
     let arguments = Arguments::newest(21143).laid_out(layout);
     let load = Step::Load(card.image(), arguments);
     let habits = Habits {
@@ -312,23 +377,24 @@ fn spent(random: &mut Random, size: u16) -> Input {
 /// mostly right; of a valid one the image and its sheet in buffers of a near length.
 fn writings(random: &mut Random, form: Form, layout: Layout) -> Vec<Input> {
     let damages = sheet_damages(form);
+    let first_edition = random.one_in(2);
     let sheet = match random.below(8) {
-        0..2 => Sheet::valid(random, layout).bytes(form),
+        0..2 => Sheet::valid(random, layout, first_edition).bytes(form),
         2..5 => {
             let number = random.pick(&damages);
-            Sheet::damaged(random, number, form, layout)
+            Sheet::damaged(random, number, form, layout, first_edition)
         }
         5 => {
-            let mut sheet = Sheet::valid(random, layout);
+            let mut sheet = Sheet::valid(random, layout, first_edition);
             let later = 2 + random.below(damages.len() - 2);
             let earlier = 1 + random.below(later - 1);
             for place in [later, earlier] {
-                sheet.damage(random, damages[place], form, layout);
+                sheet.damage(random, damages[place], form, layout, first_edition);
             }
             sheet.bytes(form)
         }
         6 => {
-            let mut sheet = Sheet::valid(random, layout).bytes(form);
+            let mut sheet = Sheet::valid(random, layout, first_edition).bytes(form);
             let offset = random.below(sheet.len());
             sheet[offset] = changed(random, sheet[offset]);
             sheet
@@ -343,14 +409,14 @@ fn writings(random: &mut Random, form: Form, layout: Layout) -> Vec<Input> {
     block.lay(&mut output);
     let mut inputs = Vec::new();
     let mut image = output.clone();
-    if sheet::write(&sheet, form, layout, &mut image) == 0 {
+    if sheet::write(&sheet, form, layout, first_edition, &mut image) == 0 {
         let exact = sheet.len();
+        let newest = Arguments::newest(form.chip(&sheet)).laid_out(layout);
         for length in [exact - 1, exact, exact + 1, ROOMY_BUFFER] {
             inputs.push(Input::MakeSheet {
                 image: image.clone(),
-                chip: form.chip(&sheet),
                 form,
-                layout,
+                arguments: newest.in_edition(first_edition),
                 length,
             });
         }
@@ -363,6 +429,7 @@ fn writings(random: &mut Random, form: Form, layout: Layout) -> Vec<Input> {
         sheet,
         form,
         layout,
+        first_edition,
         image,
     });
     inputs
@@ -395,9 +462,8 @@ fn makings(random: &mut Random, form: Form) -> [Input; 2] {
     };
     [ROOMY_BUFFER, random.below(ROOMY_BUFFER)].map(|length| Input::MakeSheet {
         image: image.clone(),
-        chip: arguments.chip,
         form,
-        layout: arguments.layout,
+        arguments,
         length,
     })
 }
@@ -413,7 +479,7 @@ fn conversions(random: &mut Random, form: Form) -> Vec<Input> {
         }
         _ => {
             let layout = random.pick(form.layouts());
-            Sheet::valid(random, layout).bytes(form)
+            Sheet::valid(random, layout, false).bytes(form)
         }
     };
     if let (true, false) = (random.one_in(8), sheet.is_empty()) {

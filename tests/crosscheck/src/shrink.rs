@@ -1,5 +1,5 @@
 //! The smallest input that still differs, found greedily: calls and blocks are dropped, layouts made
-//! plain and of the smaller size, sheets narrow, rows of bytes cut and bytes lowered, most often to 0, as
+//! plain and of the smaller size, editions the later, sheets narrow, rows of bytes cut and bytes lowered, most often to 0, as
 //! long as the difference stays.
 
 use crate::input::Input;
@@ -26,6 +26,8 @@ enum Edit {
     Plain { index: usize, mends: bool },
     /// States the smaller size, cuts the image to it, and mends its CRCs or not.
     Small { index: usize, mends: bool },
+    /// Names the later edition.
+    Later { index: usize },
     /// Takes a sheet for narrow, and narrows its bytes or not.
     Narrow { mends: bool },
     /// Lowers an array's length, an entry or how often a step is taken.
@@ -186,6 +188,11 @@ fn edits(input: &Input) -> Vec<Edit> {
             edits.extend([true, false].map(|mends| Edit::Small { index, mends }));
         }
     }
+    for (index, first_edition) in editions(&mut input).iter().enumerate() {
+        if **first_edition {
+            edits.push(Edit::Later { index });
+        }
+    }
     if let Some(Form::Wide) = written_form(&mut input) {
         edits.extend([true, false].map(|mends| Edit::Narrow { mends }));
     }
@@ -249,6 +256,11 @@ impl Edit {
                 rows(input).iter_mut().for_each(Row::cut_to_small);
                 if mends {
                     rows(input).iter_mut().for_each(Row::mend);
+                }
+            }
+            Self::Later { index } => {
+                if let Some(first_edition) = editions(input).get_mut(index) {
+                    **first_edition = false;
                 }
             }
             Self::Narrow { mends } => take_for_narrow(input, mends),
@@ -375,27 +387,43 @@ fn numbers(input: &mut Input) -> Vec<&mut usize> {
     }
 }
 
-fn layouts(input: &mut Input) -> Vec<&mut Layout> {
+/// The arguments of the calls that take them.
+fn all_arguments(input: &mut Input) -> Vec<&mut Arguments> {
     match input {
-        Input::SromCrc(_, layout)
-        | Input::Write { layout, .. }
-        | Input::MakeSheet { layout, .. } => vec![layout],
         Input::Read { arguments, .. }
         | Input::View { arguments, .. }
         | Input::Levels { arguments, .. }
-        | Input::Twins { arguments, .. } => vec![&mut arguments.layout],
+        | Input::Twins { arguments, .. }
+        | Input::MakeSheet { arguments, .. } => vec![arguments],
         Input::Walk(steps) => {
-            let layouts = steps.iter_mut().filter_map(|(step, _)| match step {
-                Step::Load(_, arguments) => Some(&mut arguments.layout),
+            let loads = steps.iter_mut().filter_map(|(step, _)| match step {
+                Step::Load(_, arguments) => Some(arguments),
                 Step::Look(_) | Step::Clear => None,
             });
-            layouts.collect()
+            loads.collect()
         }
-        Input::IdCrc(..)
-        | Input::MagicCrc(..)
-        | Input::ReadMagic(..)
-        | Input::WriteMagic(..)
-        | Input::Convert { .. } => Vec::new(),
+        _ => Vec::new(),
+    }
+}
+
+fn layouts(input: &mut Input) -> Vec<&mut Layout> {
+    match input {
+        Input::SromCrc(_, layout) | Input::Write { layout, .. } => vec![layout],
+        _ => all_arguments(input)
+            .into_iter()
+            .map(|it| &mut it.layout)
+            .collect(),
+    }
+}
+
+/// The editions that are named.
+fn editions(input: &mut Input) -> Vec<&mut bool> {
+    match input {
+        Input::Write { first_edition, .. } => vec![first_edition],
+        _ => all_arguments(input)
+            .into_iter()
+            .map(|it| &mut it.first_edition)
+            .collect(),
     }
 }
 
@@ -423,21 +451,16 @@ fn rows(input: &mut Input) -> Vec<Row<'_>> {
         }
         | Input::View {
             image, arguments, ..
-        } => vec![Row::new(image, Sort::Image(*arguments))],
-        Input::MakeSheet {
-            image,
-            chip,
-            layout,
-            ..
-        } => {
-            let arguments = Arguments::newest(*chip).laid_out(*layout);
-            vec![Row::new(image, Sort::Image(arguments))]
         }
+        | Input::MakeSheet {
+            image, arguments, ..
+        } => vec![Row::new(image, Sort::Image(*arguments))],
         Input::Write {
             sheet,
             form,
             layout,
             image,
+            ..
         } => {
             let block = Sort::Block(layout.size);
             vec![Row::new(sheet, Sort::Sheet(*form)), Row::new(image, block)]
@@ -555,6 +578,44 @@ mod tests {
                 panic!("another call: {smallest:?}");
             };
             assert_eq!(image.len(), layout.size.into());
+        }
+    }
+
+    /// A difference at images that one edition alone accepts stays in it; one at any accepted image is
+    /// named the later.
+    #[test]
+    fn later_edition() {
+        let number = |input: &Input, first_edition| match input {
+            Input::View {
+                image, arguments, ..
+            } => {
+                read_all(image, arguments.in_edition(first_edition))
+                    .0
+                    .number
+            }
+            _ => panic!("another call"),
+        };
+        let edition = |input: &Input| match input {
+            Input::View { arguments, .. } => arguments.first_edition,
+            _ => panic!("another call"),
+        };
+        let mut random = Random::new(9);
+        for layout in LAYOUTS {
+            let sample = Sample::first_version(&mut random, layout, true);
+            let mut card = sample.card;
+            card.leaves
+                .iter_mut()
+                .for_each(|leaf| leaf.connection = 0x0200);
+            let input = Input::View {
+                image: card.image(),
+                arguments: sample.arguments,
+                entry: 0,
+            };
+            let alone = |input: &Input| number(input, true) == 0 && number(input, false) == 11;
+            let is_first = |input: &Input| edition(input) && alone(input);
+            assert!(edition(&shrink(input.clone(), is_first)));
+            let smallest = shrink(input, |input| number(input, edition(input)) == 0);
+            assert!(!edition(&smallest), "{smallest:02x?}");
         }
     }
 
@@ -697,9 +758,10 @@ mod tests {
         let mut random = Random::new(2);
         for (form, layout) in served() {
             let drawn = iter::repeat_with(|| Input::Write {
-                sheet: Sheet::valid(&mut random, layout).bytes(form),
+                sheet: Sheet::valid(&mut random, layout, true).bytes(form),
                 form,
                 layout,
+                first_edition: true,
                 image: output(&mut random, layout),
             });
             let has_block = |input: &Input| match input {
@@ -707,8 +769,13 @@ mod tests {
                     sheet,
                     form,
                     layout,
+                    first_edition,
                     image,
-                } => write(sheet, *form, *layout, &mut image.clone()) == 0 && sheet[COUNT] > 0,
+                } => {
+                    let mut image = image.clone();
+                    let number = write(sheet, *form, *layout, *first_edition, &mut image);
+                    number == 0 && sheet[COUNT] > 0
+                }
                 _ => false,
             };
             for input in drawn.filter(has_block).take(8) {
@@ -716,6 +783,7 @@ mod tests {
                     sheet,
                     form,
                     layout,
+                    first_edition,
                     image,
                 } = shrink(input, has_block)
                 else {
@@ -723,6 +791,8 @@ mod tests {
                 };
                 assert_eq!((sheet[COUNT], form), (1, Form::Narrow), "{sheet:02x?}");
                 assert_eq!((layout, image), (Layout::PLAIN, vec![0; SMALL.into()]));
+                // A code of 1.00 is lowered to one that both have.
+                assert!(!first_edition, "{sheet:02x?}");
             }
         }
     }

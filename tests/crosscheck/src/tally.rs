@@ -1,12 +1,18 @@
 //! What was called and answered, as tables.
 
 use library::Form;
+use library::editions::Editions;
 use library::twins::Shown;
 use second::layout::{LAYOUTS, Layout, SIZES};
 use second::reader::NEWEST_LEVEL;
 use second::sheet::FORMS;
 
-const HIGHEST_REFUSAL: usize = 33;
+const HIGHEST_REFUSAL: usize = 38;
+
+/// Each refusal of version 1 is answered at least once in so many readings, writings and sheet makings;
+/// fewer than so many of all do not tell.
+const EDITION_RARITY: u64 = 600;
+const TELLING_CALLS: u64 = 10_000;
 
 /// The exported calls.
 #[derive(Debug, Clone, Copy)]
@@ -72,6 +78,8 @@ pub struct Tally {
     pub levels: [Level; NEWEST_LEVEL as usize],
     pub fixed: Fixed,
     pub twins: Shown,
+    /// What reading, loading, writing and sheet making answered to version 1.
+    pub editions: Editions,
 }
 
 /// What the lists at one older level showed.
@@ -109,6 +117,7 @@ impl Default for Tally {
             levels: Default::default(),
             fixed: Fixed::default(),
             twins: Shown::default(),
+            editions: Editions::default(),
         }
     }
 }
@@ -163,7 +172,25 @@ impl Tally {
         FORMS.into_iter().filter(is_rare).collect()
     }
 
-    /// How often the refusals came that sheets of two forms bring, a line for each call.
+    /// The refusals of version 1 that come too seldom: 11 for each of the codes of the other edition, 14
+    /// and 38.
+    pub fn rare_editions(&self) -> Vec<String> {
+        let calls = [Name::Read, Name::Write, Name::MakeSheet];
+        let calls = calls.map(|name| self.numbers[name as usize].iter().sum::<u64>());
+        let calls = calls.iter().sum::<u64>();
+        if calls < TELLING_CALLS {
+            return Vec::new();
+        }
+        let least = (calls / EDITION_RARITY) as usize;
+        let titles = Editions::titles();
+        let causes = self.editions.causes();
+        let titled = titles[titles.len() - causes.len()..].iter().zip(causes);
+        let rare = titled.filter(|(_, often)| **often < least);
+        rare.map(|(title, _)| title.clone()).collect()
+    }
+
+    /// How often the refusals came that sheets of two forms bring, a line for each call, and what calls
+    /// answered to version 1 in its editions.
     pub fn told(&self) -> String {
         let line = |(name, numbers): (Name, &[usize])| {
             let often = |number: &usize| {
@@ -177,7 +204,11 @@ impl Tally {
                 often.join(", ")
             )
         };
-        TOLD.map(line).concat()
+        let editions = Editions::titles().into_iter().zip(self.editions.counts());
+        let editions: Vec<_> = editions
+            .map(|(title, often)| format!("{title} {often}"))
+            .collect();
+        TOLD.map(line).concat() + &format!("of version 1: {}\n", editions.join(", "))
     }
 
     pub fn calls(&self) -> u64 {

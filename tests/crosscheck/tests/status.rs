@@ -87,6 +87,29 @@ fn calls_of_every_layout() {
     }
 }
 
+/// Document 02, request 12: calls of version 1 are drawn in both editions, accepted in both, and each cause of
+/// a refusal that it brings is told at the end, 11 for each of the codes, 14 and 38.
+#[test]
+fn calls_of_both_editions() {
+    let text = String::from_utf8(run(&["0", "1", "400"]).stdout).expect("the table is text");
+    let (_, told) = text
+        .split_once("\nof version 1: ")
+        .expect("what is told at the end");
+    let told = told.lines().next().expect("a line");
+    let counts: Vec<_> = told
+        .split(", ")
+        .map(|count| count.rsplit_once(' ').expect("a title and a number"))
+        .collect();
+    let titles: Vec<_> = counts.iter().map(|(title, _)| *title).collect();
+    assert_eq!(
+        titles.join(", "),
+        "1.01 calls, 1.00 calls, 1.01 accepted, 1.00 accepted, \
+         11 0x0200, 11 0x0203, 11 0x0204, 11 0x0205, 14 version 1, 38"
+    );
+    let is_often = |(_, often): &(&str, &str)| often.parse::<u64>().expect("a number") > 20;
+    assert!(counts.iter().all(is_often), "{told}");
+}
+
 /// Document 02, request 7, "The writer and the sheet maker take both": calls with sheets are drawn in both
 /// forms, each in at least a third of them, in every layout and without one; "24, 33 and 12 only", and 33
 /// of the writer, are told at the end.

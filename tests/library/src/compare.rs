@@ -195,6 +195,7 @@ pub fn write(
     sheet: &[u8],
     form: Form,
     layout: Layout,
+    first_edition: bool,
     before: &[u8],
 ) -> Result<(u8, Vec<u8>), Difference> {
     let (lent, mut lent_image) = (Lent::new(sheet), Lent::new(before));
@@ -202,11 +203,20 @@ pub fn write(
     let number = judge(
         || {
             let (sheet, before) = (hex(sheet), hex(before));
-            format!("srom_write {form:?}, {layout:?}\nsheet   {sheet}\nto      {before}")
+            format!(
+                "srom_write {form:?}, {layout:?}, first edition {first_edition}\n\
+                 sheet   {sheet}\nto      {before}"
+            )
         },
         [
-            crate::write(lent.elements(), form, layout, lent_image.elements_mut()),
-            sheet::write(sheet, form, layout, &mut image),
+            crate::write(
+                lent.elements(),
+                form,
+                layout,
+                first_edition,
+                lent_image.elements_mut(),
+            ),
+            sheet::write(sheet, form, layout, first_edition, &mut image),
         ],
         [
             lent.fault("sheet", sheet),
@@ -216,18 +226,28 @@ pub fn write(
     Ok((number, image))
 }
 
-/// What both answered, and the buffer of so many bytes after the making of a sheet in it.
+/// What both answered, and the buffer of so many bytes after the making of a sheet in it, of an image for
+/// the chip, in the layout and the edition of these arguments.
 pub fn make_sheet(
     image: &[u8],
-    chip: u16,
     form: Form,
-    layout: Layout,
+    arguments: Arguments,
     length: usize,
 ) -> Result<(Made, Vec<u8>), Difference> {
+    let Arguments {
+        chip,
+        layout,
+        first_edition,
+        ..
+    } = arguments;
     lay_sheet(
-        || format!("srom_make_sheet for the {chip}, {form:?}, {layout:?}"),
-        |image, buffer| crate::make_sheet(image, chip, form, layout, buffer),
-        |image, buffer| sheet::make(image, chip, form, layout, buffer),
+        || {
+            format!(
+                "srom_make_sheet for the {chip}, {form:?}, {layout:?}, first edition {first_edition}"
+            )
+        },
+        |image, buffer| crate::make_sheet(image, chip, form, layout, first_edition, buffer),
+        |image, buffer| sheet::make(image, chip, form, layout, first_edition, buffer),
         ("image", image),
         length,
     )

@@ -11,13 +11,16 @@ const LEAST_OFTEN: usize = 1_000;
 /// The sizes that calls are counted under: the two of ROMs, and any other.
 pub const CLASSES: usize = SIZES.len() + 1;
 
+/// The highest number that a call answers.
+const HIGHEST_REFUSAL: usize = 38;
+
 /// How often a call answered each number, up to the highest.
 #[derive(Clone, Copy)]
-pub struct Answered([usize; 34]);
+pub struct Answered([usize; HIGHEST_REFUSAL + 1]);
 
 impl Default for Answered {
     fn default() -> Self {
-        Self([0; 34])
+        Self([0; HIGHEST_REFUSAL + 1])
     }
 }
 
@@ -139,7 +142,7 @@ pub fn total_row(first: &str, cells: &[usize]) -> String {
 /// A row of a table.
 pub fn row(first: &str, cells: &[impl ToString], last: &str) -> String {
     let cells = cells.iter().map(|cell| format!("{:>9}", cell.to_string()));
-    format!("{first:<24}{}{last:>10}\n", cells.collect::<String>())
+    format!("{first:<28}{}{last:>10}\n", cells.collect::<String>())
 }
 
 /// Writes a table to the standard error stream itself, so that a run that passes shows it too.

@@ -2,6 +2,7 @@
 //! implementation.
 
 pub mod compare;
+pub mod editions;
 pub mod families;
 pub mod lent;
 pub mod levels;
@@ -62,6 +63,7 @@ mod archive {
             sheet_length: usize,
             wide: bool,
             layout: Layout,
+            first_edition: bool,
             image: *mut u8,
             image_length: usize,
         ) -> u8;
@@ -71,6 +73,7 @@ mod archive {
             chip: u16,
             wide: bool,
             layout: Layout,
+            first_edition: bool,
             buffer: *mut u8,
             buffer_length: usize,
         ) -> Made;
@@ -178,8 +181,15 @@ pub fn clear(walk: Walk) -> Walked {
 }
 
 /// Writes the image that a sheet of a form describes, and answers the number; a refusal leaves the
-/// image as it is. Where the layout has a Magic Packet block, the image's own is kept.
-pub fn write(sheet: &[u8], form: Form, layout: Layout, image: &mut [u8]) -> u8 {
+/// image as it is. Where the layout has a Magic Packet block, the image's own is kept. A sheet of version 1
+/// is judged by the edition.
+pub fn write(
+    sheet: &[u8],
+    form: Form,
+    layout: Layout,
+    first_edition: bool,
+    image: &mut [u8],
+) -> u8 {
     // SAFETY: the call only reads the bytes at `sheet`, and writes no more than those at `image`;
     // the two slices lend it all of these, apart from each other.
     unsafe {
@@ -188,6 +198,7 @@ pub fn write(sheet: &[u8], form: Form, layout: Layout, image: &mut [u8]) -> u8 {
             sheet.len(),
             form.is_wide(),
             layout,
+            first_edition,
             image.as_mut_ptr(),
             image.len(),
         )
@@ -195,8 +206,15 @@ pub fn write(sheet: &[u8], form: Form, layout: Layout, image: &mut [u8]) -> u8 {
 }
 
 /// Makes the sheet of a tidy image in a form, in the first bytes of the buffer; a refusal leaves the
-/// buffer as it is.
-pub fn make_sheet(image: &[u8], chip: u16, form: Form, layout: Layout, buffer: &mut [u8]) -> Made {
+/// buffer as it is. An image of version 1 is read in the edition.
+pub fn make_sheet(
+    image: &[u8],
+    chip: u16,
+    form: Form,
+    layout: Layout,
+    first_edition: bool,
+    buffer: &mut [u8],
+) -> Made {
     // SAFETY: the call only reads the bytes at `image`, and writes no more than those at `buffer`;
     // the two slices lend it all of these, apart from each other.
     unsafe {
@@ -206,6 +224,7 @@ pub fn make_sheet(image: &[u8], chip: u16, form: Form, layout: Layout, buffer: &
             chip,
             form.is_wide(),
             layout,
+            first_edition,
             buffer.as_mut_ptr(),
             buffer.len(),
         )

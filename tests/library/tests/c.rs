@@ -5,6 +5,7 @@ use library::Part;
 use library::lent::hex;
 use second::calls;
 use second::crc::{self, Checksum};
+use second::edition::{CORRECTED, FIRST_VERSION, Rules, taken_as};
 use second::images::{Card, Leaf, Sample, block};
 use second::layout::{LARGE, LAYOUTS, Layout, MAGIC_LENGTH, SIZES, SMALL, magic_offset};
 use second::magic::{self, Magic, MagicAnswer};
@@ -69,7 +70,10 @@ fn layout_source() -> String {
     let structs = [
         ("srom_layout", &["size", "magic"][..]),
         ("srom_checksum", &["number", "value"]),
-        ("srom_arguments", &["chip", "controller", "level", "layout"]),
+        (
+            "srom_arguments",
+            &["chip", "controller", "level", "layout", "first_edition"],
+        ),
         (
             "srom_answer",
             &[
@@ -136,7 +140,15 @@ fn layout_expected() -> Vec<String> {
     [
         layout!("srom_layout", Layout, size, magic),
         layout!("srom_checksum", Checksum, number, value),
-        layout!("srom_arguments", Arguments, chip, controller, level, layout),
+        layout!(
+            "srom_arguments",
+            Arguments,
+            chip,
+            controller,
+            level,
+            layout,
+            first_edition
+        ),
         layout!(
             "srom_answer",
             Answer,
@@ -192,9 +204,9 @@ fn header_is_cpp17() {
     header_in("c++", "-std=c++17", "cc");
 }
 
-/// The header's names for document 01's refusals, by their numbers, and document 02's from 29 on. There is no 28, and 22 "is
-/// retired".
-const REFUSALS: [&str; 32] = [
+/// The header's names for document 01's refusals, by their numbers, and document 02's from 29 on. There is no 28, 22 "is
+/// retired", and 34 to 37 are of requests that have not landed.
+const REFUSALS: [&str; 33] = [
     "ACCEPTED",
     "BAD_IMAGE_LENGTH",
     "BAD_VERSION",
@@ -227,6 +239,7 @@ const REFUSALS: [&str; 32] = [
     "REPEATED_MODE",
     "NO_FIXED_MEDIUM",
     "SHEET_TOO_LARGE",
+    "FIRST_VERSION_CHIP",
 ];
 
 /// Each number that the header names is the second implementation's, or the documents'.
@@ -247,7 +260,8 @@ fn header_numbers() {
         ("EMPTY_CONNECTION".to_owned(), EMPTY_CONNECTION.into()),
     ];
     expected.extend(CHIPS.map(|chip| (chip.to_string(), chip.into())));
-    let numbers = (0..=21).chain(23..=27).chain(29..);
+    let numbers = (0..=21).chain(23..=27).chain(29..=33).chain([38]);
+    assert_eq!(numbers.clone().count(), REFUSALS.len());
     expected.extend(REFUSALS.map(str::to_owned).into_iter().zip(numbers));
     assert_eq!(NONE, NO_DEFAULT);
     let header = fs::read_to_string(root().join("include/srom.h")).unwrap();
@@ -387,6 +401,33 @@ fn header_sheet_layout() {
     }
 }
 
+/// Document 02, request 12: the manual's table has both editions' codes, the chips whose row has them, and what a walk takes each
+/// as.
+#[test]
+fn header_editions() {
+    let expected = CORRECTED.map(|(first, later)| {
+        let mut chips = CHIPS.to_vec();
+        let has = |chip, code, first_edition| {
+            let rules = Rules {
+                chip,
+                version: FIRST_VERSION,
+                first_edition,
+            };
+            !rules.lack_chip() && rules.permit(code)
+        };
+        chips.retain(|&chip| has(chip, first, true) && has(chip, later, false));
+        let chips: Vec<_> = chips.iter().map(u16::to_string).collect();
+        let code = |code: u16| format!("0x{code:04x}");
+        vec![
+            code(first),
+            code(later),
+            chips.join(", "),
+            code(taken_as(first)),
+        ]
+    });
+    assert_eq!(header_table("Editions"), expected);
+}
+
 /// What the manual says of the longest sheets is what the second implementation finds.
 #[test]
 fn header_longest_sheets() {
@@ -434,7 +475,12 @@ fn made_fields(made: Made, buffer: &[u8]) -> String {
 
 /// What tests/fields.c prints for an image, from the second implementation.
 fn fields_expected(image: &[u8], arguments: Arguments) -> Vec<String> {
-    let Arguments { chip, layout, .. } = arguments;
+    let Arguments {
+        chip,
+        layout,
+        first_edition,
+        ..
+    } = arguments;
     let (answer, _) = reader::read_all(image, arguments);
     let part = reader::view(image, arguments, 0);
     let start = part.as_ptr().addr() - image.as_ptr().addr();
@@ -478,7 +524,7 @@ fn fields_expected(image: &[u8], arguments: Arguments) -> Vec<String> {
     }
     for form in FORMS {
         let mut buffer = [0; 2048];
-        let made = sheet::make(image, chip, form, layout, &mut buffer);
+        let made = sheet::make(image, chip, form, layout, first_edition, &mut buffer);
         expected.push(made_fields(made, &buffer));
         let sheet = &buffer[..made.length];
         let mut copy = image.to_vec();
@@ -486,7 +532,7 @@ fn fields_expected(image: &[u8], arguments: Arguments) -> Vec<String> {
             .take(90)
             .skip(30)
             .for_each(|byte| *byte = 0xFF);
-        let number = sheet::write(sheet, form, layout, &mut copy);
+        let number = sheet::write(sheet, form, layout, first_edition, &mut copy);
         expected.push(format!("written {number} {}", hex(&copy)));
         for room in [60, 2048] {
             for read in FORMS {
@@ -889,6 +935,36 @@ fn probe_goes_by_the_layout() {
     }
     let output = probe(&["samples/damaged-magic-crc.rom", "21143", "0", "magic"]);
     assert_eq!(lines(&output), ["refused 29"]);
+}
+
+/// Document 02, request 12: the caller names the edition. A card of 0x0203 is read with the word and not without it, and its look
+/// selects the medium of 0x0205, 100BASE-TX full duplex; a card of 0x0205 is read without it.
+#[test]
+fn probe_goes_by_the_edition() {
+    let file = scratch("probe-edition.rom");
+    for (code, first_edition) in CORRECTED[1..]
+        .iter()
+        .flat_map(|&(first, later)| [(first, true), (later, false)])
+    {
+        let blocks = [5, 3].map(|code| block::compact(code, 0, 0));
+        let mut card = Card::tidy(21140, code, blocks.to_vec());
+        card.version = FIRST_VERSION;
+        fs::write(&file, card.image()).unwrap();
+        let words = [file.to_str().unwrap(), "21140", "0", "first", "00"];
+        let [with, without] = [&words[..], &[&words[..3], &words[4..]].concat()].map(probe);
+        let (right, wrong) = match first_edition {
+            true => (with, without),
+            false => (without, with),
+        };
+        assert_eq!(lines(&wrong), ["refused 11"], "{code:#06x}");
+        let printed = lines(&right);
+        assert!(
+            printed[0].ends_with(&format!("0x{code:04x}")),
+            "{printed:?}"
+        );
+        let last = printed.last().unwrap();
+        assert!(last.starts_with("links 00: block 0, "), "{last}");
+    }
 }
 
 #[test]

@@ -139,7 +139,8 @@ fn written() -> Tally {
     let (mut tally, mut random) = (Tally::default(), Random::new(3));
     for (form, layout) in served() {
         for _ in 0..5_000 {
-            let sheet = Sheet::valid(&mut random, layout).bytes(form);
+            let first_edition = random.one_in(2);
+            let sheet = Sheet::valid(&mut random, layout, first_edition).bytes(form);
             for form in FORMS {
                 tally.compare_all(&mut random, &sheet, form);
             }

@@ -1,7 +1,7 @@
 /*
  * Every field of every struct that the archive answers with, for the image in a file, of any length: a line a call, with the
- * struct's name and a word a field. The words are the file, chip, controller, level, stated size and layout (1 with a Magic
- * Packet block, 0 without).
+ * struct's name and a word a field. The words are the file, chip, controller, level, stated size, layout (1 with a Magic
+ * Packet block, 0 without) and edition (1 for 1.00, 0 for 1.01).
  */
 #include <srom.h>
 #include <stdio.h>
@@ -80,14 +80,16 @@ static void show_made(srom_made made, const uint8_t *buffer)
 }
 
 /* The sheet in a form, its image, written over a copy of the one that it was made of, and the sheet in both forms again. */
-static void show_sheet(const uint8_t *image, size_t length, uint16_t chip, bool wide, srom_layout layout)
+static void show_sheet(const uint8_t *image, size_t length, srom_arguments arguments, bool wide)
 {
     static uint8_t sheet[ROOM], other[ROOM], copy[ROOM];
-    srom_made made = srom_make_sheet(image, length, chip, wide, layout, sheet, ROOM);
+    srom_layout layout = arguments.layout;
+    bool first_edition = arguments.first_edition;
+    srom_made made = srom_make_sheet(image, length, arguments.chip, wide, layout, first_edition, sheet, ROOM);
     show_made(made, sheet);
     memcpy(copy, image, ROOM);
     memset(copy + 30, 0xFF, 60);
-    printf("written %u", srom_write(sheet, made.length, wide, layout, copy, length));
+    printf("written %u", srom_write(sheet, made.length, wide, layout, first_edition, copy, length));
     show_bytes(copy, length);
     printf("\n");
     for (size_t room = TOO_SHORT; room <= ROOM; room += ROOM - TOO_SHORT) {
@@ -100,7 +102,7 @@ int main(int count, char **words)
 {
     static uint8_t image[ROOM], report[ROW];
     static uint16_t kinds[255], offsets[255];
-    FILE *file = count == 7 ? fopen(words[1], "rb") : NULL;
+    FILE *file = count == 8 ? fopen(words[1], "rb") : NULL;
     if (file == NULL)
         return 2;
     size_t length = fread(image, 1, ROOM - 1, file);
@@ -111,6 +113,7 @@ int main(int count, char **words)
     arguments.level = (uint8_t)atoi(words[4]);
     arguments.layout.size = (uint16_t)atoi(words[5]);
     arguments.layout.magic = atoi(words[6]) == 1;
+    arguments.first_edition = atoi(words[7]) == 1;
 
     show_checksums(image, length, arguments.layout);
     show_checksums(image, length + 1, arguments.layout);
@@ -127,7 +130,7 @@ int main(int count, char **words)
         report[k] = walk.looks == 1;
     walk = show_walked(srom_look(walk, report, ROW));
     show_walked(srom_clear(walk));
-    show_sheet(image, length, arguments.chip, false, arguments.layout);
-    show_sheet(image, length, arguments.chip, true, arguments.layout);
+    show_sheet(image, length, arguments, false);
+    show_sheet(image, length, arguments, true);
     return 0;
 }

@@ -1,9 +1,11 @@
 //! Reading and the block view of the library against the second implementation.
 
 use library::compare::{self, agreed};
+use library::editions::{Editions, by_layout, titled, titles_by_layout};
 use library::families::{Family, Numbers, numbers_table, seen_rows, show, tallies, total_row};
 use second::calls::{block_count, near_lengths};
 use second::crc::lay_crcs;
+use second::edition::{CODES, EDITIONS, FIRST_VERSION, Rules};
 use second::images::{Card, DAMAGES, Sample, WRONG_SIZES, random_image};
 use second::layout::{LAYOUTS, Layout, SIZES};
 use second::random::Random;
@@ -12,8 +14,8 @@ use second::reader::{self, Arguments, CHIPS, NEWEST_LEVEL};
 const LEAST_CALLS: usize = 1_000_000;
 
 /// The numbers that reading can answer.
-const READ_NUMBERS: [usize; 22] = [
-    0, 1, 2, 3, 4, 29, 30, 5, 6, 7, 8, 9, 10, 11, 12, 13, 14, 15, 16, 17, 18, 31,
+const READ_NUMBERS: [usize; 23] = [
+    0, 1, 2, 3, 4, 29, 30, 5, 6, 7, 38, 8, 9, 10, 11, 12, 13, 14, 15, 16, 17, 18, 31,
 ];
 
 /// More elements than any block count, so that reading is never refused for the arrays.
@@ -29,12 +31,15 @@ const MOST_VIEWS: usize = 12;
 const SEEN: [&str; 5] = ["power 1", "power 2+", "high", "blocks 92+", "blocks 255"];
 
 /// How often reading answered each number; how often it counted one power block, and more, listed a
-/// block behind byte 255, and counted more blocks than 128 bytes can hold, and the most; and how many
-/// calls of the library were compared.
+/// block behind byte 255, and counted more blocks than 128 bytes can hold, and the most; what it answered
+/// to version 1 in each layout, and how often a block of version 1 was viewed in each layout and edition,
+/// 1.01 first; and how many calls of the library were compared.
 #[derive(Default)]
 struct Tally {
     numbers: Numbers,
     seen: [usize; SEEN.len()],
+    editions: [Editions; LAYOUTS.len()],
+    views: [[usize; EDITIONS.len()]; LAYOUTS.len()],
     calls: usize,
 }
 
@@ -56,6 +61,9 @@ impl Tally {
             .iter_mut()
             .zip(seen)
             .for_each(|(often, is_seen)| *often += usize::from(is_seen));
+        if let Some(layout) = arguments.layout.index() {
+            self.editions[layout].count_image(image, arguments, answer.number);
+        }
         self.calls += 1;
     }
 
@@ -64,6 +72,12 @@ impl Tally {
         agreed(compare::view(image, arguments, entry));
         let bytes = library::view(image, arguments, entry);
         assert_eq!(bytes, reader::view(image, arguments, entry));
+        let layout = arguments.layout.index().filter(|_| !bytes.is_empty());
+        if let Some(layout) = layout
+            && Rules::of(image, arguments).version == FIRST_VERSION
+        {
+            self.views[layout][usize::from(arguments.first_edition)] += 1;
+        }
         self.calls += 1;
     }
 
@@ -95,10 +109,10 @@ fn valid_cards() -> Tally {
     let (mut tally, mut random) = (Tally::default(), Random::new(1));
     for round in 0..2_500 {
         let chip = CHIPS[round % CHIPS.len()];
-        let layout = random.pick(&LAYOUTS);
+        let (layout, first_edition) = (random.pick(&LAYOUTS), random.one_in(2));
         let card = match chip == 21041 && random.one_in(6) {
             true => Card::longest(&mut random, layout),
-            false => Card::valid(&mut random, chip, layout),
+            false => Card::valid(&mut random, chip, layout, first_edition),
         };
         let image = card.image();
         let step = 1 + usize::from(card.count / 6);
@@ -109,6 +123,7 @@ fn valid_cards() -> Tally {
                     controller,
                     level,
                     layout,
+                    first_edition,
                 };
                 tally.compare(&mut random, &image, arguments);
             }
@@ -117,6 +132,7 @@ fn valid_cards() -> Tally {
                 controller,
                 level: NEWEST_LEVEL,
                 layout,
+                first_edition: random.one_in(2),
             };
             tally.compare(&mut random, &image, arguments);
             for layout in LAYOUTS {
@@ -168,6 +184,38 @@ fn damaged_fields() -> Tally {
         // The same at another level, where the damaged block may be unknown.
         sample.arguments.level = random.pick(&LEVELS);
         tally.compare(&mut random, &image, sample.arguments);
+    }
+    tally
+}
+
+/// "each edition reads its own code ... and refuses the other's": cards of version 1 in each layout, with
+/// the codes of both editions, and with extended blocks or for other chips, each in both editions and at
+/// any level.
+fn first_versions() -> Tally {
+    let (mut tally, mut random) = (Tally::default(), Random::new(9));
+    for (layout, first_edition) in LAYOUTS
+        .into_iter()
+        .flat_map(|layout| EDITIONS.map(|first_edition| (layout, first_edition)))
+    {
+        for round in 0..4_000 {
+            let mut sample = Sample::first_version(&mut random, layout, first_edition);
+            match round % 6 {
+                0..3 => {
+                    let code = random.pick(&CODES);
+                    let leaves = sample.card.leaves.iter_mut();
+                    leaves.for_each(|leaf| leaf.connection = code);
+                }
+                3 => _ = sample.damage(&mut random, 14),
+                4 => _ = sample.damage(&mut random, 38),
+                _ => {}
+            }
+            sample.arguments.level = random.pick(&LEVELS[..9]);
+            let image = sample.card.image();
+            for edition in EDITIONS {
+                let arguments = sample.arguments.in_edition(edition);
+                tally.compare(&mut random, &image, arguments);
+            }
+        }
     }
     tally
 }
@@ -293,7 +341,7 @@ fn repeated_modes_below_the_newest() {
 /// shown.
 #[test]
 fn library_reads_as_second() {
-    let families: [Family<Tally>; 7] = [
+    let families: [Family<Tally>; 8] = [
         ("valid", valid_cards),
         ("arrays", array_lengths),
         ("damaged", damaged_fields),
@@ -301,6 +349,7 @@ fn library_reads_as_second() {
         ("bytes", changed_bytes),
         ("random", random_bytes),
         ("lengths", image_lengths),
+        ("version 1", first_versions),
     ];
     let tallies = tallies(families);
     let names = families.map(|(name, _)| name);
@@ -310,6 +359,12 @@ fn library_reads_as_second() {
     let mut table = numbers_table("read", &names, numbers, can_answer, &mut wrong);
     let seen = tallies.each_ref().map(|tally| &tally.seen[..]);
     table += &seen_rows(&SEEN, seen, &mut wrong);
+    let editions = tallies.each_ref().map(|tally| by_layout(&tally.editions));
+    let editions = editions.each_ref().map(Vec::as_slice);
+    table += &seen_rows(&titles_by_layout(), editions, &mut wrong);
+    let views = tallies.each_ref().map(|tally| tally.views.as_flattened());
+    let viewed = |layout| ["1.01 views", "1.00 views"].map(|title| titled(layout, title));
+    table += &seen_rows(LAYOUTS.map(viewed).as_flattened(), views, &mut wrong);
     let cells = tallies.each_ref().map(|tally| tally.calls);
     let calls: usize = cells.iter().sum();
     table += &total_row("calls", &cells);

@@ -2,15 +2,17 @@
 //! both returns, and the forms against each other.
 
 use library::compare::{self, agreed};
+use library::editions::{Editions, titled};
 use library::families::{Family, Numbers, numbers_table, seen_rows, show, tallies, total_row};
 use library::lent::{Lent, hex};
 use library::{Form, Made};
 use second::crc::lay_crcs;
+use second::edition::{CODES, EDITIONS};
 use second::images::{MAGIC_DAMAGES, MagicBlock, Sample, WRONG_SIZES};
 use second::layout::{LARGE, LAYOUTS, Layout, SIZES, SMALL};
 use second::random::Random;
-use second::reader::Arguments;
-use second::sheet::{FORMS, LONGEST_SHEET, LONGEST_WIDE_SHEET, served};
+use second::reader::{Arguments, CHIPS};
+use second::sheet::{FORMS, LONGEST_SHEET, LONGEST_WIDE_SHEET, served, served_editions};
 use second::sheets::tidy::{TIDY_DAMAGES, damaged, tidy, untidy};
 use second::sheets::{Sheet, output, sheet_damages, unserved};
 
@@ -18,12 +20,14 @@ const LEAST_INPUTS: usize = 400_000;
 
 /// The numbers that the writer can answer. The image to be written has right CRCs but for the Magic
 /// Packet block that it keeps, a right header and one controller, so the reader is left with few.
-const WRITE_NUMBERS: [usize; 16] = [0, 1, 2, 7, 11, 14, 15, 16, 17, 18, 24, 25, 26, 29, 30, 31];
+const WRITE_NUMBERS: [usize; 17] = [
+    0, 1, 2, 7, 38, 11, 14, 15, 16, 17, 18, 24, 25, 26, 29, 30, 31,
+];
 
 /// The numbers that the maker can answer: controller 0 is below every count, and its address is the
 /// base.
-const MAKE_NUMBERS: [usize; 20] = [
-    0, 1, 2, 3, 4, 5, 7, 10, 11, 12, 13, 14, 15, 16, 17, 18, 27, 29, 30, 31,
+const MAKE_NUMBERS: [usize; 21] = [
+    0, 1, 2, 3, 4, 5, 7, 38, 10, 11, 12, 13, 14, 15, 16, 17, 18, 27, 29, 30, 31,
 ];
 
 /// The numbers that the two can answer in a form where its size is stated, or another: "serve both ROM
@@ -113,9 +117,14 @@ struct Tally {
     writes: [Numbers; FORMS.len()],
     makes: [Numbers; FORMS.len()],
     seen: Vec<usize>,
+    /// What the two answered to version 1 in each form and layout, the writer first.
+    editions: [[Editions; SERVED_COUNT]; 2],
     sheets: usize,
     images: usize,
 }
+
+/// How many layouts the forms serve, each counted.
+const SERVED_COUNT: usize = 6;
 
 impl Default for Tally {
     fn default() -> Self {
@@ -123,6 +132,7 @@ impl Default for Tally {
             writes: Default::default(),
             makes: Default::default(),
             seen: vec![0; all_seen().len()],
+            editions: Default::default(),
             sheets: 0,
             images: 0,
         }
@@ -135,21 +145,37 @@ impl Tally {
         self.seen[place.expect("it is one of all")] += 1;
     }
 
+    /// What the writer or the maker answered to version 1 in a form and a layout, if it is served.
+    fn editions_of(&mut self, call: usize, served_as: (Form, Layout)) -> Option<&mut Editions> {
+        let place = served().position(|it| it == served_as)?;
+        Some(&mut self.editions[call][place])
+    }
+
     /// Compares the writing of a sheet to an image, which a refusal must leave as it is; an accepted
     /// sheet is made again, and what stands behind the board's part is kept.
-    fn compare_write(&mut self, sheet: &[u8], form: Form, layout: Layout, before: &[u8]) {
-        let (number, image) = agreed(compare::write(sheet, form, layout, before));
+    fn compare_write(
+        &mut self,
+        sheet: &[u8],
+        form: Form,
+        layout: Layout,
+        first_edition: bool,
+        before: &[u8],
+    ) {
+        let (number, image) = agreed(compare::write(sheet, form, layout, first_edition, before));
         assert!(
             number == 0 || image == before,
             "refused with {number}, and changed the image\nsheet {}",
             hex(sheet)
         );
         self.writes[form as usize].count(before, layout.size, number);
+        if let Some(editions) = self.editions_of(0, (form, layout)) {
+            editions.count_sheet(sheet, form, first_edition, number);
+        }
         if number == 0 {
             assert_eq!(image[layout.board_end()..], before[layout.board_end()..]);
             let mut again = vec![0; sheet.len()];
             let chip = form.chip(sheet);
-            let made = library::make_sheet(&image, chip, form, layout, &mut again);
+            let made = library::make_sheet(&image, chip, form, layout, first_edition, &mut again);
             let expected = Made {
                 number: 0,
                 length: sheet.len(),
@@ -166,7 +192,7 @@ impl Tally {
             }
         }
         if !form.is_wide() && number != 24 && layout.size != LARGE {
-            self.compare_written_alike(sheet, layout, before, (number, &image));
+            self.compare_written_alike(sheet, layout, first_edition, before, (number, &image));
         }
     }
 
@@ -176,6 +202,7 @@ impl Tally {
         &mut self,
         sheet: &[u8],
         layout: Layout,
+        first_edition: bool,
         before: &[u8],
         (number, image): (u8, &[u8]),
     ) {
@@ -183,7 +210,7 @@ impl Tally {
         let made = library::widen(sheet, &mut widened);
         assert_eq!((made.number, made.length), (0, sheet.len() + 2));
         let mut again = before.to_vec();
-        let wide = library::write(&widened, Form::Wide, layout, &mut again);
+        let wide = library::write(&widened, Form::Wide, layout, first_edition, &mut again);
         assert!(
             wide == number && again == image,
             "{number}, and {wide} for the wide form\nsheet {}",
@@ -205,8 +232,12 @@ impl Tally {
         arguments: Arguments,
         length: usize,
     ) -> Made {
-        let Arguments { chip, layout, .. } = arguments;
-        let (made, buffer) = agreed(compare::make_sheet(image, chip, form, layout, length));
+        let Arguments {
+            layout,
+            first_edition,
+            ..
+        } = arguments;
+        let (made, buffer) = agreed(compare::make_sheet(image, form, arguments, length));
         assert_eq!(
             buffer[made.length..],
             Lent::pattern(length).elements()[made.length..],
@@ -214,11 +245,20 @@ impl Tally {
             hex(image)
         );
         self.makes[form as usize].count(image, layout.size, made.number);
+        if let Some(editions) = self.editions_of(1, (form, layout)) {
+            editions.count_made(image, arguments, made.number);
+        }
         if made.number == 0 {
             let mut again = vec![0xA5; image.len()];
             let kept = layout.board_end()..;
             again[kept.clone()].copy_from_slice(&image[kept]);
-            let number = library::write(&buffer[..made.length], form, layout, &mut again);
+            let number = library::write(
+                &buffer[..made.length],
+                form,
+                layout,
+                first_edition,
+                &mut again,
+            );
             assert!(
                 number == 0 && again == image,
                 "{number}\nimage {}\nagain {}",
@@ -245,10 +285,22 @@ impl Tally {
         made: Made,
         buffer: &[u8],
     ) {
-        let Arguments { chip, layout, .. } = arguments;
+        let Arguments {
+            chip,
+            layout,
+            first_edition,
+            ..
+        } = arguments;
         let mut narrow = [0; LONGEST_SHEET];
         let mut again = Lent::pattern(buffer.len()).elements().to_vec();
-        let mut expected = library::make_sheet(image, chip, Form::Narrow, layout, &mut narrow);
+        let mut expected = library::make_sheet(
+            image,
+            chip,
+            Form::Narrow,
+            layout,
+            first_edition,
+            &mut narrow,
+        );
         if expected.number == 0 {
             expected = library::widen(&narrow[..expected.length], &mut again);
         }
@@ -265,15 +317,22 @@ impl Tally {
 
     /// Compares a sheet's writing to an image with a right Magic Packet block, where the layout has
     /// one, and now and then to one with any or of a size that is not served too.
-    fn compare_sheet(&mut self, random: &mut Random, sheet: &[u8], form: Form, layout: Layout) {
+    fn compare_sheet(
+        &mut self,
+        random: &mut Random,
+        sheet: &[u8],
+        form: Form,
+        layout: Layout,
+        first_edition: bool,
+    ) {
         self.sheets += 1;
         let mut image = output(random, layout);
-        self.compare_write(sheet, form, layout, &image);
+        self.compare_write(sheet, form, layout, first_edition, &image);
         if random.one_in(16) {
             MagicBlock::any(random).lay(&mut image);
-            self.compare_write(sheet, form, layout, &image);
+            self.compare_write(sheet, form, layout, first_edition, &image);
             let (stated, image) = unserved(random, form, layout.magic);
-            self.compare_write(sheet, form, stated, &image);
+            self.compare_write(sheet, form, stated, first_edition, &image);
         }
     }
 
@@ -304,23 +363,24 @@ impl Tally {
 /// images lays; then "making a sheet of a tidy image", of that image.
 fn valid_sheets() -> Tally {
     let (mut tally, mut random) = (Tally::default(), Random::new(1));
-    for (form, layout) in served() {
-        for _ in 0..10_000 {
-            let sheet = Sheet::valid(&mut random, layout);
+    for (form, layout, first_edition) in served_editions() {
+        for _ in 0..5_000 {
+            let sheet = Sheet::valid(&mut random, layout, first_edition);
             let magic = MagicBlock::of_layout(&mut random, layout);
             let (bytes, expected) = (sheet.bytes(form), sheet.card(layout.size, magic).image());
-            tally.compare_sheet(&mut random, &bytes, form, layout);
+            tally.compare_sheet(&mut random, &bytes, form, layout, first_edition);
             let mut image = random.row(expected.len());
             if let Some(block) = magic {
                 block.lay(&mut image);
             }
             assert_eq!(
-                library::write(&bytes, form, layout, &mut image),
+                library::write(&bytes, form, layout, first_edition, &mut image),
                 0,
                 "{sheet:02x?}"
             );
             assert_eq!(image, expected, "{sheet:02x?}");
             let arguments = Arguments::newest(sheet.chip).laid_out(layout);
+            let arguments = arguments.in_edition(first_edition);
             tally.compare_image(&mut random, &image, form, arguments);
         }
     }
@@ -333,13 +393,43 @@ fn longest_sheets() -> Tally {
     for (length, form, size) in LONGEST {
         let layout = Layout::new(size, false);
         for _ in 0..500 {
-            let sheet = Sheet::longest(&mut random, layout).bytes(form);
+            let first_edition = random.one_in(2);
+            let sheet = Sheet::longest(&mut random, layout, first_edition).bytes(form);
             assert_eq!(sheet.len(), length);
-            tally.compare_sheet(&mut random, &sheet, form, layout);
+            tally.compare_sheet(&mut random, &sheet, form, layout, first_edition);
             let mut image = output(&mut random, layout);
-            assert_eq!(library::write(&sheet, form, layout, &mut image), 0);
+            assert_eq!(
+                library::write(&sheet, form, layout, first_edition, &mut image),
+                0
+            );
             let arguments = Arguments::newest(form.chip(&sheet)).laid_out(layout);
+            let arguments = arguments.in_edition(first_edition);
             tally.compare_image(&mut random, &image, form, arguments);
+        }
+    }
+    tally
+}
+
+/// Document 02, request 12: sheets of version 1 with the codes of both editions, with extended blocks and
+/// for other chips, and their images, in every form, layout and edition.
+fn first_versions() -> Tally {
+    let (mut tally, mut random) = (Tally::default(), Random::new(13));
+    for (form, layout, first_edition) in served_editions() {
+        for round in 0..3_000 {
+            let mut sheet = Sheet::first_version(&mut random, layout, first_edition);
+            match round % 6 {
+                0..3 => sheet.connection = random.pick(&CODES),
+                3 => _ = sheet.damage(&mut random, 14, form, layout, first_edition),
+                4 => sheet.chip = random.pick(&CHIPS),
+                _ => {}
+            }
+            let magic = MagicBlock::of_layout(&mut random, layout);
+            let (bytes, image) = (sheet.bytes(form), sheet.card(layout.size, magic).image());
+            let newest = Arguments::newest(sheet.chip).laid_out(layout);
+            for edition in EDITIONS {
+                tally.compare_sheet(&mut random, &bytes, form, layout, edition);
+                tally.compare_image(&mut random, &image, form, newest.in_edition(edition));
+            }
         }
     }
     tally
@@ -348,11 +438,11 @@ fn longest_sheets() -> Tally {
 /// "its cause met": each field of a sheet damaged, in every form and layout.
 fn damaged_sheets() -> Tally {
     let (mut tally, mut random) = (Tally::default(), Random::new(2));
-    for (form, layout) in served() {
+    for (form, layout, first_edition) in served_editions() {
         for number in sheet_damages(form) {
-            for _ in 0..900 {
-                let sheet = Sheet::damaged(&mut random, number, form, layout);
-                tally.compare_sheet(&mut random, &sheet, form, layout);
+            for _ in 0..450 {
+                let sheet = Sheet::damaged(&mut random, number, form, layout, first_edition);
+                tally.compare_sheet(&mut random, &sheet, form, layout, first_edition);
             }
         }
     }
@@ -363,20 +453,20 @@ fn damaged_sheets() -> Tally {
 /// then perhaps a sum.
 fn two_damaged_fields() -> Tally {
     let (mut tally, mut random) = (Tally::default(), Random::new(3));
-    for (form, layout) in served() {
+    for (form, layout, first_edition) in served_editions() {
         let damages = sheet_damages(form);
-        for _ in 0..5_000 {
-            let mut sheet = Sheet::valid(&mut random, layout);
+        for _ in 0..2_500 {
+            let mut sheet = Sheet::valid(&mut random, layout, first_edition);
             let later = 2 + random.below(damages.len() - 2);
             let earlier = 1 + random.below(later - 1);
             for place in [later, earlier] {
-                sheet.damage(&mut random, damages[place], form, layout);
+                sheet.damage(&mut random, damages[place], form, layout, first_edition);
             }
             let mut bytes = sheet.bytes(form);
             if random.one_in(8) {
                 bytes.push(0);
             }
-            tally.compare_sheet(&mut random, &bytes, form, layout);
+            tally.compare_sheet(&mut random, &bytes, form, layout, first_edition);
         }
     }
     tally
@@ -386,20 +476,20 @@ fn two_damaged_fields() -> Tally {
 /// sheets that are valid, and for damaged ones.
 fn damaged_blocks() -> Tally {
     let (mut tally, mut random) = (Tally::default(), Random::new(10));
-    for (form, layout) in served() {
-        for round in 0..6_000 {
+    for (form, layout, first_edition) in served_editions() {
+        for round in 0..3_000 {
             let sheet = match round % 4 {
                 0 => {
                     let number = random.pick(&sheet_damages(form));
-                    Sheet::damaged(&mut random, number, form, layout)
+                    Sheet::damaged(&mut random, number, form, layout, first_edition)
                 }
-                _ => Sheet::valid(&mut random, layout).bytes(form),
+                _ => Sheet::valid(&mut random, layout, first_edition).bytes(form),
             };
             let mut image = output(&mut random, layout);
             let number = random.pick(&MAGIC_DAMAGES);
             MagicBlock::damaged(&mut random, number).lay(&mut image);
             tally.sheets += 1;
-            tally.compare_write(&sheet, form, layout, &image);
+            tally.compare_write(&sheet, form, layout, first_edition, &image);
         }
     }
     tally
@@ -409,15 +499,15 @@ fn damaged_blocks() -> Tally {
 /// few in the others.
 fn changed_sheet_bytes() -> Tally {
     let (mut tally, mut random) = (Tally::default(), Random::new(4));
-    for round in 0..25 {
-        for (form, layout) in served() {
-            let sheet = Sheet::valid(&mut random, layout).bytes(form);
+    for round in 0..13 {
+        for (form, layout, first_edition) in served_editions() {
+            let sheet = Sheet::valid(&mut random, layout, first_edition).bytes(form);
             for offset in 0..sheet.len() {
                 let is_head = offset < 48;
                 for value in values(&mut random, sheet[offset], round == 0 && is_head) {
                     let mut changed = sheet.clone();
                     changed[offset] = value;
-                    tally.compare_sheet(&mut random, &changed, form, layout);
+                    tally.compare_sheet(&mut random, &changed, form, layout, first_edition);
                 }
             }
         }
@@ -439,13 +529,13 @@ fn values(random: &mut Random, byte: u8, all: bool) -> Vec<u8> {
 /// mostly right, and sheets of the other form.
 fn random_sheets() -> Tally {
     let (mut tally, mut random) = (Tally::default(), Random::new(5));
-    for (form, layout) in served() {
-        for round in 0..8_000 {
+    for (form, layout, first_edition) in served_editions() {
+        for round in 0..4_000 {
             let bytes = match round % 8 {
-                0 => Sheet::valid(&mut random, layout).bytes(form.other()),
+                0 => Sheet::valid(&mut random, layout, first_edition).bytes(form.other()),
                 _ => Sheet::wild(&mut random, form),
             };
-            tally.compare_sheet(&mut random, &bytes, form, layout);
+            tally.compare_sheet(&mut random, &bytes, form, layout, first_edition);
         }
     }
     tally
@@ -456,12 +546,12 @@ fn random_sheets() -> Tally {
 /// as either size.
 fn lengths() -> Tally {
     let (mut tally, mut random) = (Tally::default(), Random::new(6));
-    for (form, layout) in served() {
-        for _ in 0..4 {
-            let sheet = Sheet::valid(&mut random, layout).bytes(form);
+    for (form, layout, first_edition) in served_editions() {
+        for _ in 0..2 {
+            let sheet = Sheet::valid(&mut random, layout, first_edition).bytes(form);
             let longer = [sheet.as_slice(), &random.row(300)].concat();
             for length in 0..longer.len() {
-                tally.compare_sheet(&mut random, &longer[..length], form, layout);
+                tally.compare_sheet(&mut random, &longer[..length], form, layout, first_edition);
             }
             let far = usize::from(layout.size) + (1 << 16);
             let sample = tidy(&mut random, form);
@@ -471,8 +561,8 @@ fn lengths() -> Tally {
                 for size in SIZES {
                     let image = &image[..length];
                     let layout = Layout { size, ..layout };
-                    tally.compare_write(&sheet, form, layout, image);
-                    tally.compare_write(&longer, form, layout, image);
+                    tally.compare_write(&sheet, form, layout, first_edition, image);
+                    tally.compare_write(&longer, form, layout, first_edition, image);
                     let magic = sample.arguments.layout.magic;
                     let arguments = sample.arguments.laid_out(Layout::new(size, magic));
                     tally.compare_image(&mut random, image, form, arguments);
@@ -490,18 +580,19 @@ fn unserved_sizes() -> Tally {
     for round in 0..24_000 {
         let form = FORMS[round % 2];
         let layout = random.pick(form.layouts());
+        let first_edition = random.one_in(2);
         let sheet = match random.below(3) {
-            0 => Sheet::damaged(&mut random, 24, form, layout),
-            1 if form.is_wide() => Sheet::damaged(&mut random, 33, form, layout),
-            _ => Sheet::valid(&mut random, layout).bytes(form),
+            0 => Sheet::damaged(&mut random, 24, form, layout, first_edition),
+            1 if form.is_wide() => Sheet::damaged(&mut random, 33, form, layout, first_edition),
+            _ => Sheet::valid(&mut random, layout, first_edition).bytes(form),
         };
         tally.sheets += 1;
         let (stated, image) = unserved(&mut random, form, layout.magic);
-        tally.compare_write(&sheet, form, stated, &image);
+        tally.compare_write(&sheet, form, stated, first_edition, &image);
         let size = random.pick(&WRONG_SIZES);
         let length = usize::from(size).min(ROOMY);
         let other = Layout { size, ..layout };
-        tally.compare_write(&sheet, form, other, &random.row(length));
+        tally.compare_write(&sheet, form, other, first_edition, &random.row(length));
         let layout = random.pick(&LAYOUTS);
         let Sample { card, arguments } = Sample::valid_in(&mut random, layout);
         tally.compare_image(&mut random, &card.image(), form, arguments);
@@ -556,16 +647,17 @@ fn changed_image_bytes() -> Tally {
 /// images those with the longest sheet of each form and layout.
 fn buffer_lengths() -> Tally {
     let (mut tally, mut random) = (Tally::default(), Random::new(9));
-    for (form, layout) in served() {
+    for (form, layout, first_edition) in served_editions() {
         let mut longest = 0;
-        for round in 0..12 {
+        for round in 0..6 {
             let sheet = match round {
-                0 => Sheet::longest(&mut random, layout),
-                _ => Sheet::valid(&mut random, layout),
+                0 => Sheet::longest(&mut random, layout, first_edition),
+                _ => Sheet::valid(&mut random, layout, first_edition),
             };
             let magic = MagicBlock::of_layout(&mut random, layout);
             let image = sheet.card(layout.size, magic).image();
             let arguments = Arguments::newest(sheet.chip).laid_out(layout);
+            let arguments = arguments.in_edition(first_edition);
             let made = tally.compare_make(&image, form, arguments, ROOMY);
             longest = longest.max(made.length);
             for length in 0..=made.length + 20 {
@@ -580,13 +672,48 @@ fn buffer_lengths() -> Tally {
     tally
 }
 
+/// The rows of what the writer or the maker answered to version 1: acceptances in each form, layout and
+/// edition, and the causes of refusals in each form.
+fn editions_rows<const COUNT: usize>(
+    call: &str,
+    tallies: &[Tally; COUNT],
+    index: usize,
+    wrong: &mut Vec<String>,
+) -> String {
+    let (mut titles, mut counts) = (Vec::new(), [(); COUNT].map(|()| Vec::new()));
+    for (place, (form, layout)) in served().enumerate() {
+        let name = form_name(form);
+        titles.extend(["1.01", "1.00"].map(|it| format!("{name} {}", titled(layout, it))));
+        for (counts, tally) in counts.iter_mut().zip(tallies) {
+            counts.extend(tally.editions[index][place].accepted());
+        }
+    }
+    for form in FORMS {
+        let all = Editions::titles();
+        let causes = &all[all.len() - Editions::default().causes().len()..];
+        titles.extend(causes.iter().map(|it| format!("{} {it}", form_name(form))));
+        for (counts, tally) in counts.iter_mut().zip(tallies) {
+            let mut of_form = Editions::default();
+            let places = served().zip(&tally.editions[index]);
+            let places = places.filter(|((it, _), _)| *it == form);
+            places.for_each(|(_, editions)| of_form.add(editions));
+            counts.extend(of_form.causes());
+        }
+    }
+    let titles: Vec<_> = titles
+        .iter()
+        .map(|title| format!("{call} {title}"))
+        .collect();
+    seen_rows(&titles, counts.each_ref().map(Vec::as_slice), wrong)
+}
+
 /// "Writing a sheet and reading it returns that sheet; making a sheet of a tidy image and writing
 /// it returns that image": both are run for each that is accepted. Four hundred thousand sheets and
 /// images, in which each refusal is met a thousand times in each form, and at each size that it
 /// serves; the table of them is shown.
 #[test]
 fn library_writes_and_makes_as_second() {
-    let families: [Family<Tally>; 12] = [
+    let families: [Family<Tally>; 13] = [
         ("valid", valid_sheets),
         ("longest", longest_sheets),
         ("damaged", damaged_sheets),
@@ -599,6 +726,7 @@ fn library_writes_and_makes_as_second() {
         ("images", damaged_images),
         ("ibytes", changed_image_bytes),
         ("buffers", buffer_lengths),
+        ("version 1", first_versions),
     ];
     let tallies = tallies(families);
     let names = families.map(|(name, _)| name);
@@ -618,6 +746,9 @@ fn library_writes_and_makes_as_second() {
     let titles: Vec<_> = all_seen().into_iter().map(Seen::title).collect();
     let seen = tallies.each_ref().map(|tally| &tally.seen[..]);
     table += &seen_rows(&titles, seen, &mut wrong);
+    for (call, name) in ["write", "make"].into_iter().enumerate() {
+        table += &editions_rows(name, &tallies, call, &mut wrong);
+    }
     let sheets = tallies.each_ref().map(|tally| tally.sheets);
     let images = tallies.each_ref().map(|tally| tally.images);
     table += &total_row("sheets", &sheets);

@@ -14,7 +14,7 @@ use second::walk::{AUTOSENSE, EMPTY_CONNECTION, NONE, ROW_LENGTH, Rows, Walk, fa
 use std::io::{self, Write as _};
 use std::thread;
 
-const HIGHEST_REFUSAL: usize = 32;
+const HIGHEST_REFUSAL: usize = 38;
 const LEAST_OFTEN: usize = 1_000;
 const LEAST_LISTS: usize = 200_000;
 const LEAST_OLDER_LISTS: usize = 100_000;
@@ -23,8 +23,8 @@ const LEAST_OLDER_LISTS: usize = 100_000;
 const LEAST_SEEN: usize = 300;
 
 /// The numbers that a load can answer: the reader's, 12 apart, and 21.
-const LOAD_NUMBERS: [usize; 22] = [
-    0, 21, 1, 2, 3, 4, 29, 30, 5, 6, 7, 8, 9, 10, 11, 13, 14, 15, 16, 17, 18, 31,
+const LOAD_NUMBERS: [usize; 23] = [
+    0, 21, 1, 2, 3, 4, 29, 30, 5, 6, 7, 38, 8, 9, 10, 11, 13, 14, 15, 16, 17, 18, 31,
 ];
 const LOOK_NUMBERS: [usize; 5] = [0, 19, 20, 32, 23];
 
@@ -159,7 +159,7 @@ fn library_walks_as_second() {
     let mut total = Tally::EMPTY;
     thread::scope(|scope| {
         let mut threads = vec![scope.spawn(spent_looks)];
-        threads.extend((1..=4).map(|seed| scope.spawn(move || random_lists(seed, 52_000))));
+        threads.extend((1..=4).map(|seed| scope.spawn(move || random_lists(seed, 56_000))));
         for thread in threads {
             total.add(&thread.join().expect("compares equal"));
         }

@@ -1,12 +1,13 @@
 //! Lists of calls to walk with: loads, looks with reports of every sort, and clears.
 
+use crate::edition::Rules;
 use crate::images::damage::{code_byte, command_offset, kind};
 use crate::images::{Card, DAMAGES, Leaf, Sample, WRONG_SIZES};
 use crate::layout::{LARGE, LAYOUTS, Layout};
 use crate::random::Random;
 use crate::reader::{
-    self, ACTIVE_INVALID, Arguments, DEFAULT, HIGHEST_COUNT, MEDIA_CODE, connections,
-    controller_offset, header_size,
+    self, ACTIVE_INVALID, Arguments, DEFAULT, HIGHEST_COUNT, MEDIA_CODE, controller_offset,
+    header_size,
 };
 use crate::walk::{Autosense, EMPTY_CONNECTION, Medium, Way, has_fixed_medium};
 use std::fmt::{self, Display, Formatter};
@@ -153,7 +154,7 @@ pub fn steps(random: &mut Random) -> Vec<Step> {
 /// the cases.
 pub fn accepted(random: &mut Random, layout: Layout) -> Sample {
     let mut sample = Sample::valid_in(random, layout);
-    connect(random, &mut sample.card);
+    connect_sample(random, &mut sample);
     if random.one_in(2) {
         mark(random, &mut sample.card);
     }
@@ -173,7 +174,28 @@ pub fn emptied(random: &mut Random) -> Sample {
 /// The same with fixed connection types.
 pub fn fixed(random: &mut Random) -> Sample {
     let mut sample = at_some_level(random);
-    fix(random, &mut sample.card);
+    fix(random, &mut sample.card, sample.arguments.first_edition);
+    sample
+}
+
+/// An accepted sample of any layout and of a level that is mostly the newest, of version 1 and of edition
+/// 1.00, whose connection types are this code of it; mostly a block has the medium.
+pub fn of_code(random: &mut Random, first: u16) -> Sample {
+    let layout = random.pick(&LAYOUTS);
+    let mut sample = loop {
+        let sample = Sample::first_version(random, layout, true);
+        if sample.rules().permit(first) {
+            break sample;
+        }
+    };
+    for leaf in &mut sample.card.leaves {
+        leaf.connection = first;
+        if let Some(Medium::Code(code)) = Medium::of(first) {
+            recode(random, leaf, code);
+        }
+    }
+    mark(random, &mut sample.card);
+    sample.arguments.level = level(random);
     sample
 }
 
@@ -199,7 +221,7 @@ pub fn sample(random: &mut Random) -> Sample {
         }
         _ => Sample::valid(random),
     };
-    connect(random, &mut sample.card);
+    connect_sample(random, &mut sample);
     mark(random, &mut sample.card);
     sample.arguments.level = level(random);
     sample
@@ -210,15 +232,21 @@ fn level(random: &mut Random) -> u8 {
     random.pick(&[0, 1, 2, 3, 4, 5, 6, 7, 7, 7, 7, 7, 7])
 }
 
-/// Gives every leaf a connection type that is autosensed, or, in one card of three, a fixed one.
-pub fn connect(random: &mut Random, card: &mut Card) {
+/// Gives every leaf a connection type that is autosensed, or, in one card of three, a fixed one, of an
+/// edition.
+pub fn connect(random: &mut Random, card: &mut Card, first_edition: bool) {
     match random.below(3) {
-        0 => fix(random, card),
+        0 => fix(random, card, first_edition),
         _ => autosense(random, card),
     }
 }
 
-/// Gives every leaf a connection type that is autosensed.
+/// The same in the edition of a sample.
+fn connect_sample(random: &mut Random, sample: &mut Sample) {
+    connect(random, &mut sample.card, sample.arguments.first_edition);
+}
+
+/// Gives every leaf a connection type that is autosensed, which both editions have.
 pub fn autosense(random: &mut Random, card: &mut Card) {
     for leaf in &mut card.leaves {
         leaf.connection = random.pick(&autosensed(leaf.chip));
@@ -227,10 +255,16 @@ pub fn autosense(random: &mut Random, card: &mut Card) {
 
 /// Gives every leaf a fixed connection type, mostly one whose medium a block of it has, and its media
 /// code to others too.
-fn fix(random: &mut Random, card: &mut Card) {
+fn fix(random: &mut Random, card: &mut Card, first_edition: bool) {
+    let version = card.version;
     for leaf in &mut card.leaves {
         let is_fixed = |&connection: &u16| Way::of(connection) == Way::Fixed;
-        let any: Vec<_> = connections(leaf.chip).filter(is_fixed).collect();
+        let rules = Rules {
+            chip: leaf.chip,
+            version,
+            first_edition,
+        };
+        let any: Vec<_> = rules.connections().filter(is_fixed).collect();
         let with_choice = with_choice(leaf, &any);
         let is_any = with_choice.is_empty() || random.one_in(6);
         leaf.connection = random.pick(if is_any { &any } else { &with_choice });
@@ -273,7 +307,7 @@ fn recode(random: &mut Random, leaf: &mut Leaf, code: u8) {
 /// The connection types of a chip that are autosensed.
 fn autosensed(chip: u16) -> Vec<u16> {
     let is_autosensed = |&connection: &u16| Way::of(connection) != Way::Fixed;
-    connections(chip).filter(is_autosensed).collect()
+    reader::connections(chip).filter(is_autosensed).collect()
 }
 
 /// Sets Active_Invalid in some of the media that have a command, with or without the default bit.
@@ -327,7 +361,7 @@ mod tests {
     #[test]
     fn every_refusal() {
         let mut random = Random::new(1);
-        let (mut loads, mut looks) = ([[0; 33]; 2], [[0; 33]; 2]);
+        let (mut loads, mut looks) = ([[0; 39]; 2], [[0; 39]; 2]);
         for _ in 0..22_000 {
             let sample = sample(&mut random);
             let is_large = usize::from(sample.card.layout().size == LARGE);
@@ -344,9 +378,9 @@ mod tests {
                 }
             }
         }
-        let met = |often: [usize; 33]| (0..33).filter(move |&number| often[number] > 10);
+        let met = |often: [usize; 39]| (0..39).filter(move |&number| often[number] > 10);
         for (loads, looks) in loads.into_iter().zip(looks) {
-            let numbers = (0..=11).chain(13..=18).chain([21, 29, 30, 31]);
+            let numbers = (0..=11).chain(13..=18).chain([21, 29, 30, 31, 38]);
             assert!(met(loads).eq(numbers), "{loads:?}");
             assert!(met(looks).eq([0, 19, 20, 32]), "{looks:?}");
             assert!(looks[0] > 40_000, "{looks:?}");
@@ -414,7 +448,7 @@ mod tests {
         let mut top_bits = [0; 4];
         for _ in 0..5_000 {
             let mut sample = Sample::valid(&mut random);
-            connect(&mut random, &mut sample.card);
+            connect_sample(&mut random, &mut sample);
             mark(&mut random, &mut sample.card);
             let number = Autosense::default().load(&sample.card.image(), sample.arguments);
             assert_eq!(number, 0, "{sample:02x?}");

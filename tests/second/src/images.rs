@@ -6,13 +6,13 @@ pub(crate) mod damage;
 mod magic;
 
 use crate::crc::{ID_CRC_OFFSET, lay_board_crcs, lay_crcs, lay_srom_crc};
+use crate::edition::{CODES, FIRST_CHIPS, FIRST_VERSION, Rules, VERSIONS, taken_as};
 use crate::layout::{LAYOUTS, Layout, SIZES, SMALL, magic_block_mut};
 use crate::magic::{LAST_RESERVED, RESERVED};
 use crate::random::Random;
 use crate::reader::{
     ADDRESS_OFFSET, Arguments, CHIPS, CONTROLLERS_OFFSET, COUNT_OFFSET, HIGHEST_COUNT,
-    NEWEST_LEVEL, VERSION_OFFSET, connections, controller_offset, first_leaf, header_size, leaf,
-    read_all,
+    NEWEST_LEVEL, VERSION_OFFSET, controller_offset, first_leaf, header_size, leaf, read_all,
 };
 use block::Deck;
 
@@ -23,8 +23,8 @@ pub type Image = Vec<u8>;
 
 /// The refusals that one damaged field of an image or of its arguments can cause, in the reader's
 /// order: all but that for the arrays.
-pub const DAMAGES: [u8; 20] = [
-    1, 2, 3, 4, 29, 30, 5, 6, 7, 8, 9, 10, 11, 13, 14, 15, 16, 17, 18, 31,
+pub const DAMAGES: [u8; 21] = [
+    1, 2, 3, 4, 29, 30, 5, 6, 7, 38, 8, 9, 10, 11, 13, 14, 15, 16, 17, 18, 31,
 ];
 
 /// Those of [`DAMAGES`] that a card of this layout can meet: without a Magic Packet block none of its.
@@ -202,8 +202,15 @@ impl Card {
         image
     }
 
-    /// A random card of one chip that the newest reader accepts for every controller.
-    pub fn valid(random: &mut Random, chip: u16, layout: Layout) -> Self {
+    /// A random card of one chip that the newest reader of an edition accepts for every controller.
+    pub fn valid(random: &mut Random, chip: u16, layout: Layout, first_edition: bool) -> Self {
+        let rules = Rules::any(random, chip, first_edition);
+        Self::by_rules(random, rules, layout)
+    }
+
+    /// The same by rules that have the chip.
+    pub fn by_rules(random: &mut Random, rules: Rules, layout: Layout) -> Self {
+        let chip = rules.chip;
         let most = layout.most_beside(header_size(chip));
         let controllers = match random.below(20) {
             0..10 => 1,
@@ -211,7 +218,7 @@ impl Card {
             18 => 1 + random.below(most),
             _ => most,
         };
-        let leaves = leaves(random, chip, controllers, layout);
+        let leaves = leaves(random, rules, controllers, layout);
         let mut card = Self::new(controllers, leaves).sized(layout.size);
         for controller in &mut card.controllers {
             controller.device = random.byte();
@@ -219,7 +226,7 @@ impl Card {
                 controller.leaf_offset = card.leaves[random.below(card.leaves.len())].offset as u16;
             }
         }
-        card.version = random.pick(&[3, 4]);
+        card.version = rules.version;
         card.address = address(random, controllers);
         if random.one_in(2) {
             card.private = random.row(layout.size.into());
@@ -243,7 +250,7 @@ impl Card {
 
     /// A card whose header is right and whose leaf holds any bytes, with the starts of blocks among
     /// them.
-    pub fn wild(random: &mut Random, chip: u16, layout: Layout) -> Self {
+    pub fn wild(random: &mut Random, rules: Rules, layout: Layout) -> Self {
         const STARTS: [&[u8]; 15] = [
             &[0x80],
             &[0x85, 0x00],
@@ -261,6 +268,7 @@ impl Card {
             &[0x85, 0x06, 0x03, 0x01],
             &[0x81, 0x07],
         ];
+        let chip = rules.chip;
         let controllers = 1 + random.below(4);
         let first = first_leaf(controllers);
         let last = layout.leaf_limit() - header_size(chip);
@@ -276,13 +284,14 @@ impl Card {
         }
         let start = random.pick(&STARTS);
         bytes.splice(..start.len(), start.iter().copied());
-        let connection = connection(random, chip);
+        let connection = connection(random, rules);
         let mut leaf = Leaf::new(offset, chip, connection, vec![bytes]);
         leaf.count = match random.below(8) {
             0 => random.byte(),
             _ => random.below(8) as u8,
         };
         let mut card = Self::new(controllers, vec![leaf]).laid_out(random, layout);
+        card.version = rules.version;
         card.address = address(random, controllers);
         card
     }
@@ -293,7 +302,7 @@ impl Card {
 pub fn random_image(random: &mut Random, layout: Layout) -> Image {
     let mut image = random.row(layout.size.into());
     if !random.one_in(8) {
-        image[VERSION_OFFSET] = random.pick(&[3, 4]);
+        image[VERSION_OFFSET] = random.pick(&VERSIONS);
     }
     if !random.one_in(8) {
         let count = 1 + random.below(layout.most_controllers());
@@ -339,17 +348,47 @@ impl Sample {
 
     /// The same for one layout.
     pub fn valid_in(random: &mut Random, layout: Layout) -> Self {
-        let chip = random.pick(&CHIPS);
-        let card = Card::valid(random, chip, layout);
+        let (chip, first_edition) = (random.pick(&CHIPS), random.one_in(2));
+        let rules = Rules::any(random, chip, first_edition);
+        Self::by_rules(random, rules, layout)
+    }
+
+    /// A card of version 1 that the newest reader of a layout and an edition accepts, and such a
+    /// reader.
+    pub fn first_version(random: &mut Random, layout: Layout, first_edition: bool) -> Self {
+        let rules = Rules::first(random, first_edition);
+        Self::by_rules(random, rules, layout)
+    }
+
+    fn by_rules(random: &mut Random, rules: Rules, layout: Layout) -> Self {
+        let card = Card::by_rules(random, rules, layout);
         let controller = random.below(card.controllers.len()) as u8;
+        let newest = Arguments::newest(rules.chip).laid_out(layout);
         Self {
             card,
             arguments: Arguments {
-                chip,
                 controller,
-                level: NEWEST_LEVEL,
-                layout,
+                ..newest.in_edition(rules.first_edition)
             },
+        }
+    }
+
+    /// The twin in edition 1.01: with the codes of 1.01 where this one has those of 1.00.
+    pub fn corrected(&self) -> Self {
+        let mut twin = self.clone();
+        for leaf in &mut twin.card.leaves {
+            leaf.connection = taken_as(leaf.connection);
+        }
+        twin.arguments.first_edition = false;
+        twin
+    }
+
+    /// The rules by which the card is read.
+    pub fn rules(&self) -> Rules {
+        Rules {
+            chip: self.arguments.chip,
+            version: self.card.version,
+            first_edition: self.arguments.first_edition,
         }
     }
 
@@ -367,9 +406,12 @@ impl Sample {
     /// A card whose leaf holds any bytes, and the newest reader of it.
     pub fn wild(random: &mut Random) -> Self {
         let (chip, layout) = (random.pick(&CHIPS), random.pick(&LAYOUTS));
+        let first_edition = random.one_in(2);
+        let rules = Rules::any(random, chip, first_edition);
+        let newest = Arguments::newest(chip).laid_out(layout);
         Self {
-            card: Card::wild(random, chip, layout),
-            arguments: Arguments::newest(chip).laid_out(layout),
+            card: Card::wild(random, rules, layout),
+            arguments: newest.in_edition(first_edition),
         }
     }
 
@@ -405,7 +447,8 @@ impl Sample {
 }
 
 /// One shared leaf, or own leaves for up to eight controllers, anywhere in the places there are.
-fn leaves(random: &mut Random, chip: u16, controllers: usize, layout: Layout) -> Vec<Leaf> {
+fn leaves(random: &mut Random, rules: Rules, controllers: usize, layout: Layout) -> Vec<Leaf> {
+    let chip = rules.chip;
     let (first, header) = (first_leaf(controllers), header_size(chip));
     let places = layout.leaf_limit() - first;
     let most = controllers.min(8).min(places / header);
@@ -413,14 +456,14 @@ fn leaves(random: &mut Random, chip: u16, controllers: usize, layout: Layout) ->
     let share = places / number;
     let leaf = |index| {
         let room = if number == 1 { places } else { share };
-        let blocks = blocks(random, chip, room - header);
+        let blocks = blocks(random, rules, room - header);
         let size = header + blocks.iter().map(Vec::len).sum::<usize>();
         let gap = match random.below(3) {
             0 => 0,
             1 => room - size,
             _ => random.below(room - size + 1),
         };
-        let connection = connection(random, chip);
+        let connection = connection(random, rules);
         let mut leaf = Leaf::new(first + index * share + gap, chip, connection, blocks);
         leaf.control = random.byte();
         leaf
@@ -431,17 +474,17 @@ fn leaves(random: &mut Random, chip: u16, controllers: usize, layout: Layout) ->
 /// Random blocks that may stand together and fill no more than the room: a few, as many as are
 /// drawn before one does not fit, or so many that no place is left; and never more than a count can
 /// name. Now and then the first of them are the smallest that there are.
-pub(crate) fn blocks(random: &mut Random, chip: u16, room: usize) -> Vec<Vec<u8>> {
-    let mut deck = Deck::new(random, chip);
+pub(crate) fn blocks(random: &mut Random, rules: Rules, room: usize) -> Vec<Vec<u8>> {
+    let mut deck = Deck::new(random, rules);
     let few = random.below(6);
     let fills = random.one_in(3);
     let mut left = room;
     let mut blocks = Vec::new();
-    let rarity = if chip == 21041 { 4 } else { 16 };
+    let rarity = if rules.chip == 21041 { 4 } else { 16 };
     if fills && random.one_in(rarity) {
         let any = random.below(HIGHEST_COUNT + 1);
         let most = random.pick(&[any, HIGHEST_COUNT]);
-        blocks.extend(block::smallest(random, chip, left).take(most));
+        blocks.extend(block::smallest(random, rules, left).take(most));
         left -= blocks.iter().map(Vec::len).sum::<usize>();
     }
     while (fills || blocks.len() < few) && blocks.len() < HIGHEST_COUNT {
@@ -453,7 +496,7 @@ pub(crate) fn blocks(random: &mut Random, chip: u16, room: usize) -> Vec<Vec<u8>
         blocks.push(block);
     }
     if fills && random.one_in(2) {
-        let more = block::filling(random, chip, left);
+        let more = block::filling(random, rules, left);
         if blocks.len() + more.len() <= HIGHEST_COUNT {
             blocks.extend(more);
         }
@@ -461,8 +504,40 @@ pub(crate) fn blocks(random: &mut Random, chip: u16, room: usize) -> Vec<Vec<u8>
     blocks
 }
 
-pub(crate) fn connection(random: &mut Random, chip: u16) -> u16 {
-    random.pick(&connections(chip).collect::<Vec<_>>())
+/// A connection type that the rules permit, in version 1 often one of the codes that its editions
+/// have not in common.
+pub(crate) fn connection(random: &mut Random, rules: Rules) -> u16 {
+    let any: Vec<_> = rules.connections().collect();
+    let own: Vec<_> = any
+        .iter()
+        .copied()
+        .filter(|it| CODES.contains(it))
+        .collect();
+    let is_own = rules.version == FIRST_VERSION && random.one_in(3);
+    random.pick(if is_own { &own } else { &any })
+}
+
+impl Rules {
+    /// Those of a chip and an edition for a version that the chip has, often the first.
+    pub fn any(random: &mut Random, chip: u16, first_edition: bool) -> Self {
+        let rules = |version| Self {
+            chip,
+            version,
+            first_edition,
+        };
+        let mut versions = VERSIONS.to_vec();
+        versions.retain(|&version| !rules(version).lack_chip());
+        rules(random.pick(&versions))
+    }
+
+    /// Those of version 1 in an edition.
+    pub fn first(random: &mut Random, first_edition: bool) -> Self {
+        Self {
+            chip: random.pick(&FIRST_CHIPS),
+            version: FIRST_VERSION,
+            first_edition,
+        }
+    }
 }
 
 /// A level that there is.

@@ -8,6 +8,7 @@
 pub mod calls;
 pub mod cases;
 pub mod crc;
+pub mod edition;
 pub mod forms;
 pub mod images;
 pub mod layout;

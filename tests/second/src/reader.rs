@@ -1,10 +1,12 @@
 //! Reading an image: the header, the blocks of one leaf, the table and the block view (document 01,
 //! from "The image" to "Levels and the table"; document 02, request 1, for the layout with a Magic
-//! Packet block, request 3, for the power blocks, and request 6, for the ROM's size).
+//! Packet block, request 3, for the power blocks, request 6, for the ROM's size, and request 12, for
+//! version 1 and its editions).
 
 pub mod fast;
 
 use crate::crc::{self, ID_CRC_OFFSET};
+use crate::edition::{Rules, is_version};
 use crate::layout::{Layout, is_of_size};
 use crate::magic;
 use std::fmt;
@@ -68,8 +70,9 @@ const CONNECTIONS_21140: [u16; 19] = [
 /// 10Base5, which the 21142 and the later chips have beside the 21140's connection types.
 const AUI: u16 = 0x0002;
 
-/// Whose leaf is read, for which chip, how many extended types the reader knows, and what size and
-/// layout the image should have. The library's C interface has the same layout.
+/// Whose leaf is read, for which chip, how many extended types the reader knows, what size and layout
+/// the image should have, and whether an image of version 1 is of edition 1.00, and not 1.01. The
+/// library's C interface has the same layout.
 #[repr(C)]
 #[derive(Debug, Clone, Copy, PartialEq, Eq)]
 pub struct Arguments {
@@ -77,10 +80,12 @@ pub struct Arguments {
     pub controller: u8,
     pub level: u8,
     pub layout: Layout,
+    pub first_edition: bool,
 }
 
 impl Arguments {
-    /// The newest reader, for the first controller of the smaller ROM without a Magic Packet block.
+    /// The newest reader, for the first controller of the smaller ROM without a Magic Packet block, by
+    /// the later edition.
     pub const fn newest(chip: u16) -> Self {
         Self::at_level(chip, NEWEST_LEVEL)
     }
@@ -92,6 +97,7 @@ impl Arguments {
             controller: 0,
             level,
             layout: Layout::PLAIN,
+            first_edition: false,
         }
     }
 
@@ -100,8 +106,16 @@ impl Arguments {
         Self { layout, ..self }
     }
 
+    /// The same for another edition.
+    pub const fn in_edition(self, first_edition: bool) -> Self {
+        Self {
+            first_edition,
+            ..self
+        }
+    }
+
     /// As a record of the test programs holds them: chip and stated size are words, low byte first.
-    pub fn bytes(self) -> [u8; 7] {
+    pub fn bytes(self) -> [u8; 8] {
         let [low, high] = self.chip.to_le_bytes();
         let [size_low, size_high] = self.layout.size.to_le_bytes();
         let magic = self.layout.magic.into();
@@ -113,12 +127,13 @@ impl Arguments {
             size_low,
             size_high,
             magic,
+            self.first_edition.into(),
         ]
     }
 }
 
-/// Chip, controller, level, stated size and whether there is a Magic Packet block (0 or 1), as the
-/// words of a command.
+/// Chip, controller, level, stated size, whether there is a Magic Packet block and whether it is
+/// edition 1.00 (0 or 1), as the words of a command.
 impl fmt::Display for Arguments {
     fn fmt(&self, to: &mut fmt::Formatter<'_>) -> fmt::Result {
         let Self {
@@ -126,11 +141,13 @@ impl fmt::Display for Arguments {
             controller,
             level,
             layout: Layout { size, magic },
-        } = self;
+            first_edition,
+        } = *self;
+        let flags = [magic, first_edition].map(u8::from);
+        let [magic, first_edition] = flags;
         write!(
             to,
-            "{chip} {controller} {level} {size} {}",
-            u8::from(*magic)
+            "{chip} {controller} {level} {size} {magic} {first_edition}"
         )
     }
 }
@@ -211,6 +228,7 @@ pub(crate) enum Refusal {
     RepeatedMode = 31,
     NoFixedMedium = 32,
     SheetTooLarge = 33,
+    FirstVersionChip = 38,
 }
 
 impl Refusal {
@@ -329,7 +347,7 @@ pub fn starts(image: &[u8], arguments: Arguments) -> Option<Vec<usize>> {
     Some(blocks.iter().map(|block| block.start).collect())
 }
 
-/// The connection types that a leaf for the chip may name.
+/// The connection types of the chip's row, as all versions but the first have them.
 pub fn connections(chip: u16) -> impl Iterator<Item = u16> {
     let (row, more): (&[u16], _) = match chip {
         21041 => (&CONNECTIONS_21041, None),
@@ -337,10 +355,6 @@ pub fn connections(chip: u16) -> impl Iterator<Item = u16> {
         _ => (&CONNECTIONS_21140, Some(AUI)),
     };
     row.iter().copied().chain(more)
-}
-
-pub fn is_connection(chip: u16, connection: u16) -> bool {
-    connections(chip).any(|permitted| permitted == connection)
 }
 
 /// The kinds of block that a leaf for the chip may hold, beside types that nobody knows yet.
@@ -406,18 +420,16 @@ fn frame(image: &[u8], layout: Layout) -> Result<(), Refusal> {
     Ok(())
 }
 
-pub(crate) fn is_version(image: &[u8]) -> bool {
-    matches!(image[VERSION_OFFSET], 3 | 4)
-}
-
-/// Causes 5 to 11.
+/// Causes 5 to 11, and 38 after 7.
 fn header(image: &[u8], arguments: Arguments) -> Result<Header, Refusal> {
     let Arguments {
         chip,
         controller,
         level,
         layout,
+        ..
     } = arguments;
+    let rules = Rules::of(image, arguments);
     let controllers = usize::from(image[COUNT_OFFSET]);
     let is_count = (1..=layout.most_controllers()).contains(&controllers);
     refuse_if(
@@ -427,6 +439,7 @@ fn header(image: &[u8], arguments: Arguments) -> Result<Header, Refusal> {
     let index = usize::from(controller);
     refuse_if(index >= controllers, Refusal::Controller)?;
     refuse_if(!CHIPS.contains(&chip), Refusal::Chip)?;
+    refuse_if(rules.lack_chip(), Refusal::FirstVersionChip)?;
     refuse_if(level > NEWEST_LEVEL, Refusal::Level)?;
     let base = image[ADDRESS_OFFSET..CONTROLLERS_OFFSET]
         .iter()
@@ -440,7 +453,7 @@ fn header(image: &[u8], arguments: Arguments) -> Result<Header, Refusal> {
         Refusal::LeafBounds,
     )?;
     let connection = word(image, start);
-    refuse_if(!is_connection(chip, connection), Refusal::Connection)?;
+    refuse_if(!rules.permit(connection), Refusal::Connection)?;
     Ok(Header {
         connection,
         control: if chip == 21140 { image[start + 2] } else { 0 },
@@ -467,6 +480,10 @@ fn block(image: &[u8], start: usize, arguments: Arguments) -> Result<Block, Refu
         resets_phy: false,
         mode: 0,
     };
+    refuse_if(
+        kind < COMPACT && !Rules::of(image, arguments).have_extended_blocks(),
+        Refusal::NotPermitted,
+    )?;
     if !is_known(kind, level) {
         block.kind = None;
         return Ok(block);

@@ -1,10 +1,12 @@
 //! The sheet in its two forms, its writer, its maker and its converters (document 01, "The sheet";
-//! document 02, request 1, for the layout with a Magic Packet block, and request 7, for the wide form
-//! and the larger ROM), with a plain record between the sheet's bytes and the image's.
+//! document 02, request 1, for the layout with a Magic Packet block, request 7, for the wide form and
+//! the larger ROM, and request 12, for the editions), with a plain record between the sheet's bytes
+//! and the image's.
 
 pub mod fast;
 
 use crate::crc::{ID_LAST_OFFSET, lay_board_crcs};
+use crate::edition::EDITIONS;
 use crate::layout::{LAYOUTS, Layout, is_of_size};
 use crate::reader::{
     ADDRESS_OFFSET, Arguments, CHIPS, COMPACT, CONTROLLERS_OFFSET, COUNT_OFFSET, EXT, EXTENDED,
@@ -52,6 +54,12 @@ pub const FORMS: [Form; 2] = [Form::Narrow, Form::Wide];
 pub fn served() -> impl Iterator<Item = (Form, Layout)> {
     let with_layouts = |form: Form| form.layouts().iter().map(move |&layout| (form, layout));
     FORMS.into_iter().flat_map(with_layouts)
+}
+
+/// The same in each edition.
+pub fn served_editions() -> impl Iterator<Item = (Form, Layout, bool)> {
+    let editions = |(form, layout)| EDITIONS.map(|first_edition| (form, layout, first_edition));
+    served().flat_map(editions)
 }
 
 impl Form {
@@ -168,9 +176,16 @@ struct Body {
 }
 
 /// Writes the image that a sheet of a form describes, and answers the number; a refusal leaves the
-/// image as it is. What stands behind the board's part in the image is kept, and judged with the rest.
-pub fn write(sheet: &[u8], form: Form, layout: Layout, image: &mut [u8]) -> u8 {
-    let written = try_write(sheet, form, layout, image);
+/// image as it is. What stands behind the board's part in the image is kept, and judged with the rest,
+/// by the edition that the caller names.
+pub fn write(
+    sheet: &[u8],
+    form: Form,
+    layout: Layout,
+    first_edition: bool,
+    image: &mut [u8],
+) -> u8 {
+    let written = try_write(sheet, form, layout, first_edition, image);
     if let Ok(written) = &written {
         image.copy_from_slice(written);
     }
@@ -179,8 +194,19 @@ pub fn write(sheet: &[u8], form: Form, layout: Layout, image: &mut [u8]) -> u8 {
 
 /// Makes the sheet of a tidy image in a form, in the first bytes of the buffer; a refusal leaves the
 /// buffer as it is.
-pub fn make(image: &[u8], chip: u16, form: Form, layout: Layout, buffer: &mut [u8]) -> Made {
-    lay_sheet(try_make(image, chip, form, layout), buffer)
+pub fn make(
+    image: &[u8],
+    chip: u16,
+    form: Form,
+    layout: Layout,
+    first_edition: bool,
+    buffer: &mut [u8],
+) -> Made {
+    let newest = Arguments::newest(chip).laid_out(layout);
+    lay_sheet(
+        try_make(image, newest.in_edition(first_edition), form),
+        buffer,
+    )
 }
 
 /// The wide sheet of a narrow one, in the first bytes of the buffer; a refusal leaves the buffer as
@@ -212,7 +238,13 @@ fn lay_sheet(sheet: Result<Vec<u8>, Refusal>, buffer: &mut [u8]) -> Made {
     }
 }
 
-fn try_write(sheet: &[u8], form: Form, layout: Layout, output: &[u8]) -> Result<Vec<u8>, Refusal> {
+fn try_write(
+    sheet: &[u8],
+    form: Form,
+    layout: Layout,
+    first_edition: bool,
+    output: &[u8],
+) -> Result<Vec<u8>, Refusal> {
     let record = Record::of_sheet(sheet, form).ok_or(Refusal::SheetLengthOrSum)?;
     refuse_if(record.blocks.len() > HIGHEST_COUNT, Refusal::SheetTooLarge)?;
     refuse_if(!form.serves(output, layout), Refusal::ImageLength)?;
@@ -226,13 +258,13 @@ fn try_write(sheet: &[u8], form: Form, layout: Layout, output: &[u8]) -> Result<
     let mut image = output.to_vec();
     record.lay(&leaf_bytes, layout, &mut image);
     let newest = Arguments::newest(record.chip).laid_out(layout);
-    leaf(&image, newest, usize::MAX)?;
+    leaf(&image, newest.in_edition(first_edition), usize::MAX)?;
     Ok(image)
 }
 
-fn try_make(image: &[u8], chip: u16, form: Form, layout: Layout) -> Result<Vec<u8>, Refusal> {
+fn try_make(image: &[u8], newest: Arguments, form: Form) -> Result<Vec<u8>, Refusal> {
+    let Arguments { chip, layout, .. } = newest;
     refuse_if(!form.serves(image, layout), Refusal::ImageLength)?;
-    let newest = Arguments::newest(chip).laid_out(layout);
     let (header, blocks) = leaf(image, newest, usize::MAX)?;
     let start = header.first_block - header_size(chip);
     let end = blocks

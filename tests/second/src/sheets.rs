@@ -5,6 +5,7 @@ pub mod converted;
 mod damage;
 pub mod tidy;
 
+use crate::edition::Rules;
 use crate::images::{
     self, Card, Controller, Image, Leaf, MagicBlock, TIDY_LEAF, WRONG_SIZES, block,
 };
@@ -15,7 +16,7 @@ use crate::sheet::{Form, MEDIA_SIZES};
 
 /// The refusals that one damaged field of a sheet can cause, in the writer's order: all but the one
 /// for the output's size.
-pub const SHEET_DAMAGES: [u8; 13] = [24, 33, 7, 25, 26, 2, 11, 14, 15, 16, 17, 18, 31];
+pub const SHEET_DAMAGES: [u8; 14] = [24, 33, 7, 25, 26, 2, 38, 11, 14, 15, 16, 17, 18, 31];
 
 /// Those of [`SHEET_DAMAGES`] that a sheet of this form can meet: a narrow one cannot say too many
 /// blocks.
@@ -99,20 +100,31 @@ impl Sheet {
         card
     }
 
-    /// A random sheet of any chip that the writer accepts in a layout, in a form that serves it, once
-    /// in a while the longest.
-    pub fn valid(random: &mut Random, layout: Layout) -> Self {
+    /// A random sheet of any chip that the writer accepts in a layout and an edition, in a form that
+    /// serves it, once in a while the longest.
+    pub fn valid(random: &mut Random, layout: Layout, first_edition: bool) -> Self {
         let chip = random.pick(&CHIPS);
         if chip == 21041 && random.one_in(8) {
-            return Self::longest(random, layout);
+            return Self::longest(random, layout, first_edition);
         }
-        let room = layout.leaf_limit() - TIDY_LEAF - header_size(chip);
-        let blocks = images::blocks(random, chip, room);
-        Self::with_blocks(random, chip, &blocks)
+        let rules = Rules::any(random, chip, first_edition);
+        Self::by_rules(random, rules, layout)
+    }
+
+    /// The same of version 1.
+    pub fn first_version(random: &mut Random, layout: Layout, first_edition: bool) -> Self {
+        let rules = Rules::first(random, first_edition);
+        Self::by_rules(random, rules, layout)
+    }
+
+    fn by_rules(random: &mut Random, rules: Rules, layout: Layout) -> Self {
+        let room = layout.leaf_limit() - TIDY_LEAF - header_size(rules.chip);
+        let blocks = images::blocks(random, rules, room);
+        Self::with_blocks(random, rules, &blocks)
     }
 
     /// The longest sheet of a layout: of the most blocks, as many have EXT as there is room for.
-    pub fn longest(random: &mut Random, layout: Layout) -> Self {
+    pub fn longest(random: &mut Random, layout: Layout, first_edition: bool) -> Self {
         let leaf = Card::longest(random, layout).leaves.remove(0);
         let [plain, ext] = MEDIA_SIZES;
         let more = (layout.leaf_limit() - leaf.end()) / (ext - plain);
@@ -123,15 +135,17 @@ impl Sheet {
             let code = blocks[index][0];
             blocks[index] = block::media(code, Some(random.bytes()));
         }
-        Self::with_blocks(random, leaf.chip, &blocks)
+        let rules = Rules::any(random, leaf.chip, first_edition);
+        Self::with_blocks(random, rules, &blocks)
     }
 
     /// A sheet with these whole blocks, and any values in the other fields that the writer accepts.
-    fn with_blocks(random: &mut Random, chip: u16, blocks: &[Vec<u8>]) -> Self {
-        let connection = images::connection(random, chip);
+    fn with_blocks(random: &mut Random, rules: Rules, blocks: &[Vec<u8>]) -> Self {
+        let connection = images::connection(random, rules);
+        let chip = rules.chip;
         Self {
             id: random.bytes(),
-            version: random.pick(&[3, 4]),
+            version: rules.version,
             address: images::address(random, 1),
             device: random.byte(),
             control: if chip == 21140 { random.byte() } else { 0 },
@@ -141,14 +155,20 @@ impl Sheet {
     }
 
     /// The bytes of a sheet in a form in which one field is damaged so that the writer refuses it with
-    /// this number, one of [`sheet_damages`], in a layout.
-    pub fn damaged(random: &mut Random, number: u8, form: Form, layout: Layout) -> Vec<u8> {
+    /// this number, one of [`sheet_damages`], in a layout and an edition.
+    pub fn damaged(
+        random: &mut Random,
+        number: u8,
+        form: Form,
+        layout: Layout,
+        first_edition: bool,
+    ) -> Vec<u8> {
         loop {
-            let mut sheet = Self::valid(random, layout);
+            let mut sheet = Self::valid(random, layout, first_edition);
             if number == 24 {
                 return sheet.missummed(random, form);
             }
-            if sheet.damage(random, number, form, layout) {
+            if sheet.damage(random, number, form, layout, first_edition) {
                 return sheet.bytes(form);
             }
         }
@@ -158,7 +178,8 @@ impl Sheet {
     /// right.
     pub fn wild(random: &mut Random, form: Form) -> Vec<u8> {
         let chip = random.pick(&CHIPS);
-        let mut sheet = Self::valid(random, Layout::PLAIN);
+        let first_edition = random.one_in(2);
+        let mut sheet = Self::valid(random, Layout::PLAIN, first_edition);
         sheet.chip = chip;
         sheet.control = if random.one_in(8) { random.byte() } else { 0 };
         let body = |_| {

@@ -2,7 +2,11 @@
 //! case to this implementation.
 
 use std::fs;
+use std::iter;
 use std::path::Path;
+
+/// The lists of cards of crates/worked_first.
+pub const EDITION_LISTS: [&str; 2] = ["editionCards", "versionCards"];
 
 /// A specification file of a crate.
 pub fn text(file: &str) -> String {
@@ -22,6 +26,43 @@ pub fn cases<'a>(text: &'a str, name: &str) -> Vec<(&'a str, Vec<&'a str>)> {
             (words[0], words[1..].to_vec())
         })
         .collect()
+}
+
+/// The elements of the list that is defined under a name, wherever its lines break: what each is made by, and its arguments.
+pub fn elements(text: &str, name: &str) -> Vec<Vec<String>> {
+    let (_, body) = definition(text, name);
+    let code = body
+        .lines()
+        .filter(|line| !line.trim_start().starts_with("--"));
+    let words = code
+        .flat_map(str::split_whitespace)
+        .collect::<Vec<_>>()
+        .join(" ");
+    let (mut open, mut elements) = (0, vec![String::new()]);
+    for letter in words.chars() {
+        match letter {
+            '(' => open += 1,
+            ')' => open -= 1,
+            '∷' if open == 0 => {
+                elements.push(String::new());
+                continue;
+            }
+            _ => {}
+        }
+        elements.last_mut().unwrap().push(letter);
+    }
+    assert_eq!(
+        elements.pop().as_deref().map(str::trim),
+        Some("[]"),
+        "{name}"
+    );
+    let element = |text: String| {
+        arguments(&text)
+            .into_iter()
+            .map(|it| it.trim().to_owned())
+            .collect()
+    };
+    elements.into_iter().map(element).collect()
 }
 
 /// Words, or what stands between outer parentheses.
@@ -98,8 +139,7 @@ pub fn numbers(list: &str) -> Vec<usize> {
     numbers
 }
 
-/// A list, with each of these names in it, and the arguments behind it, replaced by what the text defines under it in one
-/// line.
+/// A list, with each of these names in it, and the arguments behind it, replaced by what the text defines under it.
 pub fn opened(list: &str, text: &str, names: &[&str]) -> String {
     names.iter().fold(list.to_string(), |list, name| {
         let (parameters, body) = definition(text, name);
@@ -123,14 +163,19 @@ pub fn opened(list: &str, text: &str, names: &[&str]) -> String {
     })
 }
 
-/// The parameters of a name that the text defines in one line, and what stands behind them.
+/// The parameters of a name that the text defines, and what stands behind them up to an empty line.
 fn definition<'a>(text: &'a str, name: &str) -> (Vec<&'a str>, &'a str) {
-    let of_line = |line: &'a str| {
-        let (head, body) = line.split_once(" = ")?;
+    let of_lines = |lines: &'a str| {
+        let (head, body) = lines.split_once(" =")?;
         let mut words = head.split(' ');
         (words.next() == Some(name)).then(|| (words.collect(), body))
     };
-    let mut found = text.lines().filter_map(of_line);
+    // Behind the line that has its type.
+    let definitions = text.split("\n\n").filter_map(|it| it.split_once('\n'));
+    let lines = definitions.flat_map(|(first, rest)| [first, rest]);
+    let lines =
+        lines.flat_map(|lines| iter::successors(Some(lines), |it| Some(it.split_once('\n')?.1)));
+    let mut found = lines.filter_map(of_lines);
     found
         .next()
         .unwrap_or_else(|| panic!("{name} is not defined"))

@@ -1,9 +1,10 @@
 //! The autosense walk (document 01, "The walk"; document 02, request 4, for the empty connection
-//! word, request 5, for fixed connections, and request 6, for the rows' length), which keeps the
-//! table as a list of entries.
+//! word, request 5, for fixed connections, request 6, for the rows' length, and request 12, for the
+//! codes of the first edition), which keeps the table as a list of entries.
 
 pub mod fast;
 
+use crate::edition::taken_as;
 use crate::reader::{Arguments, Block, Refusal, leaf, refuse_if};
 
 /// The selected block, or the default, where there is none.
@@ -55,6 +56,7 @@ impl Medium {
     /// name" (document 02, request 5). None under a type that is not fixed, and where no block has
     /// the medium: "0x0010 and 0x0211 always get" 32.
     pub(crate) fn of(connection: u16) -> Option<Self> {
+        let connection = taken_as(connection);
         let [low_byte, _] = connection.to_le_bytes();
         match connection {
             _ if Way::of(connection) != Way::Fixed => None,

@@ -1,12 +1,13 @@
 //! What crates/worked, crates/worked_large, crates/magic and crates/leaf compute with is the second
 //! implementation's: each sheet of specs/Sheets.antt is written to its image, and made of it again;
 //! each Magic Packet block of specs/Cases.antt is read as it says, at either size, boards before one
-//! are refused as they say, case k, cards under fixed types and cards of 512 bytes are read and walked
-//! as they say, the blocks of leaves start where they say, and leaves with power blocks are read as
-//! they say.
+//! are refused as they say, case k, cards under fixed types, cards of 512 bytes and cards of version 1
+//! are read and walked as they say, the blocks of leaves start where they say, and leaves, with power
+//! blocks and in version 1 too, are read as they say.
 
 use second::cases::{REPORTS_K, card_b, cases};
 use second::crc::{id_crc, lay_crcs, lay_srom_crc, magic_crc, srom_crc};
+use second::edition::{CODES, FIRST_VERSION, Rules, taken_as};
 use second::images::{Card, Image, Leaf, MagicBlock, TIDY_LEAF};
 use second::layout::{LAYOUTS, Layout, SIZES, SMALL, magic_block, magic_block_mut, magic_offset};
 use second::magic::{Magic, read_magic, write_magic};
@@ -15,17 +16,34 @@ use second::reader::{Arguments, read_all, starts};
 use second::sheet::{self, Form};
 use second::specification::{self, arguments, bytes, number, numbers, opened, text};
 use second::walk::{Autosense, NONE};
+use std::collections::BTreeSet;
+use std::fs;
+use std::path::Path;
 
 /// The names of crates/magic/specs/Cases.antt that lists use, each before those that it is made of.
 const BLOCKS: [&str; 4] = ["wholeBlock", "otherCrc", "strayLast", "fields"];
 
 /// The same of crates/leaf/specs/Cases.antt.
-const LEAVES: [&str; 5] = [
+const LEAVES: [&str; 11] = [
     "leafModes",
     "leafClashes",
     "leafBetween",
     "symDefault",
+    "leafBehind",
+    "leafPorts",
+    "leafReset",
+    "leafB",
+    "leafH",
+    "leafI",
     "dots",
+];
+
+/// The lists of its leaves, and whether they are of version 1.
+const LEAF_LISTS: [(&str, bool); 4] = [
+    ("paperCases", false),
+    ("furtherCases", false),
+    ("powerCases", false),
+    ("firstCases", true),
 ];
 
 /// The bytes of a list that may name blocks.
@@ -75,10 +93,14 @@ fn both_ways(
     image: &[u8],
     mut output: Image,
 ) {
-    assert_eq!(sheet::write(sheet, form, layout, &mut output), 0, "{chip}");
+    assert_eq!(
+        sheet::write(sheet, form, layout, false, &mut output),
+        0,
+        "{chip}"
+    );
     assert_eq!(output[..], *image, "{chip}");
     let mut buffer = vec![0; sheet.len()];
-    let made = sheet::make(&output, chip, form, layout, &mut buffer);
+    let made = sheet::make(&output, chip, form, layout, false, &mut buffer);
     assert_eq!((made.number, made.length), (0, sheet.len()), "{chip}");
     assert_eq!(buffer, sheet, "{chip}");
 }
@@ -258,6 +280,7 @@ fn large_cards_are_read_and_walked_as_second_does() {
             controller: controllers as u8 - 1,
             level,
             layout,
+            first_edition: false,
         };
         let (answer, entries) = read_all(&image, reader);
         if reading[0] == "leaves.refused" {
@@ -370,34 +393,189 @@ fn blocks_start_where_second_finds_them() {
 }
 
 #[test]
-fn leaves_with_power_blocks_are_read_as_second_reads_them() {
+fn leaves_are_read_as_second_reads_them() {
     let text = text("leaf/specs/Cases.antt");
-    let cases = specification::cases(&text, "powerCases");
-    assert!(cases.len() >= 15, "only {} leaves", cases.len());
-    for (made_by, words) in cases {
-        let (chip, level) = (number(words[0]) as u16, number(words[1]) as u8);
-        let leaf = bytes(&opened(words[2], &text, &LEAVES));
-        let image = with_leaf(chip, &leaf);
-        let (answer, entries) = read_all(&image, Arguments::at_level(chip, level));
-        let found = match answer.number {
-            0 => {
-                let counts = [answer.listed, answer.resets, answer.skipped, answer.power];
-                [
-                    counts.map(|count| count.to_string()).to_vec(),
-                    tables(&entries).to_vec(),
-                ]
-                .concat()
+    let mut leaves = 0;
+    for (list, is_first) in LEAF_LISTS {
+        for element in specification::elements(&text, list) {
+            let element = match element[0].as_str() {
+                "caseB" => opened(&element.join(" "), &text, &["caseB"]),
+                made_by => {
+                    let rest = element[1..].iter().map(|word| format!("({word})"));
+                    made_by.to_owned() + " " + &rest.collect::<Vec<_>>().join(" ")
+                }
+            };
+            let words: Vec<_> = arguments(&element).into_iter().map(str::trim).collect();
+            let (chip, level) = (number(words[1]) as u16, number(words[2]) as u8);
+            let leaf = bytes(&opened(words[3], &text, &LEAVES));
+            let mut image = with_leaf(chip, &leaf);
+            if is_first {
+                image = of_version(image, 1);
             }
-            number => vec![number.to_string()],
-        };
-        let mut expected = words[3..].to_vec();
-        if made_by == "accepted" {
-            // It has no power block, and says nothing of them.
-            expected.insert(3, "0");
+            let (answer, entries) = read_all(&image, Arguments::at_level(chip, level));
+            let found = match answer.number {
+                0 => {
+                    let counts = [answer.listed, answer.resets, answer.skipped, answer.power];
+                    [
+                        counts.map(|count| count.to_string()).to_vec(),
+                        tables(&entries).to_vec(),
+                    ]
+                    .concat()
+                }
+                number => vec![number.to_string()],
+            };
+            let mut expected = words[4..].to_vec();
+            if words[0] == "accepted" {
+                // It has no power block, and says nothing of them.
+                expected.insert(3, "0");
+            }
+            assert_eq!(found, expected, "{list}: {element}");
+            leaves += 1;
         }
-        assert_eq!(found, expected, "{made_by} {words:?}");
+    }
+    assert!(leaves >= 50, "only {leaves} leaves");
+}
+
+/// The image with another version, its CRCs mended.
+fn of_version(mut image: Image, version: u8) -> Image {
+    image[18] = version;
+    lay_crcs(&mut image, Layout::PLAIN);
+    image
+}
+
+/// The names of crates/worked_first/specs/Cases.antt that its leaves use.
+const FIRST_LEAVES: [&str; 2] = ["compacts", "sias"];
+
+/// Document 02, request 12: cards of several versions, read and walked in either edition. The blocks of each are two, and `readIn`
+/// says that the second has the fixed medium.
+#[test]
+fn cards_of_both_editions_are_walked_as_second_walks_them() {
+    let text = text("worked_first/specs/Cases.antt");
+    let mut cards = 0;
+    for list in specification::EDITION_LISTS {
+        for case in specification::elements(&text, list) {
+            let case: Vec<_> = case.iter().map(String::as_str).collect();
+            let (reading, seen) = match case[..] {
+                ["readIn", version, edition, chip, leaf] => (
+                    [version, edition, chip, "7", leaf],
+                    "0 then false none 0 0, 0 then true 1 1 1".to_owned(),
+                ),
+                ["refusedIn", version, edition, chip, level, leaf, number] => (
+                    [version, edition, chip, level, leaf],
+                    format!("{number} fresh, 20 fresh"),
+                ),
+                _ => panic!("{case:?}"),
+            };
+            let [version, edition, chip, level, leaf] = reading;
+            let (chip, level) = (number(chip) as u16, number(level) as u8);
+            let leaf = bytes(&opened(leaf, &text, &FIRST_LEAVES));
+            let image = of_version(with_leaf(chip, &leaf), number(version) as u8);
+            let arguments = Arguments::at_level(chip, level).in_edition(is_first_edition(edition));
+            let mut walk = Autosense::default();
+            let load = (walk.load(&image, arguments), walk.clone());
+            let look = (walk.look(&[0, 0]), walk);
+            let found = [load, look].map(|(number, walk)| match walk.blocks() {
+                None => format!("{number} fresh"),
+                Some(_) => format!("{number} {}", stands(number, &walk)),
+            });
+            assert_eq!(found.join(", "), seen, "{case:?}");
+            cards += 1;
+        }
+    }
+    assert!(cards >= 13, "only {cards} cards");
+}
+
+/// The edition that a specification names.
+fn is_first_edition(name: &str) -> bool {
+    match name {
+        "firstEdition" => true,
+        "laterEdition" => false,
+        _ => panic!("{name}"),
     }
 }
+
+/// `CodesWorked` of crates/format: which of the four codes each edition reads for a chip, and what they are taken as.
+#[test]
+fn codes_are_read_as_second_reads_them() {
+    let text = text("format/specs/Claims.antt");
+    let (_, claim) = text.split_once("\nCodesWorked =\n").unwrap();
+    let (claim, _) = claim.split_once("\n\n").unwrap();
+    for equation in claim.lines() {
+        let (left, right) = equation
+            .split_once(" (firstCodes ++ laterCodes) ≡ ")
+            .unwrap();
+        let (_, asked) = left.split_once("(map ").unwrap();
+        let asked = asked.trim_matches(['(', ')']);
+        let found = CODES.map(|code| match asked.split(' ').collect::<Vec<_>>()[..] {
+            ["takenAs"] => format!("{:#06x}", taken_as(code)),
+            ["isRead", edition, row] => {
+                let chip = row.strip_prefix("row").unwrap().parse().unwrap();
+                let rules = Rules {
+                    chip,
+                    version: FIRST_VERSION,
+                    first_edition: is_first_edition(edition),
+                };
+                rules.permit(code).to_string()
+            }
+            _ => panic!("{equation}"),
+        });
+        assert_eq!(right, format!("{} ∷ [])", found.join(" ∷ ")), "{asked}");
+    }
+    assert_eq!(claim.lines().count(), 5);
+}
+
+/// A list of cases over leaves, blocks, walks, cards and sheets that the checker computes is read here, in tests/worked_wide.rs or
+/// beside what it is about in the second implementation: one that nobody names fails.
+#[test]
+fn every_list_is_named() {
+    let crates = Path::new(env!("CARGO_MANIFEST_DIR")).join("../../crates");
+    let mut found = BTreeSet::new();
+    for folder in [
+        "format",
+        "leaf",
+        "walk",
+        "magic",
+        "worked",
+        "worked_large",
+        "worked_wide",
+        "worked_first",
+    ] {
+        for file in fs::read_dir(crates.join(folder).join("specs")).unwrap() {
+            let code = fs::read_to_string(file.unwrap().path()).unwrap();
+            let names = code
+                .lines()
+                .filter_map(|line| line.strip_prefix("unfoldable pub "));
+            let lists = names.filter_map(|line| line.split_once(" : List "));
+            let lists = lists.filter(|(_, of)| ["Case", "Card"].iter().any(|it| of.ends_with(it)));
+            let lists = lists.filter(|(_, of)| !of.contains(' '));
+            found.extend(lists.map(|(name, _)| name.to_owned()));
+        }
+    }
+    let leaves = LEAF_LISTS.map(|(list, _)| list);
+    let read = [&leaves[..], &specification::EDITION_LISTS, &OTHER_LISTS].concat();
+    let read: BTreeSet<_> = read.into_iter().map(str::to_owned).collect();
+    assert_eq!(found, read);
+}
+
+/// The other lists, which tests of their own read; but for the Magic Packet block before cases a and j and for the walk with a power
+/// block, of which only the leaves are read.
+const OTHER_LISTS: [&str; 15] = [
+    "blockCases",
+    "startsCases",
+    "lookCases",
+    "fixedCases",
+    "magicCases",
+    "imageCases",
+    "magicImageCases",
+    "powerImageCases",
+    "fixedImageCases",
+    "orderCases",
+    "sheetCases",
+    "plainCards",
+    "magicCards",
+    "twentyOneCards",
+    "longestCards",
+];
 
 /// Kinds and offsets, as two lists.
 fn tables(entries: &[(u16, u16)]) -> [String; 2] {

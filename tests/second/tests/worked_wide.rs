@@ -1,5 +1,6 @@
-//! What crates/worked_wide computes with is the second implementation's: each equation of its
-//! specs/Claims.antt is worked out here too, with the sheets of specs/Sheets.antt and of crates/worked.
+//! What crates/worked_wide and crates/worked_first compute with is the second implementation's: each
+//! equation of their specs/Claims.antt is worked out here too, with their sheets and those of
+//! crates/worked; but for the lists of cards, which tests/worked.rs reads.
 
 use second::images::Card;
 use second::layout::{LARGE, Layout, SMALL};
@@ -14,6 +15,8 @@ enum Value {
     List(Vec<Value>),
     Form(Form),
     Layout(Layout),
+    /// Whether it is 1.00.
+    Edition(bool),
     /// A function and its first arguments.
     Call(String, Vec<Value>),
     /// A parameter, and the words of a body.
@@ -53,6 +56,13 @@ impl Value {
         }
     }
 
+    fn edition(self) -> bool {
+        match self {
+            Self::Edition(is_first) => is_first,
+            other => panic!("{other:?} is no edition"),
+        }
+    }
+
     fn layout(self) -> Layout {
         match self {
             Self::Layout(layout) => layout,
@@ -78,9 +88,13 @@ fn words(text: &str) -> Vec<String> {
     spaced.split_whitespace().map(str::to_owned).collect()
 }
 
-/// What specs/Sheets.antt defines under a name: its parameters, and the words of its body.
+/// What the two crates define under a name: its parameters, and the words of its body.
 fn definition(name: &str) -> (Vec<String>, Vec<String>) {
-    let text = specification::text("worked_wide/specs/Sheets.antt");
+    let files = [
+        "worked_wide/specs/Sheets.antt",
+        "worked_first/specs/Cases.antt",
+    ];
+    let text = files.map(specification::text).join("\n\n");
     let start = format!("\n{name} ");
     let mut found = text.split(&start).skip(1);
     let found = found.find_map(|behind| {
@@ -151,16 +165,18 @@ impl Reader {
 
     fn product(&mut self) -> Value {
         let first = self.application();
-        match self.is_next("*") {
-            true => Number(first.number() * self.product().number()),
-            false => first,
+        for (word, with) in OPERATIONS {
+            if self.is_next(word) {
+                return Number(with(first.number(), self.product().number()));
+            }
         }
+        first
     }
 
     /// A function with as many arguments as follow.
     fn application(&mut self) -> Value {
         let mut value = self.atom();
-        while !["", ")", "∷", "++", "+", "*", "≡"].contains(&self.peek()) {
+        while !["", ")", "∷", "++", "+", "*", "/", "%", "≡"].contains(&self.peek()) {
             let argument = self.atom();
             value = apply(value, argument);
         }
@@ -210,6 +226,8 @@ fn named(word: &str) -> Value {
         "Wide" => Value::Form(Form::Wide),
         "withoutMagic" => Value::Layout(Layout::PLAIN),
         "withMagic" => Value::Layout(Layout::MAGIC),
+        "laterEdition" => Value::Edition(false),
+        "firstEdition" => Value::Edition(true),
         "smallSize" => Number(SMALL.into()),
         "largeSize" => Number(LARGE.into()),
         "allOnes" => List(vec![Number(1); SMALL.into()]),
@@ -221,14 +239,23 @@ fn named(word: &str) -> Value {
     }
 }
 
+/// What stands between the numbers of a product.
+type Operation = fn(usize, usize) -> usize;
+const OPERATIONS: [(&str, Operation); 3] = [
+    ("*", |one, other| one * other),
+    ("/", |one, other| one / other),
+    ("%", |one, other| one % other),
+];
+
 /// How many arguments a function takes.
 fn arity(name: &str) -> usize {
     match name {
-        "length" | "wordBytes" | "large" | "wholeCard" | "withExt" => 1,
+        "length" | "wordBytes" | "large" | "wholeCard" | "withExt" | "sheetUnder" => 1,
         "replicate" | "take" | "drop" | "over" | "map" | "wideLong" | "longestSheet" => 2,
+        "converted" => 2,
         "set" | "convertNumber" | "convertedIn" => 3,
-        "writeNumber" | "written" => 4,
-        "makeNumber" | "made" => 5,
+        "writeNumber" | "written" => 5,
+        "makeNumber" | "made" => 6,
         _ => panic!("{name} is not known"),
     }
 }
@@ -298,7 +325,7 @@ fn call(name: &str, arguments: Vec<Value>) -> Value {
             let block = &body[..body.len() - 2].join(" ");
             List(vec![Value::of_bytes(&bytes(block)).list(); next().number()].concat())
         }
-        "wideLong" => {
+        "wideLong" | "sheetUnder" => {
             let (parameters, body) = definition(name);
             let names = parameters.into_iter().map(|parameter| (parameter, next()));
             Reader::value(&body, names.collect())
@@ -316,18 +343,27 @@ fn call_of_sheets(name: &str, mut next: impl FnMut() -> Value) -> Value {
     let form = next().form();
     match name {
         "writeNumber" | "written" => {
-            let (layout, sheet, mut image) = (next().layout(), next().bytes(), next().bytes());
-            let number = sheet::write(&sheet, form, layout, &mut image);
+            let (layout, edition) = (next().layout(), next().edition());
+            let (sheet, mut image) = (next().bytes(), next().bytes());
+            let number = sheet::write(&sheet, form, layout, edition, &mut image);
             match name {
                 "written" => Value::of_bytes(&image),
                 _ => Number(number.into()),
             }
         }
         "makeNumber" | "made" => {
-            let (layout, image, chip) = (next().layout(), next().bytes(), next().number());
+            let (layout, edition) = (next().layout(), next().edition());
+            let (image, chip) = (next().bytes(), next().number());
             lay_sheet(next(), |buffer| {
-                sheet::make(&image, chip as u16, form, layout, buffer)
+                sheet::make(&image, chip as u16, form, layout, edition, buffer)
             })
+        }
+        "converted" => {
+            let sheet = next().bytes();
+            let mut buffer = vec![0; sheet.len() + 2];
+            let made = sheet::convert(&sheet, form, &mut buffer);
+            assert_eq!(made.number, 0);
+            Value::of_bytes(&buffer[..made.length])
         }
         _ => {
             let sheet = next().bytes();
@@ -348,27 +384,56 @@ fn lay_sheet(buffer: Value, lay: impl FnOnce(&mut [u8]) -> sheet::Made) -> Value
     }
 }
 
-#[test]
-fn claims_are_as_second_works_them_out() {
-    let claims = specification::text("worked_wide/specs/Claims.antt");
+/// The two sides of each equation of a file of claims, as words.
+fn equations(file: &str) -> Vec<[Vec<String>; 2]> {
+    let claims = specification::text(file);
     let code = claims.lines().filter(|line| !line.starts_with("--"));
     let code: Vec<_> = code.collect();
     let code = code.join("\n");
-    let mut equations = 0;
+    let mut equations = Vec::new();
     for claim in code.split("abbrev pub ").skip(1) {
-        let (_, body) = claim.split_once(" =\n").unwrap();
+        let (_, body) = claim.split_once(" =").unwrap();
+        let is_one = !body.contains('×');
         for equation in body.split('×') {
             let words = words(equation);
-            let [open, inner @ .., close] = words.as_slice() else {
-                panic!("{equation}");
+            let inner = match words.as_slice() {
+                all if is_one => all,
+                [open, inner @ .., close] if open == "(" && close == ")" => inner,
+                _ => panic!("{equation}"),
             };
-            assert_eq!((open.as_str(), close.as_str()), ("(", ")"), "{equation}");
-            let middle = inner.iter().position(|word| word == "≡").unwrap();
-            let left = Reader::value(&inner[..middle], vec![]);
-            let right = Reader::value(&inner[middle + 1..], vec![]);
-            assert_eq!(left, right, "{equation}");
-            equations += 1;
+            let mut sides = inner.split(|word| word == "≡").map(<[String]>::to_vec);
+            let [left, right] = [(); 2].map(|()| sides.next().unwrap());
+            assert_eq!(sides.next(), None, "{equation}");
+            equations.push([left, right]);
         }
     }
-    assert!(equations >= 24, "only {equations} equations were found");
+    equations
+}
+
+fn holds([left, right]: &[Vec<String>; 2]) {
+    let sides = [left, right].map(|side| Reader::value(side, vec![]));
+    assert_eq!(sides[0], sides[1], "{left:?} {right:?}");
+}
+
+#[test]
+fn claims_are_as_second_works_them_out() {
+    let equations = equations("worked_wide/specs/Claims.antt");
+    assert!(equations.len() >= 24, "only {}", equations.len());
+    equations.iter().for_each(holds);
+}
+
+/// Document 02, request 12. What is claimed of a list of cards must be of one that tests/worked.rs reads.
+#[test]
+fn claims_of_version_1_are_as_second_works_them_out() {
+    let equations = equations("worked_first/specs/Claims.antt");
+    let (of_cards, of_sheets): (Vec<_>, Vec<_>) = equations
+        .into_iter()
+        .partition(|[left, _]| left[..2] == ["map", "inItsEdition"]);
+    let lists: Vec<_> = of_cards.iter().map(|[left, _]| left[2].as_str()).collect();
+    assert_eq!(lists, specification::EDITION_LISTS);
+    for [left, right] in &of_cards {
+        assert_eq!(left[2..], right[..]);
+    }
+    assert!(of_sheets.len() >= 7, "only {}", of_sheets.len());
+    of_sheets.iter().for_each(holds);
 }

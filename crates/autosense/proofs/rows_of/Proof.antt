@@ -11,11 +11,14 @@ use Rattle.autosense.proofs.rows_of.Statement.{statement}
 use Rattle.autosense.proofs.rows_of.Tie as tie
 
 abbrev Inv-loop : tie.InvT-loop
-Inv-loop blocks count row level connection listed₀ active-invalid₀ fixed₀ rest₀ k₀ listed active-invalid fixed rest k =
+Inv-loop blocks count row level connection taken listed₀ active-invalid₀ fixed₀ rest₀ k₀ listed active-invalid fixed rest k =
     Filled connection row level (cut row count blocks) (cut row (count - k) rest) k listed active-invalid fixed × (k ≤ count)
 
 abbrev μ-loop : tie.MeasureT-loop
-μ-loop blocks count row level connection listed₀ active-invalid₀ fixed₀ rest₀ k₀ listed active-invalid fixed rest k = count - k
+μ-loop blocks count row level connection taken listed₀ active-invalid₀ fixed₀ rest₀ k₀ listed active-invalid fixed rest k = count - k
+
+taken-as-requires : tie.Need-taken-as-requires Inv-loop μ-loop
+taken-as-requires c κs = search needs
 
 no-flags-requires : tie.Need-no-flags-requires Inv-loop μ-loop
 no-flags-requires c κs = search needs
@@ -28,7 +31,7 @@ no-flags-requires-3 c κs = search needs
 
 loop-holds : tie.Need-loop-holds Inv-loop μ-loop
 loop-holds c = (
-  rows-start _ _ _ _ _ (c .before .before .before .before .pre) (c .before .before .no-flags .ensures)
+  rows-start _ _ _ _ _ (c .before .before .before .before .before .pre) (c .before .before .no-flags .ensures)
       (c .before .no-flags2 .ensures) (c .no-flags3 .ensures),
   search needs,
 )
@@ -84,16 +87,17 @@ loop-less c = search needs
 loop-again : tie.Need-loop-again Inv-loop μ-loop
 loop-again c =
     let flags = c .before .before in
-    let block = flags .before .before .before in (
-      rows-more _ _ _ _ _ (block .before .before .loop .inv .0) (block .before .loop-test .taken) (block .judge-block .ensures)
+    let block = flags .before .before .before in
+    let loop = block .before .before in (
+      rows-more _ _ _ _ _ (loop .loop .inv .0) (block .before .loop-test .taken) (block .judge-block .ensures)
           (flags .before .before .listed-flag .ensures) (flags .before .invalid-flag .ensures)
-          (flags .fixed-flag .ensures) (c .before .size-of .ensures),
+          (loop .before .before .before .before .taken-as .ensures) (flags .fixed-flag .ensures) (c .before .size-of .ensures),
       search needs,
     )
 
 returns : tie.Need-returns Inv-loop μ-loop
 returns c =
-    let entry = c .before .before .before .before .before .before in
+    let entry = c .before .before .before .before .before .before .before in
     rows-done _ _ _ _ _ (c .before .loop .inv .0) (entry .args .blocks .now) refl (omega arith) (c .loop-test .left)
 
 pub rows-of-spec : {M : Type 1} → statement M
@@ -102,6 +106,7 @@ rows-of-spec =
     (tie.spec
     Inv-loop
     μ-loop
+    taken-as-requires
     no-flags-requires
     no-flags-requires-2
     no-flags-requires-3

@@ -8,7 +8,7 @@ abbrev Inv-loop : tie.InvT-loop
 Inv-loop number₀ number = Unit
 
 abbrev μ-loop : tie.MeasureT-loop
-μ-loop number₀ number = 34 - number
+μ-loop number₀ number = 39 - number
 
 loop-holds : tie.Need-loop-holds Inv-loop μ-loop
 loop-holds c = search needs

@@ -6,7 +6,7 @@ use Rattle.header.proofs.Headers.{too-early, too-late, in-bounds}
 use native.Mathlib.Omega.{arith}
 use mathlib.Core.Path.{ap, sym, _∙_}
 use mathlib.Core.Bool.{not}
-use Rattle.format.specs.Chips.{isConnection}
+use Rattle.format.specs.Chips.{isRead}
 use borrow.Author.Needs.{needs}
 use Rattle.header.proofs.leaf_refusal.Statement.{statement}
 use Rattle.header.proofs.leaf_refusal.Tie as tie
@@ -38,8 +38,8 @@ returns-2 c =
 word-at-requires : tie.Need-word-at-requires
 word-at-requires c κs = search needs
 
-is-connection-requires : tie.Need-is-connection-requires
-is-connection-requires c κs = search needs
+is-read-requires : tie.Need-is-read-requires
+is-read-requires c κs = search needs
 
 returns-3 : tie.Need-returns-3
 unfolding leafHeaderCauses blocksAt
@@ -48,7 +48,7 @@ returns-3 c =
     reached
     (skip (in-bounds (leavesEnd (a .layout)) (a .leaf) (reservedAt (a .image .now)) (a .row) (omega arith) (omega arith))
     (stop (ap not
-    (sym (c .before .is-connection .ensures ∙ ap (isConnection (a .row)) (c .before .before .word-at .ensures))) ∙ c .if3 .taken)))
+    (sym (c .before .is-read .ensures ∙ ap (isRead (a .first-edition) (a .row)) (c .before .before .word-at .ensures))) ∙ c .if3 .taken)))
 
 returns-4 : tie.Need-returns-4
 unfolding leafHeaderCauses blocksAt
@@ -57,7 +57,8 @@ returns-4 c =
     reached
     (skip (in-bounds (leavesEnd (a .layout)) (a .leaf) (reservedAt (a .image .now)) (a .row) (omega arith) (omega arith))
     (skip (ap not
-    (sym (c .before .is-connection .ensures ∙ ap (isConnection (a .row)) (c .before .before .word-at .ensures))) ∙ c .if3 .left) end))
+    (sym (c .before .is-read .ensures ∙ ap (isRead (a .first-edition) (a .row)) (c .before .before .word-at .ensures)))
+    ∙ c .if3 .left) end))
 
 pub leaf-refusal-spec : {M : Type 1} → statement M
 leaf-refusal-spec =
@@ -70,6 +71,6 @@ leaf-refusal-spec =
     add-if2
     returns-2
     word-at-requires
-    is-connection-requires
+    is-read-requires
     returns-3
     returns-4)

@@ -1,9 +1,7 @@
 -- The first refusal of the image, of the arguments or of the leaf, or the header. Assumes nothing.
-use Prim.Native.Nat.{ℕ}
-use mathlib.Core.Path.{sym, ap₂, _∙_}
-use Rattle.rom.specs.Refusal.{firstMet}
-use Rattle.header.specs.Image.{leafAt, leafHeaderCauses}
-use Rattle.header.proofs.Headers.{by-image, by-arguments, by-leaf, header-found}
+use mathlib.Core.Path.{sym, _∙_}
+use Rattle.header.specs.Image.{leafAt}
+use Rattle.header.proofs.Headers.{by-image, by-arguments, by-leaf, leaf-met, header-found}
 use native.Mathlib.Omega.{arith}
 use borrow.Author.Needs.{needs}
 use Rattle.header.proofs.read_header.Statement.{statement}
@@ -42,20 +40,23 @@ row-of-requires c κs = search needs
 cast-controller : tie.Need-cast-controller
 cast-controller c = search needs
 
-mul-t12 : tie.Need-mul-t12
-mul-t12 c = search needs
-
-add-t13 : tie.Need-add-t13
-add-t13 c = search needs
+mul-t13 : tie.Need-mul-t13
+mul-t13 c = search needs
 
 add-t14 : tie.Need-add-t14
 add-t14 c = search needs
+
+add-t15 : tie.Need-add-t15
+add-t15 c = search needs
 
 word-at-requires : tie.Need-word-at-requires
 word-at-requires c κs = search needs
 
 cast-leaf : tie.Need-cast-leaf
 cast-leaf c = search needs
+
+is-first-edition-requires : tie.Need-is-first-edition-requires
+is-first-edition-requires c κs = search needs
 
 leaf-refusal-requires : tie.Need-leaf-refusal-requires
 leaf-refusal-requires c κs = search needs
@@ -66,7 +67,8 @@ refused-requires-3 c κs = search needs
 returns-3 : tie.Need-returns-3
 unfolding leafAt
 returns-3 c =
-    let word-at = c .before .before .before in
+    let edition = c .before .before .before .is-first-edition in
+    let word-at = c .before .before .before .before in
     let row-of = word-at .before .before in
     let argument-refusal = row-of .before .before in
     let image-refusal = argument-refusal .before .before in
@@ -75,19 +77,19 @@ returns-3 c =
     c .refused3 .ensures
     ∙ by-leaf (a .image .now) (a .arguments) (sym (argument-refusal .before .if1 .left) ∙ image-refusal .image-refusal .ensures)
     (sym (row-of .before .if2 .left) ∙ argument-refusal .argument-refusal .ensures) _ (c .before .if3 .taken)
-    (c .before .before .leaf-refusal .ensures
-    ∙ ap₂ (λ (r l : ℕ). firstMet (leafHeaderCauses (a .arguments .layout) (a .image .now) r l)) (row-of .row-of .ensures)
-    (word-at .word-at .ensures))
+    (leaf-met (a .image .now) (a .arguments) (row-of .row-of .ensures) (word-at .word-at .ensures) (edition .ensures)
+    (c .before .before .leaf-refusal .ensures))
 
 header-at-requires : tie.Need-header-at-requires
 unfolding leafAt
 header-at-requires c κs =
-    (c .before .before .before .before .row-of .ensures, c .before .before .word-at .ensures, omega arith)
+    (c .before .before .before .before .before .row-of .ensures, c .before .before .before .word-at .ensures, omega arith)
 
 returns-4 : tie.Need-returns-4
 unfolding leafAt
 returns-4 c =
-    let word-at = c .before .before .before in
+    let edition = c .before .before .before .is-first-edition in
+    let word-at = c .before .before .before .before in
     let row-of = word-at .before .before in
     let argument-refusal = row-of .before .before in
     let image-refusal = argument-refusal .before .before in
@@ -96,9 +98,9 @@ returns-4 c =
     c .header-at .ensures
     ∙ header-found (a .image .now) (a .arguments) (sym (argument-refusal .before .if1 .left) ∙ image-refusal .image-refusal .ensures)
     (sym (row-of .before .if2 .left) ∙ argument-refusal .argument-refusal .ensures)
-    (sym (c .before .if3 .left) ∙ (c .before .before .leaf-refusal .ensures
-    ∙ ap₂ (λ (r l : ℕ). firstMet (leafHeaderCauses (a .arguments .layout) (a .image .now) r l)) (row-of .row-of .ensures)
-    (word-at .word-at .ensures)))
+    (sym (c .before .if3 .left)
+    ∙ (leaf-met (a .image .now) (a .arguments) (row-of .row-of .ensures) (word-at .word-at .ensures) (edition .ensures)
+    (c .before .before .leaf-refusal .ensures)))
 
 pub read-header-spec : {M : Type 1} → statement M
 read-header-spec =
@@ -112,11 +114,12 @@ read-header-spec =
     returns-2
     row-of-requires
     cast-controller
-    mul-t12
-    add-t13
+    mul-t13
     add-t14
+    add-t15
     word-at-requires
     cast-leaf
+    is-first-edition-requires
     leaf-refusal-requires
     refused-requires-3
     returns-3

@@ -10,22 +10,22 @@ use Rattle.leaf.proofs.judge.Statement.{statement}
 use Rattle.leaf.proofs.judge.Tie as tie
 
 abbrev Inv-loop : tie.InvT-loop
-Inv-loop blocks count row level rest₀ k₀ t₀ modes₀ repeated₀ rest k t modes repeated =
-    Counted row level (cut row count blocks) (cut row (count - k) rest) k t
+Inv-loop blocks count row level first-version rest₀ k₀ t₀ modes₀ repeated₀ rest k t modes repeated =
+    Counted first-version row level (cut row count blocks) (cut row (count - k) rest) k t
     × Modes row level (cut row count blocks) (cut row (count - k) rest) modes repeated
     × (k ≤ count)
 
 abbrev μ-loop : tie.MeasureT-loop
-μ-loop blocks count row level rest₀ k₀ t₀ modes₀ repeated₀ rest k t modes repeated = count - k
+μ-loop blocks count row level first-version rest₀ k₀ t₀ modes₀ repeated₀ rest k t modes repeated = count - k
 
 start-tally-requires : tie.Need-start-tally-requires Inv-loop μ-loop
 start-tally-requires c κs = search needs
 
 loop-holds : tie.Need-loop-holds Inv-loop μ-loop
-loop-holds c = (rw (c .start-tally .ensures, sub-zero) (counted-start _ _ _), rw sub-zero (modes-start _ _ _), search needs)
+loop-holds c = (rw (c .start-tally .ensures, sub-zero) (counted-start _ _ _ _), rw sub-zero (modes-start _ _ _), search needs)
 
-judge-block-requires : tie.Need-judge-block-requires Inv-loop μ-loop
-judge-block-requires c κs = search needs
+judge-in-requires : tie.Need-judge-in-requires Inv-loop μ-loop
+judge-in-requires c κs = search needs
 
 counted-requires : tie.Need-counted-requires Inv-loop μ-loop
 counted-requires c κs = search needs
@@ -33,7 +33,7 @@ counted-requires c κs = search needs
 returns : tie.Need-returns Inv-loop μ-loop
 returns c =
     let j = c .before .before .before in
-    judge-refused _ _ _ _ (j .before .before .loop .inv .0) (j .before .loop-test .taken) (j .judge-block .ensures)
+    judge-refused _ _ _ _ _ (j .before .before .loop .inv .0) (j .before .loop-test .taken) (j .judge-in .ensures)
     (c .before .before .counted .ensures) (c .if1 .taken)
 
 mode-of-requires : tie.Need-mode-of-requires Inv-loop μ-loop
@@ -45,7 +45,7 @@ size-of-requires c κs = search needs
 sub-rest : tie.Need-sub-rest Inv-loop μ-loop
 sub-rest c =
     let j = c .before .before .before .before .before in
-    judge-fits _ _ _ _ (j .before .before .loop .inv .0) (j .before .loop-test .taken) (j .judge-block .ensures)
+    judge-fits _ _ _ _ _ (j .before .before .loop .inv .0) (j .before .loop-test .taken) (j .judge-in .ensures)
     (c .before .before .before .before .counted .ensures) (c .before .before .if1 .left) (c .size-of .ensures)
 
 part-rest-start : tie.Need-part-rest-start Inv-loop μ-loop
@@ -65,10 +65,10 @@ loop-again c =
     let m = c .before .before in
     let j = m .before .before .before .before in
     let inv = j .before .before .loop .inv in (
-      judge-more _ _ _ _ (inv .0) (j .before .loop-test .taken) (j .judge-block .ensures)
+      judge-more _ _ _ _ _ (inv .0) (j .before .loop-test .taken) (j .judge-in .ensures)
           (m .before .before .before .counted .ensures) (m .before .if1 .left) (c .before .size-of .ensures)
           (j .before .before .before .before .before .fits .count .fits),
-      judge-modes _ _ _ _ (inv .0) (j .before .loop-test .taken) (j .judge-block .ensures) (m .before .before .before .counted .ensures)
+      judge-modes _ _ _ _ _ (inv .0) (j .before .loop-test .taken) (j .judge-in .ensures) (m .before .before .before .counted .ensures)
           (m .before .if1 .left) (c .before .size-of .ensures) (inv .1) (m .mode-of .ensures) (search needs),
       search needs,
     )
@@ -82,7 +82,7 @@ refused-tally-requires c κs = search needs
 returns-2 : tie.Need-returns-2 Inv-loop μ-loop
 returns-2 c =
     let l = c .before .before .before in
-    judge-18 _ _ _ _ (l .before .loop .inv .0) (l .loop-test .left) (c .before .before .clashes .ensures) (c .before .if2 .taken)
+    judge-18 _ _ _ _ _ (l .before .loop .inv .0) (l .loop-test .left) (c .before .before .clashes .ensures) (c .before .if2 .taken)
     (c .refused-tally .ensures)
 
 refused-tally-requires-2 : tie.Need-refused-tally-requires-2 Inv-loop μ-loop
@@ -91,13 +91,13 @@ refused-tally-requires-2 c κs = search needs
 returns-3 : tie.Need-returns-3 Inv-loop μ-loop
 returns-3 c =
     let l = c .before .before .before .before in
-    judge-31 _ _ _ _ (l .before .loop .inv .0) (l .loop-test .left) (c .before .before .before .clashes .ensures)
+    judge-31 _ _ _ _ _ (l .before .loop .inv .0) (l .loop-test .left) (c .before .before .before .clashes .ensures)
     (c .before .before .if2 .left) (l .before .loop .inv .1) (c .before .if3 .taken) (c .refused-tally2 .ensures)
 
 returns-4 : tie.Need-returns-4 Inv-loop μ-loop
 returns-4 c =
     let l = c .before .before .before in
-    judge-done _ _ _ _ (l .before .loop .inv .0) (l .loop-test .left) (c .before .before .clashes .ensures) (c .before .if2 .left)
+    judge-done _ _ _ _ _ (l .before .loop .inv .0) (l .loop-test .left) (c .before .before .clashes .ensures) (c .before .if2 .left)
     (l .before .loop .inv .1) (c .if3 .left)
 
 pub judge-spec : {M : Type 1} → statement M
@@ -108,7 +108,7 @@ judge-spec =
     μ-loop
     start-tally-requires
     loop-holds
-    judge-block-requires
+    judge-in-requires
     counted-requires
     returns
     mode-of-requires

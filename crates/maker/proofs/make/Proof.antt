@@ -5,7 +5,7 @@ use Rattle.rom.specs.Geometry.{largeSize}
 use mathlib.Core.Path.{refl, sym, _∙_}
 use borrow.Author.Tests.{not-true, not-false}
 use Rattle.rom.proofs.Layouts.{geometry}
-use Rattle.sheet.specs.Image.{newest}
+use Rattle.sheet.specs.Image.{newestIn}
 use Rattle.forms.proofs.Places.{shift-small}
 use Rattle.maker.proofs.Sheets.{read-blocks}
 use Rattle.maker.proofs.Making.{refused-done, make-other, make-refused, is-read, end-fits, make-untidy, make-short, make-room}
@@ -22,8 +22,8 @@ refused-requires c κs = search needs
 
 returns : tie.Need-returns
 returns c =
-    refused-done _ _ _ _ _ (c .refused .ensures) (λ e. omega arith)
-    (make-other _ _ _ _ _ (sym (c .before .before .is-beyond .ensures) ∙ c .before .if1 .taken))
+    refused-done _ _ _ _ _ _ (c .refused .ensures) (λ e. omega arith)
+    (make-other _ _ _ _ _ _ (sym (c .before .before .is-beyond .ensures) ∙ c .before .if1 .taken))
 
 assess-requires : tie.Need-assess-requires
 assess-requires c κs = search needs
@@ -32,11 +32,11 @@ refused-requires-2 : tie.Need-refused-requires-2
 refused-requires-2 c κs = search needs
 
 returns-2 : tie.Need-returns-2
-unfolding newest
+unfolding newestIn
 returns-2 c =
     let assess = c .before .before .before .before in
-    refused-done _ _ _ _ _ (c .refused2 .ensures) (c .before .if2 .taken)
-    (make-refused (assess .before .before .before .before .before .args .form) _
+    refused-done _ _ _ _ _ _ (c .refused2 .ensures) (c .before .if2 .taken)
+    (make-refused (assess .before .before .before .before .before .args .form) _ _
     (sym (assess .before .before .is-beyond .ensures) ∙ assess .before .if1 .left) _ _ _
     (assess .assess .ensures) _ (c .before .if2 .taken))
 
@@ -44,13 +44,13 @@ rest-from-requires : tie.Need-rest-from-requires
 rest-from-requires c κs = search needs
 
 measure-requires : tie.Need-measure-requires
-unfolding newest
+unfolding newestIn
 measure-requires c κs =
     let rest-from = c in
     let assess = rest-from .before .before .before .before in
     let form = assess .before .before .before .before .before .args .form in
     let served = sym (assess .before .before .is-beyond .ensures) ∙ assess .before .if1 .left in
-    read-blocks _ _ (is-read form _ served _ _ _ (assess .assess .ensures) (c .before .if2 .left)) _ (c .rest-from .ensures)
+    read-blocks _ _ _ (is-read form _ _ served _ _ _ (assess .assess .ensures) (c .before .if2 .left)) _ (c .rest-from .ensures)
 
 is-tidy-requires : tie.Need-is-tidy-requires
 is-tidy-requires c κs = search needs
@@ -59,7 +59,7 @@ refused-requires-3 : tie.Need-refused-requires-3
 refused-requires-3 c κs = search needs
 
 returns-3 : tie.Need-returns-3
-unfolding newest
+unfolding newestIn
 returns-3 c =
     let is-tidy = c .before .before in
     let measure = is-tidy .before in
@@ -67,8 +67,8 @@ returns-3 c =
     let assess = rest-from .before .before .before .before in
     let form = assess .before .before .before .before .before .args .form in
     let served = sym (assess .before .before .is-beyond .ensures) ∙ assess .before .if1 .left in
-    refused-done _ _ _ _ _ (c .refused3 .ensures) (λ e. omega arith)
-    (make-untidy form _ served _ _ _ (assess .assess .ensures) (rest-from .before .if2 .left) _ (rest-from .rest-from .ensures) _
+    refused-done _ _ _ _ _ _ (c .refused3 .ensures) (λ e. omega arith)
+    (make-untidy form _ _ served _ _ _ (assess .assess .ensures) (rest-from .before .if2 .left) _ (rest-from .rest-from .ensures) _
     (measure .measure .ensures .0) _ (is-tidy .is-tidy .ensures) (not-true _ (c .before .if3 .taken)))
 
 shift-of-requires : tie.Need-shift-of-requires
@@ -92,7 +92,7 @@ add-length c =
     let e = c .before .shift-of .ensures in search needs
 
 add-length-2 : tie.Need-add-length-2
-unfolding newest
+unfolding newestIn
 add-length-2 c =
     let small : c .before .before .before .before .before .measure .result .bodies ≤ largeSize
     = let is-tidy = c .before .before .before .before in
@@ -102,7 +102,7 @@ add-length-2 c =
     let a = assess .before .before .before .before .before .args in
     let served = sym (assess .before .before .is-beyond .ensures) ∙ assess .before .if1 .left in
     let g = geometry (a .layout) in
-    let h = end-fits (a .form) _ served _ _ _ (assess .assess .ensures) (rest-from .before .if2 .left) _ (rest-from .rest-from .ensures) _
+    let h = end-fits (a .form) _ _ served _ _ _ (assess .assess .ensures) (rest-from .before .if2 .left) _ (rest-from .rest-from .ensures) _
     (measure .measure .ensures .0) (measure .measure .ensures .1 .0) in
     omega (arith, measure .measure .ensures .1 .1) in
     let short : c .before .before .shift-of .result ≤ 2
@@ -115,7 +115,7 @@ refused-requires-4 : tie.Need-refused-requires-4
 refused-requires-4 c κs = search needs
 
 returns-4 : tie.Need-returns-4
-unfolding newest
+unfolding newestIn
 returns-4 c =
     let shift-of = c .before .before .before .before in
     let is-tidy = shift-of .before .before in
@@ -124,13 +124,13 @@ returns-4 c =
     let assess = rest-from .before .before .before .before in
     let form = assess .before .before .before .before .before .args .form in
     let served = sym (assess .before .before .is-beyond .ensures) ∙ assess .before .if1 .left in
-    refused-done _ _ _ _ _ (c .refused4 .ensures) (λ e. omega arith)
-    (make-short form _ served _ _ _ (assess .assess .ensures) (rest-from .before .if2 .left) _ (rest-from .rest-from .ensures) _
+    refused-done _ _ _ _ _ _ (c .refused4 .ensures) (λ e. omega arith)
+    (make-short form _ _ served _ _ _ (assess .assess .ensures) (rest-from .before .if2 .left) _ (rest-from .rest-from .ensures) _
     (measure .measure .ensures .0) _ (is-tidy .is-tidy .ensures) (not-false _ (shift-of .before .if3 .left)) (shift-of .shift-of .ensures)
     (c .before .if4 .taken))
 
 cast-put-sheet : tie.Need-cast-put-sheet
-unfolding newest
+unfolding newestIn
 cast-put-sheet c =
     let is-tidy = c .before .before .before .before .before .before .before in
     let measure = is-tidy .before in
@@ -139,12 +139,12 @@ cast-put-sheet c =
     let form = assess .before .before .before .before .before .args .form in
     let served = sym (assess .before .before .is-beyond .ensures) ∙ assess .before .if1 .left in
     let g = geometry (assess .before .before .before .before .before .args .layout) in
-    let h = end-fits form _ served _ _ _ (assess .assess .ensures) (rest-from .before .if2 .left) _ (rest-from .rest-from .ensures) _
+    let h = end-fits form _ _ served _ _ _ (assess .assess .ensures) (rest-from .before .if2 .left) _ (rest-from .rest-from .ensures) _
     (measure .measure .ensures .0) (measure .measure .ensures .1 .0) in
     omega (arith, measure .measure .ensures .1 .1)
 
 put-sheet-requires : tie.Need-put-sheet-requires
-unfolding newest
+unfolding newestIn
 put-sheet-requires c κs =
     let shift-of = c .before .before .before .before .before in
     let is-tidy = shift-of .before .before in
@@ -153,7 +153,7 @@ put-sheet-requires c κs =
     let assess = rest-from .before .before .before .before in
     let form = assess .before .before .before .before .before .args .form in
     let served = sym (assess .before .before .is-beyond .ensures) ∙ assess .before .if1 .left in
-    make-room form _ served _ _ _ (assess .assess .ensures) (rest-from .before .if2 .left) _ (rest-from .rest-from .ensures) _
+    make-room form _ _ served _ _ _ (assess .assess .ensures) (rest-from .before .if2 .left) _ (rest-from .rest-from .ensures) _
     (measure .measure .ensures .0) _ (is-tidy .is-tidy .ensures) (not-false _ (shift-of .before .if3 .left)) (shift-of .shift-of .ensures)
     (c .before .before .if4 .left) _ refl (measure .measure .ensures .1 .0) (measure .measure .ensures .1 .1)
 
@@ -161,7 +161,7 @@ same-length : tie.Need-same-length
 same-length c = search needs
 
 returns-5 : tie.Need-returns-5
-unfolding newest
+unfolding newestIn
 returns-5 c =
     let shift-of = c .before .before .before .before .before .before .before .before in
     let is-tidy = shift-of .before .before in
@@ -170,7 +170,7 @@ returns-5 c =
     let assess = rest-from .before .before .before .before in
     let form = assess .before .before .before .before .before .args .form in
     let served = sym (assess .before .before .is-beyond .ensures) ∙ assess .before .if1 .left in
-    make-done form _ served _ _ _ (assess .assess .ensures) (rest-from .before .if2 .left) _ (rest-from .rest-from .ensures) _
+    make-done form _ _ served _ _ _ (assess .assess .ensures) (rest-from .before .if2 .left) _ (rest-from .rest-from .ensures) _
     (measure .measure .ensures .0) _ (is-tidy .is-tidy .ensures) (not-false _ (shift-of .before .if3 .left)) (shift-of .shift-of .ensures)
     (c .before .before .before .before .before .if4 .left) _ refl (c .before .before .put-sheet .ensures)
 

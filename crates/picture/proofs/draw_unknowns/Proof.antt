@@ -22,8 +22,8 @@ loop-holds c = search needs
 block-place-requires : tie.Need-block-place-requires Inv-loop μ-loop
 block-place-requires c κs = search needs
 
-is-known-requires : tie.Need-is-known-requires Inv-loop μ-loop
-is-known-requires c κs = search needs
+is-stepped-over-requires : tie.Need-is-stepped-over-requires Inv-loop μ-loop
+is-stepped-over-requires c κs = search needs
 
 mul-draw-unknown : tie.Need-mul-draw-unknown Inv-loop μ-loop
 mul-draw-unknown c = search needs
@@ -59,7 +59,7 @@ draw-unknowns-spec =
     cast-first
     loop-holds
     block-place-requires
-    is-known-requires
+    is-stepped-over-requires
     mul-draw-unknown
     add-draw-unknown
     draw-unknown-requires

@@ -53,6 +53,9 @@ returns-3 c =
 rest-from-requires : tie.Need-rest-from-requires
 rest-from-requires c κs = search needs
 
+is-first-version-requires : tie.Need-is-first-version-requires
+is-first-version-requires c κs = search needs
+
 judge-requires : tie.Need-judge-requires
 judge-requires c κs = search needs
 
@@ -61,7 +64,7 @@ refused-requires-4 c κs = search needs
 
 returns-4 : tie.Need-returns-4
 returns-4 c =
-    let rest-from = c .before .before .before in
+    let rest-from = c .before .before .before .before in
     let read-header = rest-from .before .before .before .before in
     let start = read-header .before .before in
     let a = start .args in
@@ -69,7 +72,8 @@ returns-4 c =
     c .refused4 .ensures
     ∙ assess-leaf (a .image .now) (a .arguments) (a .kinds) (a .offsets) (h .result) (h .ensures)
     (rest-from .before .before .before .if1 .left) (rest-from .before .before .if2 .left)
-    (rest-from .before .if3 .left) _ (rest-from .rest-from .ensures) (c .before .before .judge .result) (c .before .before .judge .ensures)
+    (rest-from .before .if3 .left) _ (rest-from .rest-from .ensures)
+    (c .before .before .before .is-first-version .ensures) (c .before .before .judge .result) (c .before .before .judge .ensures)
     (c .before .if4 .taken)
 
 answer-of-requires : tie.Need-answer-of-requires
@@ -77,14 +81,15 @@ answer-of-requires c κs = search needs
 
 returns-5 : tie.Need-returns-5
 returns-5 c =
-    let rest-from = c .before .before .before in
+    let rest-from = c .before .before .before .before in
     let read-header = rest-from .before .before .before .before in
     let start = read-header .before .before in
     let a = start .args in
     let h = read-header .read-header in
     assess-done (a .image .now) (a .arguments) (a .kinds) (a .offsets) (h .result) (h .ensures)
     (rest-from .before .before .before .if1 .left) (rest-from .before .before .if2 .left)
-    (rest-from .before .if3 .left) _ (rest-from .rest-from .ensures) (c .before .before .judge .result) (c .before .before .judge .ensures)
+    (rest-from .before .if3 .left) _ (rest-from .rest-from .ensures)
+    (c .before .before .before .is-first-version .ensures) (c .before .before .judge .result) (c .before .before .judge .ensures)
     (c .before .if4 .left) (c .answer-of .result) (c .answer-of .ensures)
 
 pub assess-for-spec : {M : Type 1} → statement M
@@ -101,6 +106,7 @@ assess-for-spec =
     refused-requires-3
     returns-3
     rest-from-requires
+    is-first-version-requires
     judge-requires
     refused-requires-4
     returns-4

@@ -10,8 +10,11 @@ row-of-requires c κs = search needs
 rest-from-requires : tie.Need-rest-from-requires
 rest-from-requires c κs = search needs
 
-judge-block-requires : tie.Need-judge-block-requires
-judge-block-requires c κs = search needs
+is-first-version-requires : tie.Need-is-first-version-requires
+is-first-version-requires c κs = search needs
+
+judge-in-requires : tie.Need-judge-in-requires
+judge-in-requires c κs = search needs
 
 returns : tie.Need-returns
 unfolding blockFrom
@@ -19,4 +22,4 @@ returns c = cc
 
 pub block-at-spec : {M : Type 1} → statement M
 block-at-spec =
-    tie.close (tie.spec row-of-requires rest-from-requires judge-block-requires returns)
+    tie.close (tie.spec row-of-requires rest-from-requires is-first-version-requires judge-in-requires returns)

@@ -21,8 +21,8 @@ returns c =
     let a = c .before .before .before .before .before .before .before .args in
     let e = c .before .before .before .before .form-of .ensures in
     let r = c .before .before .make .ensures in (
-      r .0 ∙ ap (λ (f : Form). madeFor f (a .layout) (a .image .now) (a .chip) (length (a .buffer .now))) e,
-      r .1 ∙ ap (λ (f : Form). made f (a .layout) (a .image .now) (a .chip) (a .buffer .now)) e,
+      r .0 ∙ ap (λ (f : Form). madeFor f (a .layout) (a .first-edition) (a .image .now) (a .chip) (length (a .buffer .now))) e,
+      r .1 ∙ ap (λ (f : Form). made f (a .layout) (a .first-edition) (a .image .now) (a .chip) (a .buffer .now)) e,
     )
 
 pub srom-make-sheet-spec : {M : Type 1} → statement M

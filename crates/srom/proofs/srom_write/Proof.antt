@@ -20,8 +20,8 @@ returns c =
     let a = c .before .before .before .before .before .before .before .args in
     let e = c .before .before .before .before .form-of .ensures in
     let r = c .before .before .write .ensures in (
-      r .0 ∙ ap (λ (f : Form). writeNumber f (a .layout) (a .sheet .now) (a .image .now)) e,
-      r .1 ∙ ap (λ (f : Form). written f (a .layout) (a .sheet .now) (a .image .now)) e,
+      r .0 ∙ ap (λ (f : Form). writeNumber f (a .layout) (a .first-edition) (a .sheet .now) (a .image .now)) e,
+      r .1 ∙ ap (λ (f : Form). written f (a .layout) (a .first-edition) (a .sheet .now) (a .image .now)) e,
     )
 
 pub srom-write-spec : {M : Type 1} → statement M

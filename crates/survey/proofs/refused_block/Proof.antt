@@ -17,19 +17,23 @@ returns c =
 rest-from-requires : tie.Need-rest-from-requires
 rest-from-requires c κs = search needs
 
+is-first-version-requires : tie.Need-is-first-version-requires
+is-first-version-requires c κs = search needs
+
 first-refused-requires : tie.Need-first-refused-requires
 first-refused-requires c κs = search needs
 
 returns-2 : tie.Need-returns-2
 returns-2 c =
-    let read-header = c .before .before .before .before in
+    let read-header = c .before .before .before .before .before in
     let start = read-header .before .before in
     let a = start .args in
     let h = read-header .read-header in
-    c .first-refused .ensures ∙ leaf-refused (a .image .now) (a .arguments) (h .result) (h .ensures) (c .before .before .if1 .left) _
-    (c .before .rest-from .ensures)
+    c .first-refused .ensures
+    ∙ leaf-refused (a .image .now) (a .arguments) (h .result) (h .ensures) (c .before .before .before .if1 .left) _
+    (c .before .before .rest-from .ensures) (c .before .is-first-version .ensures)
 
 pub refused-block-spec : {M : Type 1} → statement M
 refused-block-spec =
     tie.close
-    (tie.spec read-header-requires returns rest-from-requires first-refused-requires returns-2)
+    (tie.spec read-header-requires returns rest-from-requires is-first-version-requires first-refused-requires returns-2)

@@ -2,7 +2,7 @@
 use mathlib.Core.Path.{sym, ap, _∙_}
 use lib.ListN.{length}
 use Rattle.sheet.specs.Sheet.{plainFrom}
-use Rattle.sheet.specs.Image.{newest}
+use Rattle.sheet.specs.Image.{newestIn}
 use Rattle.writer.proofs.Images.{zeros-length, output-length}
 use Rattle.writer.proofs.Numbers.{issue-refused, issue-copied}
 use borrow.Author.Needs.{needs}
@@ -25,12 +25,13 @@ same-length-2 : tie.Need-same-length-2
 same-length-2 c = search needs
 
 returns : tie.Need-returns
-unfolding newest plainFrom
+unfolding newestIn plainFrom
 returns c =
     let word-at = c .before .before .before in
     let build = word-at .before .before .before in
     let start = build .before .before .before .before .before .before in
-    issue-refused (start .args .layout) (plainFrom (start .args .blocks) (start .args .shifted .now)) (start .args .image .now)
+    let a = start .args in
+    issue-refused (a .layout) (a .first-edition) (plainFrom (a .blocks) (a .shifted .now)) (a .image .now)
     (build .build .ensures) (word-at .word-at .ensures) (c .before .judge .ensures) (c .if1 .taken)
 
 put-bytes-requires : tie.Need-put-bytes-requires
@@ -43,7 +44,7 @@ same-length-4 : tie.Need-same-length-4
 same-length-4 c = search needs
 
 returns-2 : tie.Need-returns-2
-unfolding newest plainFrom
+unfolding newestIn plainFrom
 returns-2 c =
     let judge = c .before .before .before .before .before .before in
     let word-at = judge .before .before in
@@ -52,7 +53,7 @@ returns-2 c =
     let a = start .args in
     let long = word-at .before .before .built .given ∙ ap length (start .pre .1) ∙ zeros-length _
     ∙ sym (output-length (a .layout) (a .blocks) (a .shifted .now) (a .image .now) (start .pre .0)) in
-    issue-copied (a .layout) (plainFrom (a .blocks) (a .shifted .now)) (a .image .now)
+    issue-copied (a .layout) (a .first-edition) (plainFrom (a .blocks) (a .shifted .now)) (a .image .now)
     (build .build .ensures) (word-at .word-at .ensures) (judge .judge .ensures) (c .before .before .before .before .before .if1 .left) long
     (c .before .before .put-bytes .ensures)
 

@@ -27,7 +27,7 @@ is-sheet-requires c κs = search needs
 
 returns : tie.Need-returns
 returns c =
-    kept _ _ _ _ 24 (write-24 _ _ _ _ (sym (c .before .is-sheet .ensures) ∙ not-true _ (c .if1 .taken))) (omega arith)
+    kept _ _ _ _ _ 24 (write-24 _ _ _ _ _ (sym (c .before .is-sheet .ensures) ∙ not-true _ (c .if1 .taken))) (omega arith)
 
 count-in-requires : tie.Need-count-in-requires
 count-in-requires c κs = search needs
@@ -37,8 +37,8 @@ returns-2 c =
     let count-in = c .before .count-in in
     let is-sheet = c .before .before .before in
     let a = is-sheet .before .before .before .args in
-    kept _ _ _ _ 33
-    (write-33 (a .form) (a .layout) (a .sheet .now) (a .image .now)
+    kept _ _ _ _ _ 33
+    (write-33 (a .form) (a .layout) (a .first-edition) (a .sheet .now) (a .image .now)
     (sym (is-sheet .is-sheet .ensures) ∙ not-false _ (c .before .before .if1 .left))
     (many (a .form) (a .sheet .now) _ (count-in .ensures .0) (count-in .ensures .1) (c .if2 .taken))) (omega arith)
 
@@ -50,8 +50,8 @@ returns-3 c =
     let count-in = c .before .before .before in
     let is-sheet = count-in .before .before in
     let a = is-sheet .before .before .before .args in
-    kept _ _ _ _ 1
-    (write-1 (a .form) (a .layout) (a .sheet .now) (a .image .now)
+    kept _ _ _ _ _ 1
+    (write-1 (a .form) (a .layout) (a .first-edition) (a .sheet .now) (a .image .now)
     (sym (is-sheet .is-sheet .ensures) ∙ not-false _ (count-in .before .if1 .left))
     (few (a .form) (a .sheet .now) _ (count-in .count-in .ensures .0) (c .before .before .if2 .left))
     (sym (c .before .is-wrong-output .ensures) ∙ c .if3 .taken)) (omega arith)
@@ -95,7 +95,7 @@ record-refusal-requires : tie.Need-record-refusal-requires
 record-refusal-requires c κs = passed-counted (past c)
 
 returns-4 : tie.Need-returns-4
-returns-4 c = write-record (past (c .before .before)) _ (c .before .record-refusal .ensures) (c .if4 .taken)
+returns-4 c = write-record (past (c .before .before)) _ _ (c .before .record-refusal .ensures) (c .if4 .taken)
 
 blank-requires : tie.Need-blank-requires
 blank-requires c κs = search needs
@@ -124,7 +124,7 @@ returns-5 : tie.Need-returns-5
 returns-5 c =
     let issue = c .before .before .before in
     let record-refusal = issue .before .before .before .before .before in
-    write-issued (past (record-refusal .before))
+    write-issued (past (record-refusal .before)) _
     (sym (record-refusal .record-refusal .ensures) ∙ issue .before .before .before .before .if4 .left)
     (issue .issue .ensures .0) (issue .issue .ensures .1)
 

@@ -1,20 +1,23 @@
-//! Writes 450 records, each an image and the arguments to read it with, to one file, and to another
+//! Writes 520 records, each an image and the arguments to read it with, to one file, and to another
 //! what reading each must answer: `image_vectors INPUT OUTPUT`.
 //!
 //! A record has the image's length (a word, low byte first), the chip (a word), the controller, the
-//! level, the stated size (a word), the layout (1 with a Magic Packet block, 0 without), the image.
+//! level, the stated size (a word), the layout (1 with a Magic Packet block, 0 without), the edition (1
+//! for 1.00, 0 for 1.01), the image.
 
 use second::cases::cases;
-use second::images::{Image, Sample, damages};
+use second::edition::{CODES, EDITIONS, FIRST_CHIPS, VERSIONS};
+use second::images::{Card, Image, Sample, damages};
 use second::layout::LAYOUTS;
 use second::random::Random;
 use second::reader::{Arguments, read_all, view};
 use std::{env, fs, io, process};
 
-const RECORD_COUNT: usize = 450;
+const RECORD_COUNT: usize = 520;
 const MISSIZED_COUNT: usize = 6;
 const DAMAGED_COUNT: usize = 3;
 const POWERED_COUNT: usize = 24;
+const FIRST_COUNT: usize = 3;
 const VALID_COUNT: usize = 150;
 
 /// An image and the arguments to read it with.
@@ -36,8 +39,9 @@ fn main() -> io::Result<()> {
     fs::write(output, lines)
 }
 
-/// The cases of document 01; in each layout the leaf with the most blocks and each field damaged;
-/// valid cards with power blocks, valid cards for readers of all levels, and leaves of random bytes.
+/// The cases of document 01; in each layout the leaf with the most blocks and each field damaged, and
+/// cards of version 1 in each edition; each of the editions' codes; valid cards with power blocks, valid cards
+/// for readers of all levels, and leaves of random bytes.
 fn records() -> Vec<Record> {
     let mut random = Random::new(1);
     let mut records: Vec<_> = cases()
@@ -61,7 +65,12 @@ fn records() -> Vec<Record> {
                 records.push(Record::of(&Sample::damaged_in(&mut random, number, layout)));
             }
         }
+        for first_edition in EDITIONS {
+            let valid = |_| Sample::first_version(&mut random, layout, first_edition);
+            records.extend((0..FIRST_COUNT).map(valid).map(|it| Record::of(&it)));
+        }
     }
+    records.extend(codes());
     for round in 0..POWERED_COUNT {
         let layout = LAYOUTS[round % LAYOUTS.len()];
         records.push(Record::of(&Sample::powered_in(&mut random, layout)));
@@ -73,6 +82,26 @@ fn records() -> Vec<Record> {
     }
     while records.len() < RECORD_COUNT {
         records.push(Record::of(&Sample::wild(&mut random)));
+    }
+    records
+}
+
+/// Each of the codes of both editions, read in each, of each version for the chips of version 1.
+fn codes() -> Vec<Record> {
+    let mut records = Vec::new();
+    for (version, chip) in VERSIONS
+        .into_iter()
+        .flat_map(|version| FIRST_CHIPS.map(|chip| (version, chip)))
+    {
+        for code in CODES {
+            let mut card = Card::tidy(chip, code, vec![]);
+            card.version = version;
+            let arguments = EDITIONS.map(|first| Arguments::newest(chip).in_edition(first));
+            records.extend(arguments.map(|arguments| Record {
+                image: card.image(),
+                arguments,
+            }));
+        }
     }
     records
 }
@@ -116,10 +145,10 @@ impl Record {
 #[cfg(test)]
 mod tests {
     use super::*;
-    use second::images::{Card, block};
+    use second::images::block;
     use second::layout::SIZES;
 
-    /// "Why a call is refused": the records of each size meet 1 to 18, but for 12, 29 to 31 and
+    /// "Why a call is refused": the records of each size meet 1 to 18, but for 12, 29 to 31, 38 and
     /// acceptance in both layouts; and blocks behind byte 255, and a leaf of 255 blocks.
     #[test]
     fn every_refusal() {
@@ -128,7 +157,8 @@ mod tests {
         for size in SIZES {
             let of_size = records.iter().filter(|it| it.arguments.layout.size == size);
             let lines: Vec<_> = of_size.map(Record::line).collect();
-            for number in (1..=18).filter(|&number| number != 12).chain(29..=31) {
+            let numbers = (1..=18).filter(|&number| number != 12);
+            for number in numbers.chain(29..=31).chain([38]) {
                 let refused = format!("refused {number}\n");
                 assert!(lines.contains(&refused), "{size}: {number}");
             }
@@ -154,6 +184,33 @@ mod tests {
             "accepted 0800 00 08002b000000 3 2 0 1 0 255 \
              2@42:86020101000200 2@33:86020001000200\n"
         );
+    }
+
+    /// "each edition reads its own code, where the chip's row has that of 1.01, and refuses the other's
+    /// with 11 ... Codes are kept as read": the numbers of both editions, 1.01 first, in the order of the
+    /// records.
+    #[test]
+    fn lines_of_codes() {
+        let lines: Vec<_> = codes().iter().map(Record::line).collect();
+        // 0x0200, 0x0203, 0x0204, 0x0205, each in 1.01 and in 1.00.
+        let of_21041 = [[false, true], [false; 2], [true, false], [false; 2]];
+        let of_21140 = [[false, true], [false, true], [true, false], [true, false]];
+        let later_21041 = [[false; 2], [false; 2], [true; 2], [false; 2]];
+        let later_21140 = [[false; 2], [false; 2], [true; 2], [true; 2]];
+        let later = [later_21041, later_21140].concat();
+        let expected = [of_21041.to_vec(), of_21140.to_vec(), later.clone(), later].concat();
+        let expected = expected.concat();
+        assert_eq!(lines.len(), expected.len());
+        for (place, (line, is_read)) in lines.iter().zip(expected).enumerate() {
+            let code = CODES[place / 2 % CODES.len()];
+            let accepted = format!("accepted {code:04x} 00 08002b000000 0 0 0 0 0 255\n");
+            let expected = if is_read {
+                accepted
+            } else {
+                "refused 11\n".into()
+            };
+            assert_eq!(*line, expected, "{place}");
+        }
     }
 
     /// "They are counted as power ..., not listed": a block of each kind that the chip has, in the form

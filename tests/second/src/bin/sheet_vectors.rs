@@ -1,4 +1,4 @@
-//! Writes 640 records, each a sheet of either form with what it is written or converted with, to one
+//! Writes 680 records, each a sheet of either form with what it is written or converted with, to one
 //! file, and to another what each must give: of a writing the image and the sheet made of it again, or
 //! what the maker answers to an output that is refused for its size, and of a conversion the sheet in
 //! the other form: `sheet_vectors INPUT OUTPUT`.
@@ -6,20 +6,21 @@
 //! A record has words, low byte first: the sheet's length, the stated size, the length of the buffer
 //! for a sheet, the chip; then bytes: whether the sheet is wide (1) or narrow (0), whether it is
 //! converted (1) or written (0), the layout (1 with a Magic Packet block, 0 without), whether the output
-//! is of the larger size (1) or of the smaller (0), the output's last 32 bytes, and the sheet. The
-//! output's bytes before are 0.
+//! is of the larger size (1) or of the smaller (0), the edition (1 for 1.00, 0 for 1.01), the output's
+//! last 32 bytes, and the sheet. The output's bytes before are 0.
 
 use second::images::{Image, MAGIC_DAMAGES, MagicBlock, WRONG_SIZES};
 use second::layout::{LARGE, Layout, SIZES, SMALL, magic_block};
 use second::random::Random;
-use second::sheet::{FORMS, Form, KINDS, Made, convert, make, served, write};
+use second::sheet::{FORMS, Form, KINDS, Made, convert, make, served_editions, write};
 use second::sheets::converted::convert_damages;
 use second::sheets::{Sheet, sheet_damages};
 use std::{env, fs, io, process};
 
-const RECORD_COUNT: usize = 640;
-const DAMAGED_COUNT: usize = 4;
+const RECORD_COUNT: usize = 680;
+const DAMAGED_COUNT: usize = 2;
 const CONVERTED_COUNT: usize = 24;
+const FIRST_COUNT: usize = 3;
 
 /// The most bytes of a sheet, and of the buffer for one.
 const ROOM: usize = 4_096;
@@ -35,6 +36,7 @@ struct Record {
     call: Call,
     form: Form,
     layout: Layout,
+    first_edition: bool,
     output: Image,
     room: usize,
     sheet: Vec<u8>,
@@ -57,20 +59,31 @@ fn records() -> Vec<Record> {
     let mut random = Random::new(1);
     let mut records = conversions(&mut random);
     records.extend(refused_writings(&mut random));
-    let served: Vec<_> = served().collect();
-    for &(form, layout) in &served {
+    let served: Vec<_> = served_editions().collect();
+    for &served in served.iter().filter(|(.., first_edition)| !first_edition) {
+        let (form, layout, first_edition) = served;
         for sheet in [
             Sheet::new(21143, 0x0800, &[]).bytes(form),
-            Sheet::longest(&mut random, layout).bytes(form),
+            Sheet::longest(&mut random, layout, first_edition).bytes(form),
             vec![],
         ] {
-            records.push(Record::new(&mut random, form, layout, sheet));
+            records.push(Record::new(&mut random, served, sheet));
+        }
+    }
+    for &served in &served {
+        let (form, layout, first_edition) = served;
+        for short in 0..FIRST_COUNT {
+            let sheet = Sheet::first_version(&mut random, layout, first_edition).bytes(form);
+            let mut record = Record::new(&mut random, served, sheet);
+            record.room = record.sheet.len() + 1 - short;
+            records.push(record);
         }
     }
     while records.len() < RECORD_COUNT {
-        let (form, layout) = random.pick(&served);
-        let sheet = Sheet::valid(&mut random, layout).bytes(form);
-        let mut record = Record::new(&mut random, form, layout, sheet);
+        let served = random.pick(&served);
+        let (form, layout, first_edition) = served;
+        let sheet = Sheet::valid(&mut random, layout, first_edition).bytes(form);
+        let mut record = Record::new(&mut random, served, sheet);
         let exact = record.sheet.len();
         record.room = random.pick(&[ROOM, exact, exact - 1]);
         records.push(record);
@@ -78,32 +91,33 @@ fn records() -> Vec<Record> {
     records
 }
 
-/// In each form and layout sheets with each field damaged; valid ones for an output whose block is
-/// damaged, or whose size is not served.
+/// In each form, layout and edition sheets with each field damaged; valid ones for an output whose block
+/// is damaged, or whose size is not served.
 fn refused_writings(random: &mut Random) -> Vec<Record> {
     let mut records = Vec::new();
-    for (form, layout) in served() {
+    for served in served_editions() {
+        let (form, layout, first_edition) = served;
         for number in sheet_damages(form) {
             for _ in 0..DAMAGED_COUNT {
-                let sheet = short(|| Sheet::damaged(random, number, form, layout));
-                records.push(Record::new(random, form, layout, sheet));
+                let sheet = short(|| Sheet::damaged(random, number, form, layout, first_edition));
+                records.push(Record::new(random, served, sheet));
             }
         }
         for number in MAGIC_DAMAGES.into_iter().filter(|_| layout.magic) {
             for _ in 0..DAMAGED_COUNT {
-                let sheet = Sheet::valid(random, layout).bytes(form);
-                let mut record = Record::new(random, form, layout, sheet);
+                let sheet = Sheet::valid(random, layout, first_edition).bytes(form);
+                let mut record = Record::new(random, served, sheet);
                 MagicBlock::damaged(random, number).lay(&mut record.output);
                 records.push(record);
             }
         }
-        for (output, stated) in other_sizes(form) {
+        for (output, stated) in other_sizes(form).filter(|_| !first_edition) {
             // The larger size's sheets are for sizes that no ROM has as the smaller's are.
             if layout.size == LARGE && SIZES.contains(&stated) {
                 continue;
             }
-            let sheet = Sheet::valid(random, layout).bytes(form);
-            let mut record = Record::new(random, form, layout, sheet);
+            let sheet = Sheet::valid(random, layout, first_edition).bytes(form);
+            let mut record = Record::new(random, served, sheet);
             record.layout.size = stated;
             record.output = vec![0; output.into()];
             MagicBlock::valid(random).lay(&mut record.output);
@@ -158,13 +172,18 @@ fn other_sizes(form: Form) -> impl Iterator<Item = (u16, u16)> {
 
 impl Record {
     /// With an output that has a right block, whether the layout does or not.
-    fn new(random: &mut Random, form: Form, layout: Layout, sheet: Vec<u8>) -> Self {
+    fn new(
+        random: &mut Random,
+        (form, layout, first_edition): (Form, Layout, bool),
+        sheet: Vec<u8>,
+    ) -> Self {
         let mut output = vec![0; layout.size.into()];
         MagicBlock::valid(random).lay(&mut output);
         Self {
             call: Call::Write,
             form,
             layout,
+            first_edition,
             output,
             room: ROOM,
             sheet,
@@ -177,10 +196,17 @@ impl Record {
             call: Call::Convert,
             form,
             layout: Layout::PLAIN,
+            first_edition: false,
             output: vec![0; SMALL.into()],
             room,
             sheet,
         }
+    }
+
+    /// What its writer is told of form, layout and edition.
+    #[cfg(test)]
+    fn served(&self) -> (Form, Layout, bool) {
+        (self.form, self.layout, self.first_edition)
     }
 
     /// The chip of a sheet that has one.
@@ -204,6 +230,7 @@ impl Record {
             self.call == Call::Convert,
             self.layout.magic,
             is_large,
+            self.first_edition,
         ];
         let mut bytes = words.map(u16::to_le_bytes).concat();
         bytes.extend(flags.map(u8::from));
@@ -220,7 +247,8 @@ impl Record {
             return self.line_of_sheet(|buffer| convert(&self.sheet, self.form, buffer));
         }
         let mut image = self.output.clone();
-        match write(&self.sheet, self.form, self.layout, &mut image) {
+        let (form, layout) = (self.form, self.layout);
+        match write(&self.sheet, form, layout, self.first_edition, &mut image) {
             0 => hex(&image) + &self.line_of_made(&image),
             1 => refused(1) + &self.line_of_made(&image),
             number => refused(number),
@@ -228,7 +256,10 @@ impl Record {
     }
 
     fn line_of_made(&self, image: &Image) -> String {
-        self.line_of_sheet(|buffer| make(image, self.chip(), self.form, self.layout, buffer))
+        let (form, layout) = (self.form, self.layout);
+        let make =
+            |buffer: &mut [u8]| make(image, self.chip(), form, layout, self.first_edition, buffer);
+        self.line_of_sheet(make)
     }
 
     /// What a call lays into the buffer.
@@ -255,8 +286,9 @@ fn hex(bytes: &[u8]) -> String {
 #[cfg(test)]
 mod tests {
     use super::*;
+    use second::edition::FIRST_VERSION;
     use second::reader::POWER;
-    use second::sheet::LONGEST_WIDE_SHEET;
+    use second::sheet::{LONGEST_WIDE_SHEET, VERSION};
 
     /// The records of one call.
     fn records_of(call: Call) -> Vec<Record> {
@@ -272,13 +304,14 @@ mod tests {
     #[test]
     fn every_refusal() {
         let records = records_of(Call::Write);
-        for (form, layout) in served() {
+        for served in served_editions() {
+            let (form, layout, _) = served;
             let blocks = MAGIC_DAMAGES.into_iter().filter(|_| layout.magic);
             for number in sheet_damages(form).into_iter().chain(blocks) {
-                let is_it = |record: &&Record| (record.form, record.layout) == (form, layout);
+                let is_it = |record: &&Record| record.served() == served;
                 let of_it = records.iter().filter(is_it);
                 let met = of_it.filter(|record| record.lines() == refused(number));
-                assert!(met.count() >= DAMAGED_COUNT, "{form:?} {layout:?} {number}");
+                assert!(met.count() >= DAMAGED_COUNT, "{served:?} {number}");
             }
         }
         let both = refused(1) + &refused(1);
@@ -322,10 +355,11 @@ mod tests {
     #[test]
     fn second_line_is_the_sheet() {
         let records = records_of(Call::Write);
-        for (form, layout) in served() {
-            let (mut met, mut short, mut longest) = (0, 0, 0);
+        for served in served_editions() {
+            let (form, layout, first_edition) = served;
+            let (mut met, mut short, mut longest, mut first) = (0, 0, 0, 0);
             let digits = 2 * usize::from(layout.size);
-            let is_it = |record: &&Record| (record.form, record.layout) == (form, layout);
+            let is_it = |record: &&Record| record.served() == served;
             for record in records.iter().filter(is_it) {
                 let lines = record.lines();
                 if lines.starts_with("refused") {
@@ -343,9 +377,14 @@ mod tests {
                 assert_eq!(image.ends_with(&kept), layout.magic);
                 met += 1;
                 longest = longest.max(record.sheet.len());
+                first += usize::from(record.sheet[form.place(VERSION)] == FIRST_VERSION);
             }
-            assert!(met > 12 && short > 2, "{form:?} {layout:?}: {met} {short}");
-            assert_eq!(longest, form.longest(layout));
+            let often = (met, short, first);
+            assert!(
+                met > 5 && short > 0 && first >= FIRST_COUNT,
+                "{served:?}: {often:?}"
+            );
+            assert!(first_edition || longest == form.longest(layout));
         }
         let lengths = records.iter().map(|record| record.sheet.len());
         assert!(lengths.max() > Some(LONGEST_WIDE_SHEET));

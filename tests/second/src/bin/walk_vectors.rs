@@ -1,13 +1,14 @@
-//! Writes 450 records, each an image, the arguments to load it with and a list of calls, to one
+//! Writes 480 records, each an image, the arguments to load it with and a list of calls, to one
 //! file, and to another what each call must answer: `walk_vectors INPUT OUTPUT`.
 //!
 //! A record has the image's length (a word, low byte first), the chip (a word), the controller, the
-//! level, the stated size (a word), the layout (1 with a Magic Packet block, 0 without), how many calls
-//! follow, the image, and the calls: 0 a load, 1 a clear, 2 a look, which the report's length and the
+//! level, the stated size (a word), the layout (1 with a Magic Packet block, 0 without), the edition (1
+//! for 1.00, 0 for 1.01), how many calls follow, the image, and the calls: 0 a load, 1 a clear, 2 a look, which the report's length and the
 //! report follow.
 
 use second::calls::{self, Call, Habits};
 use second::cases::{CASES_K, CaseK, REPORTS_K, card_b, cases};
+use second::edition::CORRECTED;
 use second::images::{Card, Image, Sample, damages};
 use second::layout::{LAYOUTS, SIZES};
 use second::random::Random;
@@ -15,10 +16,11 @@ use second::reader::{Arguments, CHIPS};
 use second::walk::{Autosense, NONE};
 use std::{env, fs, io, process};
 
-const RECORD_COUNT: usize = 450;
+const RECORD_COUNT: usize = 480;
 const DAMAGED_COUNT: usize = 2;
 const POWERED_COUNT: usize = 24;
 const FIXED_COUNT: usize = 60;
+const FIRST_COUNT: usize = 10;
 const MOST_CALLS: usize = 12;
 
 /// The longest report whose length fits a byte.
@@ -45,8 +47,8 @@ fn main() -> io::Result<()> {
 }
 
 /// Case k of document 01, lists on the cases before it and on the leaf with the most blocks of each
-/// layout, each field damaged, cards with power blocks, and valid cards at all levels, autosensed and
-/// fixed ones.
+/// layout, each field damaged, cards with power blocks, cards with the codes of edition 1.00 and their
+/// twins, and valid cards at all levels, autosensed and fixed ones.
 fn records() -> Vec<Record> {
     let mut random = Random::new(1);
     let mut records = case_k();
@@ -73,6 +75,13 @@ fn records() -> Vec<Record> {
         samples.push(sample);
     }
     samples.extend((0..FIXED_COUNT).map(|_| calls::fixed(&mut random)));
+    for _ in 0..FIRST_COUNT {
+        for (first, _) in CORRECTED {
+            let sample = calls::of_code(&mut random, first);
+            let twin = sample.corrected();
+            samples.extend([sample, twin]);
+        }
+    }
     // Without a block no chip's leaf has a fixed medium.
     for (chip, size) in CHIPS
         .into_iter()
@@ -170,6 +179,7 @@ impl Record {
 #[cfg(test)]
 mod tests {
     use super::*;
+    use second::edition::CODES;
     use second::layout::Layout;
     use second::reader::read_all;
     use second::walk::Way;
@@ -223,9 +233,9 @@ mod tests {
                 let start = format!("{number} ");
                 lines.lines().any(|line| line.starts_with(&start))
             };
-            let numbers = (0..=32).filter(|&number| met(number));
+            let numbers = (0..=38).filter(|&number| met(number));
             let expected = (0..=21).filter(|&number| number != 12);
-            assert!(numbers.eq(expected.chain(29..=32)), "{size}");
+            assert!(numbers.eq(expected.chain(29..=32).chain([38])), "{size}");
         }
         for layout in LAYOUTS {
             let of_layout = records
@@ -267,6 +277,21 @@ mod tests {
             };
             let often = [often("0 settled"), often("32 ")];
             assert!(often.iter().all(|&often| often > 1), "{chip}: {often:?}");
+        }
+    }
+
+    /// "a walk takes 0x0200 as 0x0204 and 0x0203 as 0x0205": records of each of the four codes whose
+    /// walk settles.
+    #[test]
+    fn codes_of_both_editions() {
+        let records = records();
+        for code in CODES {
+            let settled = records.iter().filter(|record| {
+                let (answer, _) = read_all(&record.image, record.arguments);
+                answer.connection == code && record.lines().contains("0 settled")
+            });
+            let often = settled.count();
+            assert!(often >= FIRST_COUNT / 2, "{code:#06x}: {often}");
         }
     }
 

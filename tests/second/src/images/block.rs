@@ -1,9 +1,10 @@
 //! Blocks for a leaf: one maker for each kind, and random blocks that may stand together.
 
+use crate::edition::Rules;
 use crate::random::Random;
 use crate::reader::{
     ACTIVE_INVALID, COMMAND_RESERVED, COMPACT, DEFAULT, EXT, EXTENDED, MEDIA_21041, NEWEST_LEVEL,
-    POWER, RESET, permitted_kinds,
+    POWER, RESET,
 };
 use crate::sheet::LONGEST_BODY;
 
@@ -115,10 +116,10 @@ fn unknown_type(random: &mut Random) -> u8 {
 
 /// Blocks for the last places of a leaf, so many as are left, or none where no block is so small or
 /// one alone would be too long.
-pub fn filling(random: &mut Random, chip: u16, left: usize) -> Vec<Vec<u8>> {
-    match (chip, left) {
-        (21041, _) => (0..left).map(|_| media(1, None)).collect(),
-        _ if (2..=2 + LONGEST_BODY).contains(&left) => {
+pub fn filling(random: &mut Random, rules: Rules, left: usize) -> Vec<Vec<u8>> {
+    match rules.chip {
+        21041 => (0..left).map(|_| media(1, None)).collect(),
+        _ if rules.have_extended_blocks() && (2..=2 + LONGEST_BODY).contains(&left) => {
             let body = random.row(left - 2);
             vec![extended(unknown_type(random), &body)]
         }
@@ -126,21 +127,23 @@ pub fn filling(random: &mut Random, chip: u16, left: usize) -> Vec<Vec<u8>> {
     }
 }
 
-/// As many blocks as have room, of the smallest size that the chip has: of one byte, or of unknown
-/// types without body.
-pub fn smallest(random: &mut Random, chip: u16, room: usize) -> impl Iterator<Item = Vec<u8>> {
-    let is_21041 = chip == 21041;
-    let count = if is_21041 { room } else { room / 2 };
-    (0..count).map(move |_| match is_21041 {
+/// As many blocks as have room, of the smallest size that the rules have: of one byte, of unknown types
+/// without body, or compact and never the default.
+pub fn smallest(random: &mut Random, rules: Rules, room: usize) -> impl Iterator<Item = Vec<u8>> {
+    let is_21041 = rules.chip == 21041;
+    let mut block = move || match is_21041 {
         true => media(random.pick(&[0, 1, 2, 4]), None),
-        false => extended(unknown_type(random), &[]),
-    })
+        false if rules.have_extended_blocks() => extended(unknown_type(random), &[]),
+        false => compact(random.pick(&[4, 5, 8]), random.byte(), 0),
+    };
+    let count = room / block().len();
+    (0..count).map(move |_| block())
 }
 
 /// Draws blocks for one leaf: at most one default and one type 5, and either that or PHYs with
 /// reset sequences; and each bit of the mode byte in at most one power block.
 pub struct Deck {
-    chip: u16,
+    rules: Rules,
     resets_phys: bool,
     has_reset: bool,
     has_default: bool,
@@ -149,9 +152,9 @@ pub struct Deck {
 }
 
 impl Deck {
-    pub fn new(random: &mut Random, chip: u16) -> Self {
+    pub fn new(random: &mut Random, rules: Rules) -> Self {
         Self {
-            chip,
+            rules,
             resets_phys: random.one_in(2),
             has_reset: false,
             has_default: false,
@@ -159,16 +162,17 @@ impl Deck {
         }
     }
 
-    /// A block of a kind that the chip permits or of an unknown type. A leaf that has a power block
+    /// A block of a kind that the rules permit or of an unknown type. A leaf that has a power block
     /// often gets another.
     pub fn draw(&mut self, random: &mut Random) -> Vec<u8> {
-        if self.chip != 21041 && random.one_in(4) {
+        let has_types = self.rules.chip != 21041 && self.rules.have_extended_blocks();
+        if has_types && random.one_in(4) {
             return unknown(random);
         }
         if self.modes != 0 && random.one_in(2) {
             return self.power(random);
         }
-        match random.pick(permitted_kinds(self.chip)) {
+        match random.pick(&self.rules.kinds()) {
             MEDIA_21041 => media(random.pick(&[0, 1, 2, 4]), registers(random)),
             COMPACT => {
                 let (code, command) = self.medium(random, &[0, 1, 3, 4, 5, 6, 7, 8]);

@@ -2,11 +2,12 @@
 
 use super::block::{self, phy_unit};
 use super::{Card, Leaf, Sample, WRONG_SIZES};
+use crate::edition::{CODES, FIRST_CHIPS, FIRST_VERSION, Rules, VERSIONS};
 use crate::layout::SIZES;
 use crate::random::Random;
 use crate::reader::{
     ACTIVE_INVALID, CHIPS, COMPACT, DEFAULT, EXT, EXTENDED, MEDIA_21041, NEWEST_LEVEL, POWER,
-    RESET, first_leaf, header_size, is_connection, permitted_kinds,
+    RESET, first_leaf, header_size,
 };
 use std::ops::Range;
 
@@ -20,6 +21,7 @@ impl Sample {
     /// Damages one field so that the reading is refused with this number and for no earlier cause;
     /// false, with nothing changed, where the sample has no such field or not enough places for it.
     pub fn damage(&mut self, random: &mut Random, number: u8) -> bool {
+        let rules = self.rules();
         let (card, arguments) = (&mut self.card, &mut self.arguments);
         let controllers = card.controllers.len();
         let layout = card.layout();
@@ -38,7 +40,7 @@ impl Sample {
                 2 => arguments.layout.size = random.pick(&WRONG_SIZES),
                 _ => arguments.layout.size = other_size(layout.size),
             },
-            2 => card.version = other_than(random, &[3, 4]),
+            2 => card.version = other_than(random, &VERSIONS),
             3 => card.srom_crc_fault = 1 + random.below(0xFFFF) as u16,
             4 => card.id_crc_fault = 1 + random.below(0xFF) as u8,
             29 | 30 => match &mut card.magic {
@@ -52,6 +54,12 @@ impl Sample {
             }
             6 => arguments.controller = between(random, controllers, 255) as u8,
             7 => arguments.chip = chip(random),
+            38 => {
+                if FIRST_CHIPS.contains(&rules.chip) {
+                    arguments.chip = random.pick(&later_chips());
+                }
+                card.version = FIRST_VERSION;
+            }
             8 => arguments.level = between(random, usize::from(NEWEST_LEVEL) + 1, 255) as u8,
             9 => match arguments.controller {
                 0 => return false,
@@ -77,7 +85,11 @@ impl Sample {
                 let Some(mut leaf) = take_leaf(card, arguments.controller) else {
                     return false;
                 };
-                let is_damaged = damage_leaf(&mut leaf, random, number, level, places);
+                let rules = Rules {
+                    chip: leaf.chip,
+                    ..rules
+                };
+                let is_damaged = damage_leaf(&mut leaf, random, number, level, rules, places);
                 card.controllers[usize::from(arguments.controller)].leaf_offset =
                     leaf.offset as u16;
                 card.leaves.push(leaf);
@@ -102,10 +114,11 @@ pub(crate) fn damage_leaf(
     random: &mut Random,
     number: u8,
     level: u8,
+    rules: Rules,
     places: Range<usize>,
 ) -> Option<()> {
     match number {
-        11 => leaf.connection = wrong_connection(random, leaf.chip),
+        11 => leaf.connection = wrong_connection(random, rules),
         _ if leaf.blocks.is_empty() => return None,
         13 if leaf.chip == 21041 || random.one_in(2) => {
             let last = places.end - header_size(leaf.chip);
@@ -114,7 +127,7 @@ pub(crate) fn damage_leaf(
         }
         18 if random.one_in(2) => set_defaults(leaf, random, level)?,
         18 => add_reset(leaf, random, level, places.end)?,
-        31 => repeat_mode(leaf, random, level, places.end)?,
+        31 => repeat_mode(leaf, random, level, rules, places.end)?,
         _ => {
             let index = random.below(leaf.blocks.len());
             let places = places.end.checked_sub(leaf.start(index))?;
@@ -124,7 +137,7 @@ pub(crate) fn damage_leaf(
             match number {
                 13 if places > LONGEST => return None,
                 13 => block[0] = EXTENDED | between(random, places, LONGEST) as u8,
-                14 => forbid(block, random, leaf.chip, level, places)?,
+                14 => forbid(block, random, rules, level, places)?,
                 15 if is_known => missize(block, random, kind, places)?,
                 16 if is_known => miscode(block, random, kind)?,
                 17 if is_known => advertise(block, random, kind)?,
@@ -135,25 +148,33 @@ pub(crate) fn damage_leaf(
     Some(())
 }
 
-/// An extended block without a type, of a known type that the chip does not permit, or a compact
-/// block where there is none.
+/// An extended block without a type, of a known type that the rules do not permit, any where there is
+/// none, or a compact block where there is none.
 fn forbid(
     block: &mut [u8],
     random: &mut Random,
-    chip: u16,
+    rules: Rules,
     level: u8,
     places: usize,
 ) -> Option<()> {
+    let chip = rules.chip;
     if chip == 21041 {
         return None;
     }
     let is_extended = block[0] & EXTENDED != 0;
-    let is_forbidden = |kind: &u8| !permitted_kinds(chip).contains(&u16::from(*kind));
+    let kinds = rules.kinds();
+    let is_forbidden = |kind: &u8| !kinds.contains(&u16::from(*kind));
     let forbidden: Vec<_> = (0..level).filter(is_forbidden).collect();
     match random.below(3) {
         0 => block[0] = EXTENDED,
         1 if is_extended && !forbidden.is_empty() => block[1] = random.pick(&forbidden),
         2 if chip != 21140 && places >= 4 => block[0] &= !EXTENDED,
+        // Of any type, and any length that ends before the limit.
+        _ if !rules.have_extended_blocks() && places > 0 => {
+            let any = random.byte();
+            block[0] = EXTENDED | random.below(places.min(LONGEST)) as u8;
+            block[1] = random.pick(&[0, 1, 5, any]);
+        }
         _ => return None,
     }
     Some(())
@@ -261,10 +282,16 @@ fn add_reset(leaf: &mut Leaf, random: &mut Random, level: u8, limit: usize) -> O
 }
 
 /// A bit of the mode byte in two power blocks, of which one or both are added where there are fewer.
-fn repeat_mode(leaf: &mut Leaf, random: &mut Random, level: u8, limit: usize) -> Option<()> {
+fn repeat_mode(
+    leaf: &mut Leaf,
+    random: &mut Random,
+    level: u8,
+    rules: Rules,
+    limit: usize,
+) -> Option<()> {
     let chip = leaf.chip;
     let is_power = |block: &Vec<u8>| kind(block, chip) == POWER && block.len() > MODE_OFFSET;
-    let is_known = POWER < level.into() && permitted_kinds(chip).contains(&POWER);
+    let is_known = POWER < level.into() && rules.kinds().contains(&POWER);
     let added = block::power(0, &[]);
     let missing = 2_usize.saturating_sub(leaf.blocks.iter().filter(|it| is_power(it)).count());
     if !is_known || leaf.end() + missing * added.len() > limit {
@@ -344,14 +371,26 @@ fn reset_offset(block: &[u8], kind: u16) -> Option<usize> {
     (offset < block.len()).then_some(offset)
 }
 
-pub(crate) fn wrong_connection(random: &mut Random, chip: u16) -> u16 {
+/// A connection type that the rules do not permit, often a code of another edition.
+pub(crate) fn wrong_connection(random: &mut Random, rules: Rules) -> u16 {
     loop {
         let (near, any) = (random.word() & 0x8F1F, random.word());
-        let connection = random.pick(&[near, any, 0x0002, 0x0400, 0x0900, 0x8800]);
-        if !is_connection(chip, connection) {
+        let other = random.pick(&[near, any, 0x0002, 0x0400, 0x0900, 0x8800]);
+        let connection = match random.one_in(2) {
+            true => random.pick(&CODES),
+            false => other,
+        };
+        if !rules.permit(connection) {
             return connection;
         }
     }
+}
+
+/// The chips that version 1 does not have.
+fn later_chips() -> Vec<u16> {
+    let mut chips = CHIPS.to_vec();
+    chips.retain(|chip| !FIRST_CHIPS.contains(chip));
+    chips
 }
 
 /// A number that is no chip's, often close to one.

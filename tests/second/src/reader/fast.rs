@@ -2,9 +2,10 @@
 
 use super::{
     Answer, Arguments, Block, HIGHEST_COUNT, Header, NO_DEFAULT, POWER, RESET, Refusal, block,
-    first_block, header, is_version, refuse_if, word,
+    first_block, header, refuse_if, word,
 };
 use crate::crc::{ID_CRC_OFFSET, fast};
+use crate::edition::is_version;
 use crate::layout::{Layout, is_of_size};
 use crate::magic;
 

@@ -137,13 +137,17 @@ fn stated_size() {
     }
 }
 
-/// "18 version (3 or 4)".
+/// "18 version (3 or 4)"; "Refusal 2 now passes 1 as well", which the 21143 is not one of.
 #[test]
 fn versions() {
     for version in 0..=255 {
         let mut card = Card::tidy(21143, 0x0800, vec![]);
         card.version = version;
-        let expected = if version == 3 || version == 4 { 0 } else { 2 };
+        let expected = match version {
+            3 | 4 => 0,
+            1 => 38,
+            _ => 2,
+        };
         assert_eq!(
             number(&card.image(), Arguments::newest(21143)),
             expected,
@@ -1144,6 +1148,7 @@ fn whole_answer() {
             controller: 1,
             level: NEWEST_LEVEL,
             layout,
+            first_edition: false,
         };
         let image = laid_out(card.clone(), layout).image();
         let (answer, table) = read_table(&image, arguments);

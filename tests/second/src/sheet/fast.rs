@@ -7,26 +7,39 @@ use super::{
 };
 use crate::crc::fast::{id_crc, magic_crc, srom_crc};
 use crate::crc::{ID_CRC_OFFSET, ID_LAST_OFFSET};
+use crate::edition::is_version;
 use crate::layout::{LARGE, Layout, SMALL};
 use crate::magic;
 use crate::reader::fast::{each_block, each_block_unframed};
 use crate::reader::{
     ADDRESS_OFFSET, Arguments, CHIPS, COMPACT, CONTROLLERS_OFFSET, COUNT_OFFSET, EXT, EXTENDED,
-    HIGHEST_COUNT, MEDIA_21041, Refusal, VERSION_OFFSET, first_block, header_size, is_version,
-    kind, refuse_if, word,
+    HIGHEST_COUNT, MEDIA_21041, Refusal, VERSION_OFFSET, first_block, header_size, kind, refuse_if,
+    word,
 };
 
 /// [`super::write`] without allocation.
-pub fn write(sheet: &[u8], form: Form, layout: Layout, image: &mut [u8]) -> u8 {
+pub fn write(
+    sheet: &[u8],
+    form: Form,
+    layout: Layout,
+    first_edition: bool,
+    image: &mut [u8],
+) -> u8 {
     match layout.size {
-        LARGE => write_to::<{ LARGE as usize }>(sheet, form, layout, image),
-        _ => write_to::<{ SMALL as usize }>(sheet, form, layout, image),
+        LARGE => write_to::<{ LARGE as usize }>(sheet, form, layout, first_edition, image),
+        _ => write_to::<{ SMALL as usize }>(sheet, form, layout, first_edition, image),
     }
 }
 
 /// The same for images of one size.
-fn write_to<const SIZE: usize>(sheet: &[u8], form: Form, layout: Layout, image: &mut [u8]) -> u8 {
-    let written = try_write::<SIZE>(sheet, form, layout, image);
+fn write_to<const SIZE: usize>(
+    sheet: &[u8],
+    form: Form,
+    layout: Layout,
+    first_edition: bool,
+    image: &mut [u8],
+) -> u8 {
+    let written = try_write::<SIZE>(sheet, form, layout, first_edition, image);
     if let Ok(written) = &written {
         image.copy_from_slice(written);
     }
@@ -34,8 +47,21 @@ fn write_to<const SIZE: usize>(sheet: &[u8], form: Form, layout: Layout, image: 
 }
 
 /// [`super::make`] without allocation.
-pub fn make(image: &[u8], chip: u16, form: Form, layout: Layout, buffer: &mut [u8]) -> Made {
-    answer(try_make(image, chip, form, layout, buffer))
+pub fn make(
+    image: &[u8],
+    chip: u16,
+    form: Form,
+    layout: Layout,
+    first_edition: bool,
+    buffer: &mut [u8],
+) -> Made {
+    let newest = Arguments::newest(chip).laid_out(layout);
+    answer(try_make(
+        image,
+        newest.in_edition(first_edition),
+        form,
+        buffer,
+    ))
 }
 
 /// [`super::widen`] without allocation.
@@ -90,6 +116,7 @@ fn try_write<const SIZE: usize>(
     sheet: &[u8],
     form: Form,
     layout: Layout,
+    first_edition: bool,
     output: &[u8],
 ) -> Result<[u8; SIZE], Refusal> {
     let (count, _) = sizes(sheet, form)?;
@@ -110,6 +137,7 @@ fn try_write<const SIZE: usize>(
         magic::judge(&image, magic_crc(&image, layout.size))?;
     }
     let newest = Arguments::newest(chip).laid_out(layout);
+    let newest = newest.in_edition(first_edition);
     each_block_unframed(&image, newest, usize::MAX, |_, _, _| {})?;
     Ok(image)
 }
@@ -184,15 +212,14 @@ fn has_wrong_form(kind: u16, body: &[u8], chip: u16) -> bool {
 
 fn try_make(
     image: &[u8],
-    chip: u16,
+    newest: Arguments,
     form: Form,
-    layout: Layout,
     buffer: &mut [u8],
 ) -> Result<usize, Refusal> {
+    let Arguments { chip, layout, .. } = newest;
     refuse_if(!form.serves(image, layout), Refusal::ImageLength)?;
     let (first, limit) = (TIDY_LEAF + header_size(chip), layout.leaf_limit());
     let (mut end, mut total) = (first, 0);
-    let newest = Arguments::newest(chip).laid_out(layout);
     let answer = each_block(image, newest, usize::MAX, |_, _, block| {
         end = block.start + block.size;
         let is_extended = chip != 21041 && image[block.start] & EXTENDED != 0;

@@ -30,15 +30,26 @@ const LAST_PLACES: [usize; 6] = [123, 91, 123, 91, 507, 475];
 
 /// What the writer answers over an output, and the image if it accepts; otherwise the output is
 /// checked to be unchanged.
-fn written_over(output: &Image, sheet: &[u8], form: Form, layout: Layout) -> Result<Image, u8> {
+fn written_in(
+    output: &Image,
+    sheet: &[u8],
+    form: Form,
+    layout: Layout,
+    first_edition: bool,
+) -> Result<Image, u8> {
     let mut image = output.clone();
-    match write(sheet, form, layout, &mut image) {
+    match write(sheet, form, layout, first_edition, &mut image) {
         0 => Ok(image),
         number => {
             assert_eq!(image, *output);
             Err(number)
         }
     }
+}
+
+/// The same in the later edition.
+fn written_over(output: &Image, sheet: &[u8], form: Form, layout: Layout) -> Result<Image, u8> {
+    written_in(output, sheet, form, layout, false)
 }
 
 /// The same of a form at the smaller size, without a Magic Packet block.
@@ -61,13 +72,32 @@ fn laid_in(length: usize, call: impl FnOnce(&mut [u8]) -> Made) -> Result<Vec<u8
     }
 }
 
+/// What the maker answers, of the chip, layout and edition of these arguments.
+fn made_by(image: &[u8], arguments: Arguments, form: Form, length: usize) -> Result<Vec<u8>, u8> {
+    let Arguments {
+        chip,
+        layout,
+        first_edition,
+        ..
+    } = arguments;
+    laid_in(length, |buffer| {
+        make(image, chip, form, layout, first_edition, buffer)
+    })
+}
+
+/// The same in the later edition.
 fn made_in(
     image: &[u8],
     chip: u16,
     (form, layout): (Form, Layout),
     length: usize,
 ) -> Result<Vec<u8>, u8> {
-    laid_in(length, |buffer| make(image, chip, form, layout, buffer))
+    made_by(
+        image,
+        Arguments::newest(chip).laid_out(layout),
+        form,
+        length,
+    )
 }
 
 fn made(image: &[u8], chip: u16, served: (Form, Layout)) -> Result<Vec<u8>, u8> {
@@ -319,9 +349,10 @@ fn forms_are_written_and_made_alike() {
     for round in 0..20_000 {
         let layout = random.pick(Narrow.layouts());
         let number = random.pick(&sheet_damages(Narrow)[1..]);
+        let first_edition = random.one_in(2);
         let sheet = match round % 2 {
-            0 => Sheet::valid(&mut random, layout).bytes(Narrow),
-            _ => Sheet::damaged(&mut random, number, Narrow, layout),
+            0 => Sheet::valid(&mut random, layout, first_edition).bytes(Narrow),
+            _ => Sheet::damaged(&mut random, number, Narrow, layout, first_edition),
         };
         let widened = converted(&sheet, Narrow).expect("its length and sum are right");
         let (stated, output) = match random.one_in(8) {
@@ -331,12 +362,14 @@ fn forms_are_written_and_made_alike() {
         if !Narrow.layouts().contains(&stated) && Wide.serves(&output, stated) {
             continue;
         }
-        let narrow = written_over(&output, &sheet, Narrow, stated);
-        assert_eq!(written_over(&output, &widened, Wide, stated), narrow);
+        let [narrow, wide] = [(&sheet, Narrow), (&widened, Wide)]
+            .map(|(sheet, form)| written_in(&output, sheet, form, stated, first_edition));
+        assert_eq!(wide, narrow);
         if let Ok(image) = narrow {
-            let chip = Narrow.chip(&sheet);
-            assert_eq!(made(&image, chip, (Narrow, layout)), Ok(sheet));
-            assert_eq!(made(&image, chip, (Wide, layout)), Ok(widened));
+            let newest = Arguments::newest(Narrow.chip(&sheet)).laid_out(layout);
+            let made = |form| made_by(&image, newest.in_edition(first_edition), form, ROOMY);
+            assert_eq!(made(Narrow), Ok(sheet));
+            assert_eq!(made(Wide), Ok(widened));
         }
     }
 }
@@ -364,7 +397,7 @@ fn image_lengths() {
                 ] {
                     let mut image = vec![PATTERN; length];
                     let layout = Layout::new(stated, false);
-                    let answered = write(&sheet, form, layout, &mut image);
+                    let answered = write(&sheet, form, layout, false, &mut image);
                     assert_eq!(answered, number, "{form:?}: {length} as {stated}");
                     let is_unchanged = image.iter().all(|&byte| byte == PATTERN);
                     assert_eq!(is_unchanged, number != 0 || length == 0);
@@ -415,7 +448,7 @@ fn images_that_are_not_served() {
 fn kept_bytes() {
     let mut random = Random::new(7);
     for (form, layout) in SERVED {
-        let sheet = Sheet::valid(&mut random, layout).bytes(form);
+        let sheet = Sheet::valid(&mut random, layout, false).bytes(form);
         let first = written_over(&output(&mut random, layout), &sheet, form, layout);
         let first = first.expect("a valid sheet");
         let (board, kept) = first.split_at(if layout.size == SMALL { 96 } else { 480 });
@@ -528,7 +561,13 @@ fn extended_bodies() {
         let mut sheet = Sheet::new(21143, 0x0800, &[]);
         sheet.blocks = vec![(9, vec![0; size])];
         let mut image = vec![PATTERN; 512];
-        let number = write(&sheet.bytes(Wide), Wide, Layout::LARGE_PLAIN, &mut image);
+        let number = write(
+            &sheet.bytes(Wide),
+            Wide,
+            Layout::LARGE_PLAIN,
+            false,
+            &mut image,
+        );
         assert_eq!(number, if size <= 126 { 0 } else { 25 }, "{size}");
     }
 }
@@ -682,7 +721,7 @@ fn buffer_lengths() {
     let lengths = [398, 34 + 4 * 59, 400, 36 + 4 * 59, 1272, 1242];
     for (served, expected) in SERVED.into_iter().zip(lengths) {
         let (form, layout) = served;
-        let longest = Sheet::longest(&mut random, layout);
+        let longest = Sheet::longest(&mut random, layout, false);
         let magic = MagicBlock::of_layout(&mut random, layout);
         let image = longest.card(layout.size, magic).image();
         let sheet = made(&image, 21041, served).expect("it is tidy");
@@ -759,9 +798,8 @@ fn refused_images() {
         for number in TIDY_DAMAGES {
             for _ in 0..200 {
                 let sample = damaged(&mut random, number, form);
-                let Arguments { chip, layout, .. } = sample.arguments;
                 let length = random.pick(&[0, 34, ROOMY]);
-                let made = made_in(&sample.card.image(), chip, (form, layout), length);
+                let made = made_by(&sample.card.image(), sample.arguments, form, length);
                 assert_eq!(made, Err(number), "{sample:02x?}");
             }
         }
@@ -774,13 +812,15 @@ fn refused_images() {
 fn return_of_the_sheet() {
     let mut random = Random::new(3);
     for round in 0..30_000 {
-        let served = SERVED[round % SERVED.len()];
-        let (form, layout) = served;
-        let sheet = Sheet::valid(&mut random, layout);
+        let (form, layout) = SERVED[round % SERVED.len()];
+        let first_edition = random.one_in(2);
+        let sheet = Sheet::valid(&mut random, layout, first_edition);
+        let newest = Arguments::newest(sheet.chip).laid_out(layout);
         let bytes = sheet.bytes(form);
         let output = output(&mut random, layout);
-        let image = written_over(&output, &bytes, form, layout).expect("a valid sheet");
-        let made = made_in(&image, sheet.chip, served, bytes.len());
+        let image = written_in(&output, &bytes, form, layout, first_edition);
+        let image = image.expect("a valid sheet");
+        let made = made_by(&image, newest.in_edition(first_edition), form, bytes.len());
         assert_eq!(made, Ok(bytes));
     }
 }
@@ -795,18 +835,21 @@ fn return_of_the_image() {
         let (form, layout) = served;
         let mut met = 0;
         for _ in 0..10_000 {
-            let sheet = Sheet::valid(&mut random, layout);
+            let first_edition = random.one_in(2);
+            let sheet = Sheet::valid(&mut random, layout, first_edition);
             let magic = MagicBlock::of_layout(&mut random, layout);
             let mut image = sheet.card(layout.size, magic).image();
             if random.one_in(2) {
                 image[random.below(layout.leaf_limit())] = random.byte();
                 lay_crcs(&mut image, layout);
             }
-            if let Ok(made) = made(&image, sheet.chip, served) {
+            let newest = Arguments::newest(sheet.chip).laid_out(layout);
+            let newest = newest.in_edition(first_edition);
+            if let Ok(made) = made_by(&image, newest, form, ROOMY) {
                 let mut output = random.row(image.len());
                 let kept = layout.board_end()..;
                 output[kept.clone()].copy_from_slice(&image[kept]);
-                let again = written_over(&output, &made, form, layout);
+                let again = written_in(&output, &made, form, layout, first_edition);
                 assert_eq!(again, Ok(image), "{sheet:02x?}");
                 met += 1;
             }
@@ -822,12 +865,13 @@ fn fast_equals_plain() {
     for round in 0..60_000 {
         let form = FORMS[round % 2];
         let mut layout = random.pick(form.layouts());
+        let first_edition = random.one_in(2);
         let mut sheet = match random.below(4) {
-            0 => Sheet::valid(&mut random, layout).bytes(form),
+            0 => Sheet::valid(&mut random, layout, first_edition).bytes(form),
             1 => Sheet::wild(&mut random, form),
             _ => {
                 let number = random.pick(&sheet_damages(form));
-                Sheet::damaged(&mut random, number, form, layout)
+                Sheet::damaged(&mut random, number, form, layout, first_edition)
             }
         };
         if let (true, false) = (random.one_in(2), sheet.is_empty()) {
@@ -840,8 +884,8 @@ fn fast_equals_plain() {
             (layout, image) = unserved(&mut random, form, layout.magic);
         }
         let mut fast_image = image.clone();
-        let number = write(&sheet, form, layout, &mut image);
-        let fast_number = fast::write(&sheet, form, layout, &mut fast_image);
+        let number = write(&sheet, form, layout, first_edition, &mut image);
+        let fast_number = fast::write(&sheet, form, layout, first_edition, &mut fast_image);
         assert_eq!(fast_number, number, "{sheet:02x?}");
         assert_eq!(fast_image, image, "{sheet:02x?}");
 
@@ -853,12 +897,15 @@ fn fast_equals_plain() {
                 Sample::damaged(&mut random, number)
             }
         };
-        let (image, Arguments { chip, layout, .. }) = (sample.card.image(), sample.arguments);
-        let laid = made(&image, chip, (form, layout));
-        let make_fast = |buffer: &mut [u8]| fast::make(&image, chip, form, layout, buffer);
+        let (image, arguments) = (sample.card.image(), sample.arguments);
+        let Arguments { chip, layout, .. } = arguments;
+        let laid = made_by(&image, arguments, form, ROOMY);
+        let make_fast = |buffer: &mut [u8]| {
+            fast::make(&image, chip, form, layout, arguments.first_edition, buffer)
+        };
         let made_fast = |length| laid_in(length, make_fast);
         for length in near_lengths(&laid) {
-            let plain = made_in(&image, chip, (form, layout), length);
+            let plain = made_by(&image, arguments, form, length);
             assert_eq!(made_fast(length), plain, "{length}");
         }
 

@@ -58,7 +58,7 @@ impl Sheet {
             chip: random.word(),
             connection: random.word(),
             control: random.byte(),
-            ..Self::valid(random, layout)
+            ..Self::valid(random, layout, false)
         }
     }
 

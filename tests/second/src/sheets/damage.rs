@@ -2,23 +2,30 @@
 
 use super::converted::over_a_byte;
 use super::{Sheet, body};
+use crate::edition::{FIRST_VERSION, Rules, VERSIONS};
 use crate::images::damage::{between, chip, damage_leaf, other_than, wrong_connection};
 use crate::images::{Leaf, TIDY_LEAF, block};
 use crate::layout::Layout;
 use crate::random::Random;
-use crate::reader::{
-    COMPACT, EXT, EXTENDED, HIGHEST_COUNT, MEDIA_21041, NEWEST_LEVEL, permitted_kinds,
-};
+use crate::reader::{COMPACT, EXT, EXTENDED, HIGHEST_COUNT, MEDIA_21041, NEWEST_LEVEL};
 use crate::sheet::{COUNT, Form, KINDS, LONGEST_BODY, MEDIA_SIZES};
 
 /// The largest body size, which is a byte in either form.
 pub(super) const LARGEST_BODY: usize = 255;
 
 impl Sheet {
-    /// Damages one field so that the writer of a form and a layout refuses the sheet with this number
-    /// and none before it; false where the sheet has no such field or not enough places for it, with
-    /// the sheet then of no use.
-    pub fn damage(&mut self, random: &mut Random, number: u8, form: Form, layout: Layout) -> bool {
+    /// Damages one field so that the writer of a form, a layout and an edition refuses the sheet with
+    /// this number and none before it; false where the sheet has no such field or not enough places for
+    /// it, with the sheet then of no use.
+    pub fn damage(
+        &mut self,
+        random: &mut Random,
+        number: u8,
+        form: Form,
+        layout: Layout,
+        first_edition: bool,
+    ) -> bool {
+        let rules = self.rules(first_edition);
         let limit = layout.leaf_limit();
         let is_damaged = match number {
             33 => {
@@ -26,21 +33,25 @@ impl Sheet {
                 Some(())
             }
             2 => {
-                self.version = other_than(random, &[3, 4]);
+                self.version = other_than(random, &VERSIONS);
                 Some(())
             }
             7 => {
                 self.chip = chip(random);
                 Some(())
             }
+            38 => {
+                self.version = FIRST_VERSION;
+                self.rules(first_edition).lack_chip().then_some(())
+            }
             11 => {
-                self.connection = wrong_connection(random, self.chip);
+                self.connection = wrong_connection(random, rules);
                 Some(())
             }
             25 => self.misform(random, form),
             26 => self.overflow(random, limit),
-            14 => self.forbid(random),
-            15..=18 | 31 => self.damage_blocks(random, number, limit),
+            14 => self.forbid(random, rules),
+            15..=18 | 31 => self.damage_blocks(random, number, rules, limit),
             _ => None,
         };
         let is_short = [33, 7, 25].contains(&number) || self.leaf_end() <= limit;
@@ -50,6 +61,15 @@ impl Sheet {
             && is_said
             && is_short != (number == 26)
             && is_crowded == (number == 33)
+    }
+
+    /// The rules by which the writer of an edition judges the sheet.
+    fn rules(&self, first_edition: bool) -> Rules {
+        Rules {
+            chip: self.chip,
+            version: self.version,
+            first_edition,
+        }
     }
 
     /// Cause 33: more blocks than a leaf's count can name.
@@ -172,13 +192,15 @@ impl Sheet {
         Some(())
     }
 
-    /// Cause 14: a known type that the chip does not permit, or a compact block where there is
-    /// none.
-    fn forbid(&mut self, random: &mut Random) -> Option<()> {
+    /// Cause 14: a known type that the rules do not permit, any type where there is none, or a compact
+    /// block where there is none.
+    fn forbid(&mut self, random: &mut Random, rules: Rules) -> Option<()> {
+        let kinds = rules.kinds();
         let known = (0..u16::from(NEWEST_LEVEL)).chain([COMPACT]);
-        let forbidden: Vec<_> = known
-            .filter(|kind| !permitted_kinds(self.chip).contains(kind))
-            .collect();
+        let mut forbidden: Vec<_> = known.filter(|kind| !kinds.contains(kind)).collect();
+        if !rules.have_extended_blocks() {
+            forbidden.push(random.byte().into());
+        }
         if self.chip == 21041 {
             return None;
         }
@@ -194,10 +216,17 @@ impl Sheet {
 
     /// Causes 15 to 18 and 31, as in the leaf of an image; a block whose length byte is changed gets as
     /// many bytes.
-    fn damage_blocks(&mut self, random: &mut Random, number: u8, limit: usize) -> Option<()> {
+    fn damage_blocks(
+        &mut self,
+        random: &mut Random,
+        number: u8,
+        rules: Rules,
+        limit: usize,
+    ) -> Option<()> {
         let blocks = self.whole_blocks();
         let mut leaf = Leaf::new(TIDY_LEAF, self.chip, self.connection, blocks);
-        damage_leaf(&mut leaf, random, number, NEWEST_LEVEL, TIDY_LEAF..limit)?;
+        let places = TIDY_LEAF..limit;
+        damage_leaf(&mut leaf, random, number, NEWEST_LEVEL, rules, places)?;
         for block in &mut leaf.blocks {
             if self.chip != 21041 && block[0] & EXTENDED != 0 {
                 block.resize(1 + usize::from(block[0] & !EXTENDED), 0);

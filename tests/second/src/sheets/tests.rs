@@ -1,23 +1,27 @@
 use super::*;
 use crate::images::MAGIC_DAMAGES;
-use crate::sheet::{served, write};
+use crate::sheet::{served_editions, write};
 
 /// "Writing a sheet": each valid sheet is accepted, with the image that the builder of images lays,
 /// and behind it the block that the output held.
 #[test]
 fn valid_sheets_are_accepted() {
     let mut random = Random::new(1);
-    for (form, layout) in served() {
+    for (form, layout, first_edition) in served_editions() {
         let (mut last_places, mut longest) = (0, 0);
-        for _ in 0..10_000 {
-            let sheet = Sheet::valid(&mut random, layout);
+        for _ in 0..5_000 {
+            let sheet = Sheet::valid(&mut random, layout, first_edition);
             let magic = MagicBlock::of_layout(&mut random, layout);
             let mut image = random.row(layout.size.into());
             if let Some(block) = magic {
                 block.lay(&mut image);
             }
             let bytes = sheet.bytes(form);
-            assert_eq!(write(&bytes, form, layout, &mut image), 0, "{sheet:02x?}");
+            assert_eq!(
+                write(&bytes, form, layout, first_edition, &mut image),
+                0,
+                "{sheet:02x?}"
+            );
             assert_eq!(
                 image,
                 sheet.card(layout.size, magic).image(),
@@ -27,7 +31,7 @@ fn valid_sheets_are_accepted() {
             longest += usize::from(bytes.len() == form.longest(layout));
         }
         assert!(
-            last_places > 500 && longest > 100,
+            last_places > 250 && longest > 50,
             "{form:?} {layout:?}: only {last_places} leaves up to the limit, {longest} longest"
         );
     }
@@ -38,12 +42,12 @@ fn valid_sheets_are_accepted() {
 #[test]
 fn outputs_that_are_not_served() {
     let mut random = Random::new(5);
-    for (form, layout) in served() {
+    for (form, layout, first_edition) in served_editions() {
         for number in [0].into_iter().chain(sheet_damages(form)) {
             for _ in 0..200 {
                 let sheet = match number {
-                    0 => Sheet::valid(&mut random, layout).bytes(form),
-                    _ => Sheet::damaged(&mut random, number, form, layout),
+                    0 => Sheet::valid(&mut random, layout, first_edition).bytes(form),
+                    _ => Sheet::damaged(&mut random, number, form, layout, first_edition),
                 };
                 let (stated, before) = unserved(&mut random, form, layout.magic);
                 let mut image = before.clone();
@@ -52,7 +56,7 @@ fn outputs_that_are_not_served() {
                 } else {
                     1
                 };
-                let answered = write(&sheet, form, stated, &mut image);
+                let answered = write(&sheet, form, stated, first_edition, &mut image);
                 assert_eq!(answered, expected, "{form:?} {stated:?}");
                 assert_eq!(image, before, "{form:?} {stated:?}");
             }
@@ -65,13 +69,13 @@ fn outputs_that_are_not_served() {
 #[test]
 fn damages_are_refused() {
     let mut random = Random::new(2);
-    for (form, layout) in served() {
+    for (form, layout, first_edition) in served_editions() {
         for number in sheet_damages(form) {
             for _ in 0..500 {
-                let sheet = Sheet::damaged(&mut random, number, form, layout);
+                let sheet = Sheet::damaged(&mut random, number, form, layout, first_edition);
                 let before = output(&mut random, layout);
                 let mut image = before.clone();
-                let answered = write(&sheet, form, layout, &mut image);
+                let answered = write(&sheet, form, layout, first_edition, &mut image);
                 assert_eq!(answered, number, "{form:?} {layout:?} {sheet:02x?}");
                 assert_eq!(image, before, "{sheet:02x?}");
             }
@@ -83,7 +87,7 @@ fn damages_are_refused() {
 #[test]
 fn first_cause_first() {
     let mut random = Random::new(3);
-    for (form, layout) in served() {
+    for (form, layout, first_edition) in served_editions() {
         let damages = sheet_damages(form);
         for (place, &first) in damages[1..].iter().enumerate() {
             for &later in &damages[2 + place..] {
@@ -91,21 +95,28 @@ fn first_cause_first() {
                 if [14, 15, 16, 17].contains(&first) && later < 18 {
                     continue;
                 }
-                meets_first(&mut random, [first, later], form, layout);
+                meets_first(&mut random, [first, later], form, layout, first_edition);
             }
         }
     }
 }
 
 /// Two damages to each of some sheets.
-fn meets_first(random: &mut Random, [first, later]: [u8; 2], form: Form, layout: Layout) {
+fn meets_first(
+    random: &mut Random,
+    [first, later]: [u8; 2],
+    form: Form,
+    layout: Layout,
+    first_edition: bool,
+) {
     let (mut met, mut tries) = (0, 0);
     while met < 20 && tries < 100_000 {
         tries += 1;
-        let mut sheet = Sheet::valid(random, layout);
-        if sheet.damage(random, later, form, layout) && sheet.damage(random, first, form, layout) {
+        let mut sheet = Sheet::valid(random, layout, first_edition);
+        let mut damages = |number| sheet.damage(random, number, form, layout, first_edition);
+        if damages(later) && damages(first) {
             let mut image = output(random, layout);
-            let number = write(&sheet.bytes(form), form, layout, &mut image);
+            let number = write(&sheet.bytes(form), form, layout, first_edition, &mut image);
             assert_eq!(number, first, "{later}: {sheet:02x?}");
             met += 1;
         }
@@ -119,13 +130,13 @@ fn meets_first(random: &mut Random, [first, later]: [u8; 2], form: Form, layout:
 fn blocks_of_the_output() {
     let mut random = Random::new(4);
     let before = [24, 33, 7, 25, 26, 2];
-    for (form, layout) in served().filter(|(_, layout)| layout.magic) {
+    for (form, layout, first_edition) in served_editions().filter(|(_, layout, _)| layout.magic) {
         for block in MAGIC_DAMAGES {
             for number in [0].into_iter().chain(sheet_damages(form)) {
                 for _ in 0..100 {
                     let sheet = match number {
-                        0 => Sheet::valid(&mut random, layout).bytes(form),
-                        _ => Sheet::damaged(&mut random, number, form, layout),
+                        0 => Sheet::valid(&mut random, layout, first_edition).bytes(form),
+                        _ => Sheet::damaged(&mut random, number, form, layout, first_edition),
                     };
                     let mut output = output(&mut random, layout);
                     MagicBlock::damaged(&mut random, block).lay(&mut output);
@@ -135,7 +146,7 @@ fn blocks_of_the_output() {
                         block
                     };
                     let mut image = output.clone();
-                    let answered = write(&sheet, form, layout, &mut image);
+                    let answered = write(&sheet, form, layout, first_edition, &mut image);
                     assert_eq!(answered, expected, "{block} and {number}: {sheet:02x?}");
                     assert_eq!(image, output);
                 }

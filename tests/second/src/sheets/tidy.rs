@@ -8,15 +8,20 @@ use crate::sheet::Form;
 
 /// The refusals of [`crate::images::DAMAGES`] that the maker can answer: those of the controller,
 /// the level and the address are not for controller 0.
-pub const TIDY_DAMAGES: [u8; 17] = [1, 2, 3, 4, 29, 30, 5, 7, 10, 11, 13, 14, 15, 16, 17, 18, 31];
+pub const TIDY_DAMAGES: [u8; 18] = [
+    1, 2, 3, 4, 29, 30, 5, 7, 38, 10, 11, 13, 14, 15, 16, 17, 18, 31,
+];
 
-/// A tidy card of any chip and of any layout that a form serves, and the newest reader of it.
+/// A tidy card of any chip and edition and of any layout that a form serves, and the newest reader of
+/// it.
 pub fn tidy(random: &mut Random, form: Form) -> Sample {
     let layout = random.pick(form.layouts());
-    let sheet = Sheet::valid(random, layout);
+    let first_edition = random.one_in(2);
+    let sheet = Sheet::valid(random, layout, first_edition);
+    let newest = Arguments::newest(sheet.chip).laid_out(layout);
     Sample {
         card: sheet.card(layout.size, MagicBlock::of_layout(random, layout)),
-        arguments: Arguments::newest(sheet.chip).laid_out(layout),
+        arguments: newest.in_edition(first_edition),
     }
 }
 
@@ -52,7 +57,10 @@ pub fn untidy(random: &mut Random, form: Form) -> (Image, Arguments) {
             card.controllers[0].leaf_offset = leaf.offset as u16;
         }
         2 => card.private[TIDY_LEAF..].fill(random.byte()),
-        _ => card = Card::valid(random, arguments.chip, arguments.layout),
+        _ => {
+            let Arguments { chip, layout, .. } = arguments;
+            card = Card::valid(random, chip, layout, arguments.first_edition);
+        }
     }
     (card.image(), arguments)
 }

@@ -1,6 +1,7 @@
 use super::*;
 use crate::calls::{self, Call, Habits};
 use crate::cases::{CASES_K, REPORTS_K, card_b, cases};
+use crate::edition::FIRST_VERSION;
 use crate::images::block::{self, Phy};
 use crate::images::{Card, DAMAGES, Image, Sample};
 use crate::layout::{LAYOUTS, Layout};
@@ -864,9 +865,15 @@ fn blocks_of(list: &str, chip: u16) -> Vec<Vec<u8>> {
 /// The number that a first look answers, and the block that is then selected, with all links down
 /// and with all up.
 fn first_looks(chip: u16, connection: u16, blocks: &[Vec<u8>]) -> [(u8, u8); 2] {
-    let image = image(chip, connection, blocks.to_vec());
+    // The codes of edition 1.00 are of version 1.
+    let is_first = taken_as(connection) != connection;
+    let mut card = Card::tidy(chip, connection, blocks.to_vec());
+    if is_first {
+        card.version = FIRST_VERSION;
+    }
+    let image = card.image();
     [0, 1].map(|link| {
-        let mut walk = loaded(&image, Arguments::newest(chip));
+        let mut walk = loaded(&image, Arguments::newest(chip).in_edition(is_first));
         let number = walk.look(&vec![link; blocks.len()]);
         (number, walk.walk().selected)
     })

@@ -26,33 +26,30 @@ returns-3 c =
     simp (ne-eqb _ _ (c .before .before .before .if1 .left), ne-eqb _ _ (c .before .before .if2 .left), eq-eqb _ _ (c .before .if3 .taken))
     (c .takes-size .ensures)
 
-takes-wide-requires : tie.Need-takes-wide-requires
-takes-wide-requires c κs = search needs
-
 returns-4 : tie.Need-returns-4
 unfolding takesOption pick
 returns-4 c =
     simp (
-      ne-eqb _ _ (c .before .before .before .before .if1 .left),
-      ne-eqb _ _ (c .before .before .before .if2 .left),
-      ne-eqb _ _ (c .before .before .if3 .left),
-      eq-eqb _ _ (c .before .if4 .taken),
+      ne-eqb _ _ (c .before .before .before .if1 .left),
+      ne-eqb _ _ (c .before .before .if2 .left),
+      ne-eqb _ _ (c .before .if3 .left),
+      eq-eqb _ _ (c .if4 .taken),
     )
-    (c .takes-wide .ensures)
+
+takes-wide-requires : tie.Need-takes-wide-requires
+takes-wide-requires c κs = search needs
 
 returns-5 : tie.Need-returns-5
 unfolding takesOption pick
 returns-5 c =
     simp (
-      ne-eqb _ _ (c .before .before .before .before .if1 .left),
-      ne-eqb _ _ (c .before .before .before .if2 .left),
-      ne-eqb _ _ (c .before .before .if3 .left),
-      ne-eqb _ _ (c .before .if4 .left),
-      lt-ltb _ _ (c .if5 .taken),
+      ne-eqb _ _ (c .before .before .before .before .before .if1 .left),
+      ne-eqb _ _ (c .before .before .before .before .if2 .left),
+      ne-eqb _ _ (c .before .before .before .if3 .left),
+      ne-eqb _ _ (c .before .before .if4 .left),
+      eq-eqb _ _ (c .before .if5 .taken),
     )
-
-takes-arguments-requires : tie.Need-takes-arguments-requires
-takes-arguments-requires c κs = search needs
+    (c .takes-wide .ensures)
 
 returns-6 : tie.Need-returns-6
 unfolding takesOption pick
@@ -62,7 +59,23 @@ returns-6 c =
       ne-eqb _ _ (c .before .before .before .before .if2 .left),
       ne-eqb _ _ (c .before .before .before .if3 .left),
       ne-eqb _ _ (c .before .before .if4 .left),
-      le-ltb _ _ (c .before .if5 .left),
+      ne-eqb _ _ (c .before .if5 .left),
+      lt-ltb _ _ (c .if6 .taken),
+    )
+
+takes-arguments-requires : tie.Need-takes-arguments-requires
+takes-arguments-requires c κs = search needs
+
+returns-7 : tie.Need-returns-7
+unfolding takesOption pick
+returns-7 c =
+    simp (
+      ne-eqb _ _ (c .before .before .before .before .before .before .if1 .left),
+      ne-eqb _ _ (c .before .before .before .before .before .if2 .left),
+      ne-eqb _ _ (c .before .before .before .before .if3 .left),
+      ne-eqb _ _ (c .before .before .before .if4 .left),
+      ne-eqb _ _ (c .before .before .if5 .left),
+      le-ltb _ _ (c .before .if6 .left),
     )
     (c .takes-arguments .ensures)
 
@@ -75,8 +88,9 @@ takes-spec =
     returns-2
     takes-size-requires
     returns-3
-    takes-wide-requires
     returns-4
+    takes-wide-requires
     returns-5
+    returns-6
     takes-arguments-requires
-    returns-6)
+    returns-7)

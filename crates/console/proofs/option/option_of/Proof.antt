@@ -13,11 +13,11 @@ use Rattle.console.specs.Options.{optionTable, pickOption, optionOf}
 use Rattle.console.proofs.option.option_of.Statement.{statement}
 use Rattle.console.proofs.option.option_of.Tie as tie
 
-within : (word : List ℕ) (n : ℕ) → n ≤ 9 → pickOption word n ≡ n
+within : (word : List ℕ) (n : ℕ) → n ≤ 10 → pickOption word n ≡ n
 unfolding pick
 within word n h = simp (le-ltb _ _ h)
 
-past : (word : List ℕ) (n : ℕ) {t : Bool} → 9 < n → isWord "--" (take 2 word) ≡ t → pickOption word n ≡ pick t 10 0
+past : (word : List ℕ) (n : ℕ) {t : Bool} → 10 < n → isWord "--" (take 2 word) ≡ t → pickOption word n ≡ pick t 11 0
 unfolding pick
 past word n h e = simp (lt-ltb _ _ h, e)
 
