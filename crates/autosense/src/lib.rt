@@ -7,6 +7,7 @@ use reader::Arguments;
 use rom::NONE;
 use rom::refusal;
 use walk::Choice;
+use walk::ROW_LENGTH;
 pub use walk::Rows;
 pub use walk::Walk;
 pub use walk::Walked;
@@ -17,10 +18,9 @@ ghost use lib.Dec.{eqb};
 ghost use Rattle.rom.specs.Geometry.{none};
 ghost use Rattle.rom.specs.Refusal.{firstMet};
 ghost use Rattle.format.specs.Block.{laterVersion};
-ghost use Rattle.block.specs.Answer.{listedIn};
 ghost use Rattle.rom.specs.Bytes.{one};
 ghost use Rattle.leaf.specs.Leaf.{cut, blockCauses};
-ghost use Rattle.autosense.specs.Inside.{invalidIn, fixedIn};
+ghost use Rattle.autosense.specs.Inside.{flagsIn, aimOf};
 ghost use Rattle.walk.specs.Walk.{noFlags, noRows, rowsOf, freshWalk, wayOf, isOnce, isFixed, isCapable, hasMedium, flagAt, isUp};
 ghost use Rattle.walk.specs.Walk.{badReport, isCandidate, lastBelow, firstUp, stays, sensed, fixedBlock, chosen, switched, stepped};
 ghost use Rattle.walk.specs.Walk.{lookCauses, loadFor, lookFor, clearFor};
@@ -52,16 +52,27 @@ const MII_100BASETX_FULL_DUPLEX: u16 = 0x020E;
 
 const MII_100BASET4: u16 = 0x000F;
 
+// The bits of a capability word that they name.
+const CAPABILITY_10BASET: u16 = 11;
+
+const CAPABILITY_10BASET_FULL_DUPLEX: u16 = 12;
+
+const CAPABILITY_100BASETX: u16 = 13;
+
+const CAPABILITY_100BASETX_FULL_DUPLEX: u16 = 14;
+
+const CAPABILITY_100BASET4: u16 = 15;
+
 // The most that looks and switches count.
 const MOST_LOOKS: u16 = 65535;
 
 // ## Fresh and cleared
 
 // A row without a flag.
-fn no_flags() -> [u8; 256]
+fn no_flags() -> [u8; ROW_LENGTH]
     ensures { λ r. ⌜ r ≡ noFlags ⌝ }
 {
-    [0u8; 256]
+    [0u8; ROW_LENGTH]
 }
 
 // Rows of no block.
@@ -112,42 +123,16 @@ fn flag_of(x: bool) -> u8
     0
 }
 
-// A block's flag in the row of listed blocks.
-fn listed_flag(b: Block) -> u8
-    ensures { λ r. ⌜ r ≡ listedIn b ⌝ }
-{
-    match b {
-        Block::Listed(_) => 1,
-        Block::Reset { size: _ } => 0,
-        Block::Power { size: _, mode: _ } => 0,
-        Block::Unknown { size: _ } => 0,
-        Block::Refused(_) => 0,
-    }
-}
-
-// A block's flag in the row of Active_Invalid.
-fn invalid_flag(b: Block) -> u8
-    ensures { λ r. ⌜ r ≡ invalidIn b ⌝ }
-{
-    match b {
-        Block::Listed(medium) => flag_of(medium.active_invalid),
-        Block::Reset { size: _ } => 0,
-        Block::Power { size: _, mode: _ } => 0,
-        Block::Unknown { size: _ } => 0,
-        Block::Refused(_) => 0,
-    }
-}
-
 // Whether capabilities have the bit that a type names.
 fn is_capable(connection: u16, capabilities: u16) -> bool
     ensures { λ r. ⌜ r ≡ isCapable connection capabilities ⌝ }
 {
     match connection {
-        MII_10BASET => (capabilities >> 11) % 2 == 1,
-        MII_10BASET_FULL_DUPLEX => (capabilities >> 12) % 2 == 1,
-        MII_100BASETX => (capabilities >> 13) % 2 == 1,
-        MII_100BASETX_FULL_DUPLEX => (capabilities >> 14) % 2 == 1,
-        MII_100BASET4 => (capabilities >> 15) % 2 == 1,
+        MII_10BASET => (capabilities >> CAPABILITY_10BASET) % 2 == 1,
+        MII_10BASET_FULL_DUPLEX => (capabilities >> CAPABILITY_10BASET_FULL_DUPLEX) % 2 == 1,
+        MII_100BASETX => (capabilities >> CAPABILITY_100BASETX) % 2 == 1,
+        MII_100BASETX_FULL_DUPLEX => (capabilities >> CAPABILITY_100BASETX_FULL_DUPLEX) % 2 == 1,
+        MII_100BASET4 => (capabilities >> CAPABILITY_100BASET4) % 2 == 1,
         _ => false,
     }
 }
@@ -174,16 +159,34 @@ fn has_fixed_medium(medium: Medium, connection: u16) -> bool
     false
 }
 
-// A block's flag in the row of the fixed medium.
-fn fixed_flag(b: Block, connection: u16) -> u8
-    ensures { λ r. ⌜ r ≡ fixedIn connection b ⌝ }
+// A block's flag in each row.
+struct BlockFlags {
+    listed: u8,
+    active_invalid: u8,
+    fixed: u8,
+}
+
+// Of a block that is not listed.
+const UNFLAGGED: BlockFlags = BlockFlags {
+    listed: 0,
+    active_invalid: 0,
+    fixed: 0,
+};
+
+// The flags of what a block is found to be, under a connection type.
+fn flags_of(b: Block, connection: u16) -> BlockFlags
+    ensures { λ r. ⌜ r ≡ flagsIn connection b ⌝ }
 {
     match b {
-        Block::Listed(medium) => flag_of(has_fixed_medium(medium, connection)),
-        Block::Reset { size: _ } => 0,
-        Block::Power { size: _, mode: _ } => 0,
-        Block::Unknown { size: _ } => 0,
-        Block::Refused(_) => 0,
+        Block::Listed(medium) => BlockFlags {
+            listed: 1,
+            active_invalid: flag_of(medium.active_invalid),
+            fixed: flag_of(has_fixed_medium(medium, connection)),
+        },
+        Block::Reset { size: _ } => UNFLAGGED,
+        Block::Power { size: _, mode: _ } => UNFLAGGED,
+        Block::Unknown { size: _ } => UNFLAGGED,
+        Block::Refused(_) => UNFLAGGED,
     }
 }
 
@@ -193,26 +196,21 @@ fn rows_of(blocks: &[u8], count: u8, row: usize, level: u8, connection: u16) -> 
     ensures { λ r. ⌜ r ≡ rowsOf connection row level (cut row count (now (blocks .entry))) ⌝ }
 {
     let taken = chip::taken_as(connection);
-    let mut listed = no_flags();
-    let mut active_invalid = no_flags();
-    let mut fixed = no_flags();
+    let mut rows = no_rows();
     let mut rest = blocks;
     let mut k = 0u8;
     while k < count {
         let b = block::judge_block(rest, row, level);
         let i = k as usize;
-        listed[i] = listed_flag(b);
-        active_invalid[i] = invalid_flag(b);
-        fixed[i] = fixed_flag(b, taken);
+        let flags = flags_of(b, taken);
+        rows.listed[i] = flags.listed;
+        rows.active_invalid[i] = flags.active_invalid;
+        rows.fixed[i] = flags.fixed;
         let size = block::size_of(b);
         rest = &rest[size..];
         k += 1;
     }
-    Rows {
-        listed,
-        active_invalid,
-        fixed,
-    }
+    rows
 }
 
 // Loads the leaf that the arguments name, if the reader accepts the image, 12 apart.
@@ -232,7 +230,7 @@ pub fn load(walk: Walk, image: &[u8], arguments: Arguments) -> Walked
         return Walked { number, walk };
     }
     let row = reading.row;
-    let rest = header::rest_from(image, arguments.layout, reading.start);
+    let rest = header::up_to_leaves_end(image, arguments.layout, reading.start);
     let rows = rows_of(rest, answer.blocks, row, arguments.level, answer.connection);
     let next = Walk {
         loaded: true,
@@ -336,25 +334,47 @@ pub fn fixed_block(walk: Walk) -> u8
     last_flagged(&fixed, walk.blocks)
 }
 
-// Whether the type is fixed and no listed block has its medium.
-fn lacks_medium(walk: Walk) -> bool
-    ensures { λ r. ⌜ r ≡ (isFixed (wayOf (walk .connection)) && eqb (fixedBlock walk) none) ⌝ }
+// What a look goes by: whether the type is fixed, and the block that then has its medium, or NONE.
+struct Aim {
+    fixed: bool,
+    block: u8,
+}
+
+fn aim_of(walk: Walk) -> Aim
+    ensures { λ r. ⌜ r ≡ aimOf walk ⌝ }
 {
     let fixed = is_fixed(way_of(walk.connection));
     if fixed {
-        return fixed_block(walk) == NONE;
+        return Aim {
+            fixed: true,
+            block: fixed_block(walk),
+        };
+    }
+    Aim {
+        fixed: false,
+        block: NONE,
+    }
+}
+
+// Whether the type is fixed and no listed block has its medium.
+fn lacks_medium(aim: Aim) -> bool
+    ensures { λ r. ⌜ r ≡ (aim .fixed && eqb (aim .block) none) ⌝ }
+{
+    if aim.fixed {
+        return aim.block == NONE;
     }
     false
 }
 
 // Why a look is refused.
-fn look_refusal(walk: Walk, report: &[u8]) -> u8
+fn look_refusal(walk: Walk, aim: Aim, report: &[u8]) -> u8
+    requires { ⌜ aim ≡ aimOf walk ⌝ }
     ensures { λ r. ⌜ r ≡ firstMet (lookCauses walk (now (report .entry))) ⌝ }
 {
     if !walk.loaded {
         return refusal::FRESH;
     }
-    let lacks = lacks_medium(walk);
+    let lacks = lacks_medium(aim);
     if lacks {
         return refusal::NO_FIXED_MEDIUM;
     }
@@ -460,14 +480,14 @@ fn sense(walk: Walk, report: &[u8]) -> Choice
 }
 
 // What a look selects.
-fn choose(walk: Walk, report: &[u8]) -> Choice
+fn choose(walk: Walk, aim: Aim, report: &[u8]) -> Choice
+    requires { ⌜ aim ≡ aimOf walk ⌝ }
     ensures { λ r. ⌜ r ≡ chosen walk (now (report .entry)) ⌝ }
 {
-    let fixed = is_fixed(way_of(walk.connection));
-    if fixed {
+    if aim.fixed {
         return Choice {
             settled: true,
-            selected: fixed_block(walk),
+            selected: aim.block,
         };
     }
     sense(walk, report)
@@ -487,11 +507,11 @@ fn count_switch(switches: u16, before: u8, after: u8) -> u16
 }
 
 // Steps 1 to 3.
-fn step(walk: Walk, report: &[u8]) -> Walk
-    requires { ⌜ (walk .looks ≡ 65535 → ⊥) ⌝ }
+fn step(walk: Walk, aim: Aim, report: &[u8]) -> Walk
+    requires { ⌜ (aim ≡ aimOf walk) × (walk .looks ≡ 65535 → ⊥) ⌝ }
     ensures { λ r. ⌜ r ≡ stepped walk (now (report .entry)) ⌝ }
 {
-    let choice = choose(walk, report);
+    let choice = choose(walk, aim, report);
     let mut next = walk;
     next.switches = count_switch(walk.switches, walk.selected, choice.selected);
     next.settled = choice.settled;
@@ -504,10 +524,11 @@ fn step(walk: Walk, report: &[u8]) -> Walk
 pub fn look(walk: Walk, report: &[u8]) -> Walked
     ensures { λ r. ⌜ r ≡ lookFor walk (now (report .entry)) ⌝ }
 {
-    let number = look_refusal(walk, report);
+    let aim = aim_of(walk);
+    let number = look_refusal(walk, aim, report);
     if number != refusal::ACCEPTED {
         return Walked { number, walk };
     }
-    let next = step(walk, report);
+    let next = step(walk, aim, report);
     Walked { number, walk: next }
 }

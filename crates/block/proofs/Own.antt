@@ -62,8 +62,8 @@ right kind s e = eqb-true (lengthOf s) (lengthFor kind s) (not-false _ e)
 
 -- ## Facts that are the same where the length is right
 
-abbrev Kept : Facts → Facts → Type 0
-Kept f g = f .wrongLength ≡ false → g ≡ f
+abbrev SameFacts : Facts → Facts → Type 0
+SameFacts f g = f .wrongLength ≡ false → g ≡ f
 
 -- ## A rest that begins with the bytes of another's first block
 
@@ -131,7 +131,7 @@ module _ (row : ℕ) (s t : List ℕ) (bytes : Bytes s) (whole : sizeOf row s �
     wrong-same f = rw (own-length, f)
 
     own-phy : (unit : ℕ) → ((u : List ℕ) → lengthFor kind u ≡ phyLength unit u)
-        → Kept (phy (isWrong kind s) unit s) (phy (isWrong kind t) unit t)
+        → SameFacts (phy (isWrong kind s) unit s) (phy (isWrong kind t) unit t)
     unfolding phy phyLength capabilitiesAt
     own-phy unit l e =
         let n : sizeOf row s ≡ 1 + (11 + unit + unit * gCount s + unit * rCount unit s) = asked e ∙ ap (λ (n : ℕ). 1 + n) (l s) in
@@ -144,46 +144,46 @@ module _ (row : ℕ) (s t : List ℕ) (bytes : Bytes s) (whole : sizeOf row s �
 
   -- ## Type by type
 
-  own-type-0 : kindOf row s ≡ 0 → Kept (port (isWrong 0 s) 2 s) (port (isWrong 0 t) 2 t)
+  own-type-0 : kindOf row s ≡ 0 → SameFacts (port (isWrong 0 s) 2 s) (port (isWrong 0 t) 2 t)
   unfolding port lengthFor pick
   own-type-0 k e =
       let n = asked 0 k (lit< tt) e in
       rw (wrong-same 0 k (lit< tt) refl, own 2 (omega (arith, n)), own-word 4 (omega (arith, n)))
 
-  own-type-2 : kindOf row s ≡ 2 → Kept (sia (isWrong 2 s) 2 s) (sia (isWrong 2 t) 2 t)
+  own-type-2 : kindOf row s ≡ 2 → SameFacts (sia (isWrong 2 s) 2 s) (sia (isWrong 2 t) 2 t)
   unfolding sia
   own-type-2 k e =
       let n = asked 2 k (lit< tt) e in
       let code : byteAt t 2 ≡ byteAt s 2 = own 2 (omega (arith, n, type-2 s)) in
       rw (wrong-same 2 k (lit< tt) (type-2 t ∙ rw code (sym (type-2 s))), code)
 
-  own-type-4 : kindOf row s ≡ 4 → Kept (symbol (isWrong 4 s) s) (symbol (isWrong 4 t) t)
+  own-type-4 : kindOf row s ≡ 4 → SameFacts (symbol (isWrong 4 s) s) (symbol (isWrong 4 t) t)
   unfolding symbol lengthFor pick
   own-type-4 k e =
       let n = asked 4 k (lit< tt) e in
       rw (wrong-same 4 k (lit< tt) refl, own 2 (omega (arith, n)), own-word 7 (omega (arith, n)))
 
-  own-type-5 : kindOf row s ≡ 5 → Kept (sequence (isWrong 5 s) 0) (sequence (isWrong 5 t) 0)
+  own-type-5 : kindOf row s ≡ 5 → SameFacts (sequence (isWrong 5 s) 0) (sequence (isWrong 5 t) 0)
   unfolding sequence lengthFor pick
   own-type-5 k e =
       let n = asked 5 k (lit< tt) e in
       rw (wrong-same 5 k (lit< tt) (rw (own 2 (omega (arith, n)))))
 
   -- the last form of `factsOf`, for every type that has no other
-  own-power : kindOf row s < kindCompact → Kept (sequence (isWrong 6 s) (byteAt s 2)) (sequence (isWrong 6 t) (byteAt t 2))
+  own-power : kindOf row s < kindCompact → SameFacts (sequence (isWrong 6 s) (byteAt s 2)) (sequence (isWrong 6 t) (byteAt t 2))
   unfolding sequence isWrong lengthFor gCount pick
   own-power h e =
       let l : lengthOf s ≡ 2 * byteAt s 3 + 3 = right 6 s e in
       let n = type-size (formed row s) h in
       rw (own-length, own 2 (omega (arith, n, l)), own 3 (omega (arith, n, l)))
 
-  own-compact : kindOf row s ≡ kindCompact → Kept (port false 0 s) (port false 0 t)
+  own-compact : kindOf row s ≡ kindCompact → SameFacts (port false 0 s) (port false 0 t)
   unfolding port
   own-compact k e =
       let n = compact-size (formed row s) bytes k in
       rw (first, own-word 2 (omega (arith, n)))
 
-  own-21041 : Kept (sia false 0 s) (sia false 0 t)
+  own-21041 : SameFacts (sia false 0 s) (sia false 0 t)
   unfolding sia
   own-21041 e = rw first
 
@@ -194,7 +194,7 @@ module _ (row : ℕ) (s t : List ℕ) (bytes : Bytes s) (whole : sizeOf row s �
       (pick e (sia (isWrong 2 u) 2 u) (pick f (phy (isWrong 3 u) 2 u) (pick g (symbol (isWrong 4 u) u)
       (pick h (sequence (isWrong 5 u) 0) (sequence (isWrong 6 u) (byteAt u 2)))))))))
 
-  own-facts : (k : ℕ) → kindOf row s ≡ k → Kept (factsOf k s) (factsOf k t)
+  own-facts : (k : ℕ) → kindOf row s ≡ k → SameFacts (factsOf k s) (factsOf k t)
   unfolding factsOf facts-by pick
   own-facts k h =
       go (eqb k kind21041) refl (eqb k kindCompact) refl (eqb k 0) refl (eqb k 1) refl (eqb k 2) refl (eqb k 3) refl (eqb k 4) refl
@@ -203,7 +203,7 @@ module _ (row : ℕ) (s t : List ℕ) (bytes : Bytes s) (whole : sizeOf row s �
       go : (x₁ : Bool) → eqb k kind21041 ≡ x₁ → (x₂ : Bool) → eqb k kindCompact ≡ x₂
           → (x₃ : Bool) → eqb k 0 ≡ x₃ → (x₄ : Bool) → eqb k 1 ≡ x₄ → (x₅ : Bool) → eqb k 2 ≡ x₅ → (x₆ : Bool) → eqb k 3 ≡ x₆ → (x₇ : Bool)
           → eqb k 4 ≡ x₇ → (x₈ : Bool) → eqb k 5 ≡ x₈
-          → Kept (facts-by s x₁ x₂ x₃ x₄ x₅ x₆ x₇ x₈) (facts-by t x₁ x₂ x₃ x₄ x₅ x₆ x₇ x₈)
+          → SameFacts (facts-by s x₁ x₂ x₃ x₄ x₅ x₆ x₇ x₈) (facts-by t x₁ x₂ x₃ x₄ x₅ x₆ x₇ x₈)
       go true e₁ x₂ e₂ x₃ e₃ x₄ e₄ x₅ e₅ x₆ e₆ x₇ e₇ x₈ e₈ = own-21041
       go false e₁ true e₂ x₃ e₃ x₄ e₄ x₅ e₅ x₆ e₆ x₇ e₇ x₈ e₈ = own-compact (h ∙ eqb-true k kindCompact e₂)
       go false e₁ false e₂ true e₃ x₄ e₄ x₅ e₅ x₆ e₆ x₇ e₇ x₈ e₈ = own-type-0 (h ∙ eqb-true k 0 e₃)

@@ -16,14 +16,14 @@ use Rattle.format.proofs.Exact.{extended-refused, others-alike}
 use Rattle.format.proofs.Levels.{later-accepts}
 use Rattle.block.specs.Answer.{answered, blockIn, blockOf, numberOf}
 use Rattle.block.specs.Claims.{AnswersFirst}
-use Rattle.block.proofs.Seen.{seen, seen-number}
+use Rattle.block.proofs.Seen.{seen-as, seen-number}
 
 pub answers-first : AnswersFirst
 unfolding blockIn answered pick
 answers-first first row level s = (go (refusalIn first row level s) refl, λ e. rw e)
   where
     go : (n : ℕ) → refusalIn first row level s ≡ n → numberOf (pick (eqb n 0) (blockOf row level s) (Refused n)) ≡ n
-    go zero e = seen-number (seen row level s) ∙ later-accepts first row level s e
+    go zero e = seen-number (seen-as row level s) ∙ later-accepts first row level s e
     go (suc n) e = rw (eqb·suc-zero n)
 
 -- so, in the terms of the code, where b is what it is found to be and n its number
@@ -34,10 +34,10 @@ found-later first row level s eb en e =
     eb ∙ answers-first first row level s .1 (sym number ∙ sym en ∙ e)
 
 -- a block that is refused alike is answered alike
-alike : (first : Bool) (row level : ℕ) (s : List ℕ) → refusalIn first row level s ≡ refusalOf row level s
+alike-judged : (first : Bool) (row level : ℕ) (s : List ℕ) → refusalIn first row level s ≡ refusalOf row level s
     → blockOf row level s ≡ blockIn first row level s
 unfolding blockIn blockOf answered pick
-alike first row level s e = rw e (go (refusalOf row level s) _)
+alike-judged first row level s e = rw e (go (refusalOf row level s) _)
   where
     go : (n : ℕ) (b : Block) → pick (eqb n 0) b (Refused n) ≡ pick (eqb n 0) (pick (eqb n 0) b (Refused n)) (Refused n)
     go zero b = refl
@@ -49,14 +49,14 @@ pub judged-later : (first : Bool) (row level : ℕ) (s : List ℕ) {b : Block} �
     → b ≡ blockIn first row level s
 unfolding refusalIn refusalOf
 judged-later true row level s e eb = true-false (sym e)
-judged-later false row level s e eb = eb ∙ alike false row level s refl
+judged-later false row level s e eb = eb ∙ alike-judged false row level s refl
 
 module _ (first : Bool) (row level : ℕ) (s : List ℕ) (e : not first ≡ false) {x : Bool} (ex : x ≡ isExtended row s) where
   is-first : first ≡ true
   is-first = not-false first e
 
   pub judged-alike : {b : Block} → not x ≡ true → b ≡ blockOf row level s → b ≡ blockIn first row level s
-  judged-alike n eb = rw is-first (eb ∙ alike true row level s (others-alike row level s (sym ex ∙ not-true x n)))
+  judged-alike n eb = rw is-first (eb ∙ alike-judged true row level s (others-alike row level s (sym ex ∙ not-true x n)))
 
   module _ (n : not x ≡ false) {z : ℕ} (ez : z ≡ sizeOf row s) where
     pub judged-past : length s < z → Refused 13 ≡ blockIn first row level s

@@ -19,31 +19,31 @@ use Rattle.block.specs.Claims.{OnlyKnown}
 use Rattle.format.proofs.Chips.{permitted-type}
 
 -- whether a block is extended, its kind and its size, as its first bytes say
-pub record Form (row : ℕ) (s : List ℕ) (extended : Bool) (kind size : ℕ) : Type 0 where
+pub record BlockForm (row : ℕ) (s : List ℕ) (extended : Bool) (kind size : ℕ) : Type 0 where
   pub is-extended : isExtended row s ≡ extended
   pub is-kind : kindOf row s ≡ kind
   pub is-size : sizeOf row s ≡ size
 
 module _ (row : ℕ) (s : List ℕ) where
-  pub extended-form : (row ≡ row21041 → ⊥) → 128 ≤ byteAt s 0 → Form row s true (byteAt s 1) (1 + lengthOf s)
+  pub extended-form : (row ≡ row21041 → ⊥) → 128 ≤ byteAt s 0 → BlockForm row s true (byteAt s 1) (1 + lengthOf s)
   unfolding isExtended kindOf sizeOf pick
   extended-form h g =
       let e = ne-eqb row row21041 h in
       let f = le-leb 128 (byteAt s 0) g in
       record { is-extended = simp (e, f); is-kind = simp (e, f); is-size = simp (e, f) }
 
-  pub compact-form : (row ≡ row21041 → ⊥) → byteAt s 0 < 128 → Form row s false kindCompact 4
+  pub compact-form : (row ≡ row21041 → ⊥) → byteAt s 0 < 128 → BlockForm row s false kindCompact 4
   unfolding isExtended kindOf sizeOf pick
   compact-form h g =
       let e = ne-eqb row row21041 h in
       let f = lt-leb 128 (byteAt s 0) g in
       record { is-extended = simp (e, f); is-kind = simp (e, f); is-size = simp (e, f) }
 
-pub form-21041 : (s : List ℕ) → Form row21041 s false kind21041 (siaSize (byteAt s 0))
+pub form-21041 : (s : List ℕ) → BlockForm row21041 s false kind21041 (siaSize (byteAt s 0))
 unfolding isExtended kindOf sizeOf pick
 form-21041 s = record { is-extended = refl; is-kind = refl; is-size = refl }
 
-module _ (level : ℕ) {row : ℕ} {s : List ℕ} {extended : Bool} {kind size : ℕ} (form : Form row s extended kind size) where
+module _ (level : ℕ) {row : ℕ} {s : List ℕ} {extended : Bool} {kind size : ℕ} (form : BlockForm row s extended kind size) where
   pub past-end : length s < size → Refused 13 ≡ blockOf row level s
   unfolding blockOf refusalOf causes firstMet answered pick
   past-end h = simp (form .is-size, lt-ltb (length s) size h)

@@ -8,6 +8,7 @@ use chip::ROW_21041;
 use chip::is_permitted;
 use rom::ByteOffset;
 use rom::NONE;
+use rom::count_at;
 use rom::refusal;
 use search::is_in;
 ghost use mathlib.Core.Path.{_≡_};
@@ -114,13 +115,6 @@ pub fn mode_of(block: Block) -> u8
         Block::Unknown { size: _ } => 0,
         Block::Refused(_) => 0,
     }
-}
-
-// A byte of the rest of a leaf as a count, 0 past the end.
-fn count_at(rest: &[u8], at: usize) -> usize
-    ensures { λ r. ⌜ (r ≡ byteAt (now (rest .entry)) at) × (r < 256) ⌝ }
-{
-    rom::byte_at(rest, ByteOffset(at)) as usize
 }
 
 // Bit k of a word.

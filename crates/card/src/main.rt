@@ -2,8 +2,8 @@
 // proved crates below it; this one reads files, and prints.
 mod conversion;
 mod file;
-mod packet;
 mod sheets;
+mod wake;
 
 use console::arguments;
 use console::arguments::Words;
@@ -147,7 +147,7 @@ fn run_on(bytes: &[u8], words: Words) -> u8 {
 fn write_magic(input: Input, words: Words) -> u8 {
     let size = layout_of(words, input.length).size;
     let places = words.places;
-    packet::write(
+    wake::write(
         input,
         size,
         words.sized,

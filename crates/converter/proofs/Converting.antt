@@ -11,7 +11,7 @@ use lib.Dec.{ltb}
 use borrow.Author.Tests.{ltb-false, lt-ltb, le-ltb}
 use Rattle.rom.specs.Bytes.{pick}
 use Rattle.rom.specs.Store.{put, laid}
-use Rattle.rom.proofs.Put.{put-length, joined, laid-put}
+use Rattle.rom.proofs.Put.{put-length, put-joined, laid-put}
 use Rattle.rom.proofs.Truth.{true-false, or-false}
 use Rattle.sheet.specs.declared.Form.{Form}
 use Rattle.sheet.specs.declared.Form.the-variants.{Narrow, Wide}
@@ -93,14 +93,14 @@ module _ (from : Form) (s : List ℕ) (is : isSheet from s ≡ true) (start to :
       let a : one ≡ put buffer 0 c = e₁ ∙ ap (laid buffer 0) same ∙ laid-put buffer 0 c (omega (arith, l)) in
       let m : length one ≡ length buffer = ap length a ∙ put-length buffer 0 c (omega (arith, l)) in
       let b : two ≡ put one to (content from s) = e₂ ∙ ap (laid one to) rest-is ∙ laid-put one to (content from s) (omega (arith, m)) in
-      joined buffer 0 c (content from s) a b (omega (arith, l)) (omega (arith, l))
+      put-joined buffer 0 c (content from s) a b (omega (arith, l)) (omega (arith, l))
 
 -- ## What is answered and left
 
-pub refused-done : (from : Form) (s buffer : List ℕ) {n : ℕ} {m : Made} → m ≡ refusedMade n → (n ≡ 0 → ⊥)
+pub refused-conversion : (from : Form) (s buffer : List ℕ) {n : ℕ} {m : Made} → m ≡ refusedMade n → (n ≡ 0 → ⊥)
     → n ≡ convertNumber from s (length buffer) → (m ≡ convertedFor from s (length buffer)) × (buffer ≡ convertedIn from s buffer)
 unfolding convertedFor convertLength convertedIn
-refused-done from s buffer em z en = refused-leaves (convertNumber from s (length buffer)) (converted from s) buffer em z en
+refused-conversion from s buffer em z en = refused-leaves (convertNumber from s (length buffer)) (converted from s) buffer em z en
 
 pub convert-24 : (from : Form) (s : List ℕ) (room : ℕ) → isSheet from s ≡ false → 24 ≡ convertNumber from s room
 convert-24 from s room h = sym (converter-order from s room .0 h)

@@ -1,6 +1,3 @@
+pub mod Turns
 pub mod Tabulated
-pub mod Xor
-pub mod Eight
 pub mod Mirror
-pub mod Answers
-pub mod Worked

@@ -9,9 +9,10 @@ use native.Mathlib.Omega.{arith}
 use lib.Bits.{bitXor, xor-block, xor-zero-r}
 use lib.Pow.{shl-shr, shr-shr, shr-lt, field, mod-mod-pow}
 use lib.Dec.{lit<}
-use Rattle.crc.specs.Crc.{xorIf, step, ones, sromPolynomial, sromBits, sromBytes, reversed}
+use Rattle.checksum.specs.Crc.{xorIf, step, ones, sromPolynomial, sromBits, sromBytes, reversed}
 use Rattle.crc.specs.Inside.{reflected, turn, turns, bitsIn, bytesIn}
-use Rattle.crc.proofs.Xor.{xor-half, xor-odd, odd-lt, step-lt, bitsIn-turns}
+use Rattle.checksum.proofs.Xor.{xor-half, xor-odd, odd-lt, step-lt}
+use Rattle.crc.proofs.Turns.{bitsIn-turns}
 use lib.ListN.{length, take, drop, getD}
 use lib.Seq.{drop-cons, getD-take, length-take-le, drop-length}
 

@@ -4,7 +4,7 @@ use mathlib.Core.List.{List, [], _∷_}
 use Prim.Native.Nat.{ℕ, zero, suc, _/_, _%_}
 use lib.Bits.{bitXor}
 use Rattle.rom.specs.Bytes.{valuesFrom}
-use Rattle.crc.specs.Crc.{xorIf, crc8Bits}
+use Rattle.checksum.specs.Crc.{xorIf, crc8Bits}
 
 -- ## The register in reverse
 

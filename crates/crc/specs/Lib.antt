@@ -1,4 +1,1 @@
-pub mod Crc
-pub mod Answer
-pub mod Claims
 pub mod Inside

@@ -4,7 +4,7 @@ use rom::WordNumber;
 ghost use mathlib.Core.Path.{_≡_};
 ghost use Prim.Native.Nat.{_+_, _-_, _*_, _<_, _≤_};
 ghost use lib.ListN.{length};
-ghost use Rattle.crc.specs.Crc.{crc8Bits, word, crc8Words, crc8};
+ghost use Rattle.checksum.specs.Crc.{crc8Bits, word, crc8Words, crc8};
 ghost use Rattle.crc.specs.Inside.{crc8Table};
 
 // What eight steps make of each register.

@@ -2,17 +2,11 @@
 mod crc8;
 mod srom;
 
+pub use checksum::Checksum;
 use rom::Layout;
 use rom::WordNumber;
 ghost use mathlib.Core.Path.{_≡_};
-ghost use Rattle.crc.specs.Answer.{sromAnswer, idAnswer, magicAnswer};
-
-// A CRC, or a refusal's number and 0.
-#[repr(C)]
-pub struct Checksum {
-    pub number: u8,
-    pub value: u16,
-}
+ghost use Rattle.checksum.specs.Answer.{sromAnswer, idAnswer, magicAnswer};
 
 // The CRC that the last word of an image's board should hold.
 pub fn srom_crc(image: &[u8], layout: Layout) -> Checksum

@@ -5,7 +5,7 @@ ghost use Prim.Native.Nat.{_≤_};
 ghost use lib.Bits.{bitXor};
 ghost use lib.ListN.{length, take};
 ghost use Rattle.rom.specs.Geometry.{checkedLength};
-ghost use Rattle.crc.specs.Crc.{sromBytes, reversed, ones, sromCrc};
+ghost use Rattle.checksum.specs.Crc.{sromBytes, reversed, ones, sromCrc};
 ghost use Rattle.crc.specs.Inside.{reflected, turns, sromTable};
 
 // What eight steps make of each value of the eight lowest bits.

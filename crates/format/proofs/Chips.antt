@@ -44,9 +44,9 @@ pub no-later : (row code : ℕ) → isIn code laterCodes ≡ true → isRead fir
 unfolding isRead pick
 no-later row code e = ap (λ (t : Bool). not t && isConnection row (takenAs code)) e
 
-other : (row code : ℕ) → isIn code (firstCodes ++ laterCodes) ≡ false → isRead firstEdition row code ≡ isRead laterEdition row code
+other-codes : (row code : ℕ) → isIn code (firstCodes ++ laterCodes) ≡ false → isRead firstEdition row code ≡ isRead laterEdition row code
 unfolding isRead takenAs isIn firstCodes laterCodes pick
-other row code e =
+other-codes row code e =
     let a = or-false (eqb 0x0200 code) _ e in
     let b = or-false (eqb 0x0203 code) _ (a .1) in
     rw (
@@ -57,4 +57,4 @@ other row code e =
 
 pub each-its-own : EachItsOwn
 unfolding isRead takenAs isIn firstCodes laterCodes pick
-each-its-own row = (refl, refl, refl, refl, λ code. refl, no-first row 0x0200 refl, no-first row 0x0203 refl, other row)
+each-its-own row = (refl, refl, refl, refl, λ code. refl, no-first row 0x0200 refl, no-first row 0x0203 refl, other-codes row)

@@ -44,25 +44,25 @@ in-row p (a ∷ rows) t (suc row) x h = in-row p rows (both-right (every p a) (e
 
 -- ## Two tables whose rows have the same members, as a padded row and the row that it pads
 
-abbrev alike : List ℕ → List ℕ → Bool
-alike a b = every (λ x. isIn x b) a && every (λ x. isIn x a) b
+abbrev sameRow : List ℕ → List ℕ → Bool
+sameRow a b = every (λ x. isIn x b) a && every (λ x. isIn x a) b
 
 abbrev pub all-alike : List (List ℕ) → List (List ℕ) → Bool
 all-alike [] [] = true
 all-alike [] (b ∷ vs) = false
 all-alike (a ∷ us) [] = false
-all-alike (a ∷ us) (b ∷ vs) = alike a b && all-alike us vs
+all-alike (a ∷ us) (b ∷ vs) = sameRow a b && all-alike us vs
 
 pub same-members : (us vs : List (List ℕ)) → T (all-alike us vs) → (row x : ℕ) → isIn x (getD us row []) ≡ isIn x (getD vs row [])
 same-members [] [] t row x = refl
 same-members [] (b ∷ vs) t row x = absurd t
 same-members (a ∷ us) [] t row x = absurd t
 same-members (a ∷ us) (b ∷ vs) t zero x =
-    let here = both-left (alike a b) (all-alike us vs) t in
+    let here = both-left (sameRow a b) (all-alike us vs) t in
     equal (isIn x a) (isIn x b)
     (member (λ x. isIn x b) x a (both-left (every (λ x. isIn x b) a) (every (λ x. isIn x a) b) here))
     (member (λ x. isIn x a) x b (both-right (every (λ x. isIn x b) a) (every (λ x. isIn x a) b) here))
-same-members (a ∷ us) (b ∷ vs) t (suc row) x = same-members us vs (both-right (alike a b) (all-alike us vs) t) row x
+same-members (a ∷ us) (b ∷ vs) t (suc row) x = same-members us vs (both-right (sameRow a b) (all-alike us vs) t) row x
 
 -- past the last row nothing is listed
 pub past : (vs : List (List ℕ)) (row x : ℕ) → length vs ≤ row → false ≡ isIn x (getD vs row [])

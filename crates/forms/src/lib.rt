@@ -7,7 +7,6 @@ use sheet::Made;
 ghost use mathlib.Core.Path.{_≡_};
 ghost use Prim.Native.Nat.{_<_, _≤_};
 ghost use lib.ListN.{length};
-ghost use Rattle.rom.specs.Bytes.{byteAt};
 ghost use Rattle.rom.specs.Store.{laid};
 ghost use Rattle.sheet.specs.Lists.{sum};
 ghost use Rattle.sheet.specs.Form.{formNamed, isWide, isBeyond, other, shift, shifted, largest, countIn, totalIn, countsOf};
@@ -110,13 +109,6 @@ pub fn put_counts(out: &mut [u8], form: Form, count: u16, total: u16)
     }
 }
 
-// A byte as a count, 0 past the end.
-pub fn count_at(bytes: &[u8], at: usize) -> usize
-    ensures { λ r. ⌜ (r ≡ byteAt (now (bytes .entry)) at) × (r < 256) ⌝ }
-{
-    rom::byte_at(bytes, ByteOffset(at)) as usize
-}
-
 // The sum of body sizes.
 fn sum_of(sizes: &[u8]) -> usize
     requires { ⌜ length (now sizes) < 65536 ⌝ }
@@ -125,7 +117,7 @@ fn sum_of(sizes: &[u8]) -> usize
     let mut total: usize = 0;
     let mut i = 0;
     while i < sizes.len() {
-        total += count_at(sizes, i);
+        total += rom::count_at(sizes, i);
         i += 1;
     }
     total

@@ -4,25 +4,26 @@ use native.Mathlib.Omega.{arith}
 use mathlib.Core.List.{List, _++_}
 use mathlib.Core.Path.{_≡_, refl, ap, sym, _∙_}
 use mathlib.Core.Bool.{Bool, true, false, _||_, not}
-use lib.Dec.{eqb, leb, ltb, lit<, eqb·suc-zero}
+use lib.Dec.{eqb, leb, ltb, eqb·suc-zero}
 use lib.ListN.{length, take, drop, length-drop, drop-of-length-le}
 use lib.Seq.{take-all, take-nil, drop-length}
-use borrow.Author.Tests.{eq-eqb, ne-eqb, le-leb, lt-leb, lt-ltb, le-ltb, ltb-false, eqb-true, eqb-false}
+use borrow.Author.Tests.{eq-eqb, ne-eqb, le-leb, lt-leb, lt-ltb, le-ltb, eqb-true, eqb-false}
 use Rattle.rom.specs.declared.Layout.{Layout}
-use Rattle.rom.specs.Geometry.{wrongLength, imageLength, leavesEnd, mostControllers}
+use Rattle.rom.specs.Geometry.{wrongLength, leavesEnd, mostControllers}
 use Rattle.rom.specs.Bytes.{pick, byteAt, wordAt, isIn}
-use Rattle.rom.specs.Refusal.{firstMet, Numbered}
-use Rattle.rom.proofs.First.{numbered-append, none-here, after-accepted, after-refused, both-accepted}
-use Rattle.rom.proofs.Truth.{or-false}
-use Rattle.rom.proofs.Layouts.{geometry, right-length}
-use Rattle.magic.specs.Answer.{magicLengthCause, magicBlockCauses, magicReadCauses, magicReadNumber}
+use Rattle.rom.specs.Refusal.{firstMet}
+use Rattle.rom.proofs.First.{after-accepted, after-refused}
+use Rattle.rom.proofs.Layouts.{geometry}
+use Rattle.packet.specs.Answer.{magicLengthCause, magicBlockCauses, magicReadCauses, magicReadNumber}
 use Rattle.format.specs.Chips.{chips, placeOf, rowOf}
 use Rattle.format.proofs.Lists.{in-place}
-use Rattle.header.specs.declared.Arguments.{Arguments}
+use Rattle.image.specs.declared.Arguments.{Arguments}
 use Rattle.header.specs.declared.Header.{Header}
-use Rattle.header.specs.Image.{versions, controllerCount, reservedAt, baseAddress, addressOf, headerLength, controlByte, blocksAt}
-use Rattle.header.specs.Image.{blockCount, badCount, magicCauses, imageCauses, argumentCauses, leafHeaderCauses}
-use Rattle.header.specs.Header.{rowFor, editionFor, leafFor, startFor, countFor, headerCauses, noHeader, foundHeader, headerFor}
+use Rattle.image.specs.Image.{versions, controllerCount, reservedAt, baseAddress, addressOf, headerLength, controlByte, blocksAt}
+use Rattle.image.specs.Image.{blockCount, badCount, magicCauses, imageCauses, argumentCauses, leafHeaderCauses}
+use Rattle.image.specs.Arguments.{rowFor, editionFor, leafFor, countFor, headerCauses}
+use Rattle.image.proofs.Causes.{image-numbered, argument-numbered, whole-image, start-fits}
+use Rattle.header.specs.Header.{noHeader, foundHeader, headerFor}
 
 -- ## The image alone
 
@@ -57,15 +58,6 @@ module _ (l : Layout) (image : List ℕ) where
   unfolding badCount
   count-fine n h = simp (ne-eqb (controllerCount image) 0 n, le-ltb (mostControllers l) (controllerCount image) h)
 
-  pub magic-numbered : Numbered (magicCauses l image)
-  unfolding magicCauses
-  magic-numbered = (lit< tt, (lit< tt, tt))
-
-  -- the block is judged only where it is said to be there
-  pub no-magic : l .magic ≡ false → 0 ≡ firstMet (magicCauses l image)
-  unfolding magicCauses firstMet pick
-  no-magic e = rw e
-
   pub magic-judged : wrongLength (l .size) (length image) ≡ false → l .magic ≡ true
       → magicReadNumber (l .size) image ≡ firstMet (magicCauses l image)
   unfolding magicCauses firstMet pick magicReadNumber magicReadCauses magicBlockCauses magicLengthCause
@@ -95,7 +87,7 @@ module _ (end leaf reserved row : ℕ) where
   pub in-bounds : reserved < leaf → blocksAt row leaf ≤ end → (leb leaf reserved || ltb end (blocksAt row leaf)) ≡ false
   in-bounds h g = simp (lt-leb leaf reserved h, le-ltb end (blocksAt row leaf) g)
 
--- ## The leaf's rest, where the image or the leaves end before it, and where the image ends inside it
+-- ## The image up to where leaves end, where the image or the leaves end before it, and where the image ends inside it
 
 module _ (s : List ℕ) (end start : ℕ) where
   pub rest-past : length s < start → take (length s - length s) (drop (length s) s) ≡ take (end - start) (drop start s)
@@ -112,26 +104,7 @@ module _ (s : List ℕ) (end start : ℕ) where
 
 -- ## The whole header
 
-pub image-numbered : (l : Layout) (image : List ℕ) → Numbered (imageCauses l image)
-unfolding imageCauses magicCauses
-image-numbered l image = (lit< tt, (lit< tt, (lit< tt, (lit< tt, (lit< tt, (lit< tt, (lit< tt, tt)))))))
-
-pub argument-numbered : (image : List ℕ) (a : Arguments) → Numbered (argumentCauses image a)
-unfolding argumentCauses
-argument-numbered image a = (lit< tt, (lit< tt, (lit< tt, (lit< tt, (lit< tt, tt)))))
-
-leaf-header-numbered : (l : Layout) (image : List ℕ) (edition : Bool) (row leaf : ℕ) → Numbered (leafHeaderCauses l image edition row leaf)
-unfolding leafHeaderCauses
-leaf-header-numbered l image edition row leaf = (lit< tt, (lit< tt, tt))
-
 module _ (image : List ℕ) (a : Arguments) where
-  pub header-numbered : Numbered (headerCauses image a)
-  unfolding headerCauses
-  header-numbered =
-      numbered-append (imageCauses (a .layout) image) _ (image-numbered (a .layout) image)
-      (numbered-append (argumentCauses image a) _ (argument-numbered image a)
-      (leaf-header-numbered (a .layout) image (editionFor image a) (rowFor a) (leafFor image a)))
-
   -- a refusal of the image, of the arguments or of the leaf's header is the header's; without any, the header is found
   refused-by : (n : ℕ) → (n ≡ 0 → ⊥) → firstMet (headerCauses image a) ≡ n → noHeader n ≡ headerFor image a
   unfolding headerFor pick
@@ -173,7 +146,7 @@ pub leaf-met : (image : List ℕ) (a : Arguments) {n row leaf : ℕ} {edition : 
 leaf-met image a er el ee e = rw (er, el, ee) at e
 
 -- the fields, as they are read
-pub fields : (image : List ℕ) (a : Arguments) (row leaf header connection control base blocks : ℕ)
+pub fields-read : (image : List ℕ) (a : Arguments) (row leaf header connection control base blocks : ℕ)
     → row ≡ rowFor a → leaf ≡ leafFor image a → header ≡ headerLength row → connection ≡ wordAt image leaf
     → control ≡ controlByte image row leaf → base ≡ baseAddress image → blocks ≡ byteAt image (leaf + header - 1)
     → record {
@@ -186,7 +159,7 @@ pub fields : (image : List ℕ) (a : Arguments) (row leaf header connection cont
       blocks = blocks;
     } ≡ foundHeader image a
 unfolding foundHeader blocksAt blockCount addressOf
-fields image a row leaf header connection control base blocks er el eh ec eo eb en = rw (ec, eo, eb, en, eh, el, er)
+fields-read image a row leaf header connection control base blocks er el eh ec eo eb en = rw (ec, eo, eb, en, eh, el, er)
 
 -- ## An accepted header
 
@@ -202,22 +175,6 @@ module _ (image : List ℕ) (a : Arguments) where
   header-accepted : firstMet (headerCauses image a) ≡ 0 → headerFor image a ≡ foundHeader image a
   unfolding headerFor pick
   header-accepted e = rw e
-
-  pub right-image : firstMet (headerCauses image a) ≡ 0 → wrongLength (a .layout .size) (length image) ≡ false
-  unfolding headerCauses imageCauses
-  right-image e =
-      let i = both-accepted (imageCauses (a .layout) image) _ (image-numbered (a .layout) image) e .0 in
-      none-here _ _ (lit< tt) i .0
-
-  pub whole-image : firstMet (headerCauses image a) ≡ 0 → length image ≡ imageLength (a .layout .size)
-  whole-image e = right-length (a .layout .size) (length image) (right-image e)
-
-  pub start-fits : firstMet (headerCauses image a) ≡ 0 → startFor image a ≤ leavesEnd (a .layout)
-  unfolding headerCauses leafHeaderCauses
-  start-fits e =
-      let g = both-accepted (imageCauses (a .layout) image) _ (image-numbered (a .layout) image) e .1 in
-      let l = both-accepted (argumentCauses image a) _ (argument-numbered image a) g .1 in
-      ltb-false (leavesEnd (a .layout)) (startFor image a) (or-false (leb (leafFor image a) _) _ (none-here _ _ (lit< tt) l .0) .1)
 
 -- The header that the code has read.
 module _ (image : List ℕ) (a : Arguments) (h : Header) (eh : h ≡ headerFor image a) where

@@ -1,21 +1,23 @@
 // An image's header, and the header of a controller's leaf (document 01, 'The image'; document 02, request 12).
 use block::chip;
+pub use image::Arguments;
 use rom::ByteOffset;
 use rom::Layout;
 use rom::refusal;
 ghost use mathlib.Core.Path.{_≡_};
 ghost use mathlib.Core.Bool.{not, false, _&&_};
-ghost use Prim.Native.Nat.{_+_, _*_, _^_, _<_, _≤_};
+ghost use Prim.Native.Nat.{_+_, _*_, _^_, _<_, _≤_, min};
 ghost use lib.Dec.{eqb};
 ghost use lib.ListN.{length};
 ghost use Rattle.rom.specs.Geometry.{wrongLength, checkedLength, idCrcAt, versionAt};
 ghost use Rattle.rom.specs.Bytes.{byteAt, wordAt, isIn};
 ghost use Rattle.rom.specs.Refusal.{firstMet};
 ghost use Rattle.format.specs.Chips.{firstChips};
-ghost use Rattle.crc.specs.Crc.{sromCrc, idCrc};
-ghost use Rattle.header.specs.Image.{versions, isFirstVersion, controllerCount, reservedAt, baseAddress, headerLength, controlByte};
-ghost use Rattle.header.specs.Image.{restFrom, badCount, magicCauses, imageCauses, argumentCauses, leafHeaderCauses};
-ghost use Rattle.header.specs.Header.{rowFor, leafFor, noHeader, foundHeader, headerFor};
+ghost use Rattle.checksum.specs.Crc.{sromCrc, idCrc};
+ghost use Rattle.image.specs.Image.{versions, isFirstVersion, controllerCount, reservedAt, baseAddress, headerLength, controlByte};
+ghost use Rattle.image.specs.Image.{upToLeavesEnd, badCount, magicCauses, imageCauses, argumentCauses, leafHeaderCauses};
+ghost use Rattle.image.specs.Arguments.{rowFor, leafFor};
+ghost use Rattle.header.specs.Header.{noHeader, foundHeader, headerFor};
 
 // Version 1, whose connection codes the caller's edition decides, and the later ones.
 const FIRST_VERSION: u8 = 1;
@@ -23,17 +25,6 @@ const FIRST_VERSION: u8 = 1;
 const NEXT_VERSION: u8 = 3;
 
 const LAST_VERSION: u8 = 4;
-
-// What a reading is told beside the image: the chip by its decimal number, the controller from 0, the reader's level, how the
-// image is laid out, and whether one of version 1 is of edition 1.00, else 1.01.
-#[repr(C)]
-pub struct Arguments {
-    pub chip: u16,
-    pub controller: u8,
-    pub level: u8,
-    pub layout: Layout,
-    pub first_edition: bool,
-}
 
 // What the header says of a controller's leaf, or a refusal's number and zeros. The row is the chip's, and start is where
 // the first block stands.
@@ -47,7 +38,7 @@ pub struct Header {
     pub blocks: u8,
 }
 
-fn refused(number: u8) -> Header
+fn refused_header(number: u8) -> Header
     ensures { λ r. ⌜ r ≡ noHeader number ⌝ }
 {
     Header {
@@ -296,11 +287,11 @@ pub fn read_header(image: &[u8], arguments: Arguments) -> Header
     let layout = arguments.layout;
     let number = image_refusal(image, layout);
     if number != refusal::ACCEPTED {
-        return refused(number);
+        return refused_header(number);
     }
     let number = argument_refusal(image, arguments);
     if number != refusal::ACCEPTED {
-        return refused(number);
+        return refused_header(number);
     }
     let row = chip::row_of(arguments.chip);
     let controller = arguments.controller as usize;
@@ -308,14 +299,16 @@ pub fn read_header(image: &[u8], arguments: Arguments) -> Header
     let first_edition = is_first_edition(image, arguments.first_edition);
     let number = leaf_refusal(image, layout, first_edition, row, leaf);
     if number != refusal::ACCEPTED {
-        return refused(number);
+        return refused_header(number);
     }
     header_at(image, arguments, row, leaf)
 }
 
-// The leaf's rest from its first block on, as part of the image.
-pub fn rest_from(image: &[u8], layout: Layout, start: usize) -> &[u8]
-    ensures { λ r. ⌜ now r ≡ restFrom layout (now (image .entry)) start ⌝ }
+// The image from a byte on, up to where leaves end, as part of it: its bytes, and that they are the image's own, from that byte.
+// Behind the image's end there are none.
+pub fn up_to_leaves_end(image: &[u8], layout: Layout, start: usize) -> &[u8]
+    ensures { λ r. ⌜ now r ≡ upToLeavesEnd layout (now (image .entry)) start ⌝ }
+    ensures { λ r. ⌜ r .ptr ≡ (image .entry .ptr .0, min start (length (now (image .entry))) + image .entry .ptr .1) ⌝ }
 {
     let end = layout.leaves_end();
     let length = image.len();

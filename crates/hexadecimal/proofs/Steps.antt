@@ -18,7 +18,7 @@ use Rattle.hexadecimal.specs.Held.{withGroup, closed, pushed, repeatedFr
 use Rattle.hexadecimal.specs.Text.{rowFrom, lineRead, linesRead, finished}
 use Rattle.hexadecimal.specs.declared.group.Group.{Group}
 use Rattle.hexadecimal.specs.declared.held.Held.{Held}
-use Rattle.hexadecimal.specs.declared.Reading.{Reading}
+use Rattle.hexadecimal.specs.declared.DecodedText.{DecodedText}
 
 drop-step : (s : List ℕ) (i : ℕ) → i < length s → drop i s ≡ byteAt s i ∷ drop (i + 1) s
 drop-step s i h = rw (add-one, drop-cons s i 0)
@@ -80,8 +80,8 @@ module _ (at : ℕ) (h r : Held) where
 
 -- ## Lines: x is read of the first line
 
-module _ (s : List ℕ) (r t : Reading) (e : linesRead (linesOf s) r ≡ t) where
-  module _ {x : Reading} {line : List ℕ} (h : 0 < length s) (el : line ≡ lineOf s) (ex : x ≡ lineRead line r) where
+module _ (s : List ℕ) (r t : DecodedText) (e : linesRead (linesOf s) r ≡ t) where
+  module _ {x : DecodedText} {line : List ℕ} (h : 0 < length s) (el : line ≡ lineOf s) (ex : x ≡ lineRead line r) where
     one : x ≡ lineRead (lineOf s) r
     one = rw el at ex
 

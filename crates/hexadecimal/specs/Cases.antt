@@ -6,7 +6,7 @@ use lib.ListN.{take, replicate}
 use Rattle.text.specs.Quoted.{quoted}
 use Rattle.hexadecimal.specs.Held.{noOffset, wrongOffset, noByte, noBytes}
 use Rattle.hexadecimal.specs.Text.{decoded}
-use Rattle.hexadecimal.specs.declared.Reading.{Reading}
+use Rattle.hexadecimal.specs.declared.DecodedText.{DecodedText}
 
 -- what is found of a text: a problem or 0, the lines read, the bytes
 pub record Found : Type 0 where
@@ -14,7 +14,7 @@ pub record Found : Type 0 where
   pub lines : ℕ
   pub bytes : List ℕ
 
-unfoldable pub foundIn : Reading → Found
+unfoldable pub foundIn : DecodedText → Found
 foundIn r = record { problem = r .held .problem; lines = r .line; bytes = take (r .held .length) (r .held .bytes) }
 
 -- a text and what is found of it

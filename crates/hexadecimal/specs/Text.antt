@@ -24,7 +24,7 @@ use Rattle.hexadecimal.specs.Held.{fine, noOffset, wrongOffset, noBytes,
 use Rattle.hexadecimal.specs.declared.group.Group.{Group}
 use Rattle.hexadecimal.specs.declared.held.Held.{Held}
 use Rattle.hexadecimal.specs.declared.mode.Mode.{Mode}
-use Rattle.hexadecimal.specs.declared.Reading.{Reading}
+use Rattle.hexadecimal.specs.declared.DecodedText.{DecodedText}
 
 -- ## How the lines read. A line comes without the blanks before it.
 
@@ -80,11 +80,11 @@ withLine before after line h =
 
 -- ## The text
 
-unfoldable pub unread : Reading
+unfoldable pub unread : DecodedText
 unread = record { held = nothingHeld; mode = unreadMode; line = 0 }
 
 -- one line more, with the blanks before it
-unfoldable pub lineRead : List ℕ → Reading → Reading
+unfoldable pub lineRead : List ℕ → DecodedText → DecodedText
 lineRead line r = record {
   held = withLine (r .mode) (modeAfter (r .mode) (withoutBlanks line)) (withoutBlanks line) (r .held);
   mode = modeAfter (r .mode) (withoutBlanks line);
@@ -92,15 +92,15 @@ lineRead line r = record {
 }
 
 -- the lines one after another, up to one with which something is wrong
-unfoldable pub linesRead : List (List ℕ) → Reading → Reading
+unfoldable pub linesRead : List (List ℕ) → DecodedText → DecodedText
 linesRead [] r = r
 linesRead (line ∷ lines) r = pick (eqb (lineRead line r .held .problem) fine) (linesRead lines (lineRead line r)) (lineRead line r)
 
 -- a text has a byte at least
-unfoldable pub finished : Reading → Reading
+unfoldable pub finished : DecodedText → DecodedText
 finished r =
     pick (eqb (r .held .problem) fine && eqb (r .held .length) 0)
     (record { held = faulted noBytes (r .held); mode = r .mode; line = r .line }) r
 
-unfoldable pub decoded : List ℕ → Reading
+unfoldable pub decoded : List ℕ → DecodedText
 decoded source = finished (linesRead (linesOf source) unread)

@@ -42,16 +42,16 @@ pub const NO_BYTES: u8 = 5;
 // ## The text
 
 // What has been read of a text: its bytes, how its lines read, and how many lines that is.
-pub struct Reading {
+pub struct DecodedText {
     pub held: Held,
     pub mode: Mode,
     pub line: u32,
 }
 
-fn nothing_read() -> Reading
+fn nothing_read() -> DecodedText
     ensures { λ r. ⌜ r ≡ unread ⌝ }
 {
-    Reading {
+    DecodedText {
         held: nothing_held(),
         mode: unread_mode(),
         line: 0,
@@ -59,14 +59,14 @@ fn nothing_read() -> Reading
 }
 
 // One line more.
-fn with_line_read(reading: Reading, line: &[u8]) -> Reading
+fn with_line_read(reading: DecodedText, line: &[u8]) -> DecodedText
     ensures { λ r. ⌜ r ≡ lineRead (now (line .entry)) reading ⌝ }
 {
     let line = without_blanks(line);
     let before = reading.mode;
     let after = mode_after(before, line);
     let held = reading.held;
-    Reading {
+    DecodedText {
         held: with_line(held, line, before, after),
         mode: after,
         line: wrapping_add_u32(reading.line, 1),
@@ -74,7 +74,7 @@ fn with_line_read(reading: Reading, line: &[u8]) -> Reading
 }
 
 // A text has a byte at least.
-fn finish(reading: Reading) -> Reading
+fn finish(reading: DecodedText) -> DecodedText
     ensures { λ r. ⌜ r ≡ finished reading ⌝ }
 {
     let held = reading.held;
@@ -85,7 +85,7 @@ fn finish(reading: Reading) -> Reading
         return reading;
     }
     let mode = reading.mode;
-    Reading {
+    DecodedText {
         held: faulted(held, NO_BYTES),
         mode,
         line: reading.line,
@@ -93,7 +93,7 @@ fn finish(reading: Reading) -> Reading
 }
 
 // The bytes of a text, or what is wrong with it and in which line, counted from 1.
-pub fn decode(source: &[u8]) -> Reading
+pub fn decode(source: &[u8]) -> DecodedText
     ensures { λ r. ⌜ r ≡ decoded (now (source .entry)) ⌝ }
 {
     let mut reading = nothing_read();

@@ -17,7 +17,7 @@ use Rattle.format.specs.Block.{sizeOf, causes, refusalOf, laterVersion}
 use Rattle.block.specs.Answer.{blockOf, numberOf, sizeIn}
 use Rattle.format.proofs.Exact.{causes-numbered}
 use Rattle.format.proofs.Levels.{causes-later}
-use Rattle.block.proofs.Seen.{Seen, seen, seen-number, seen-size, fits}
+use Rattle.block.proofs.Seen.{SeenAs, seen-as, seen-number, seen-size, fits}
 use Rattle.leaf.specs.Leaf.{cut, blockCauses, clashCause, modeCause, wholeCauses, leafCauses}
 use Rattle.leaf.specs.Claims.{ExactLeaf}
 
@@ -95,7 +95,7 @@ first-accepted row level s bs =
 pub size-fits : (row level : ℕ) (s : List ℕ) {b : Block} {n z : ℕ} → b ≡ blockOf row level s → n ≡ numberOf b → n ≡ 0 → z ≡ sizeIn b
     → z ≤ length s
 size-fits row level s {b} {n} {z} eb en e ez =
-    let v : Seen row level s b = rw eb (seen row level s) in
+    let v : SeenAs row level s b = rw eb (seen-as row level s) in
     let r : refusalOf row level s ≡ 0 = sym (seen-number v) ∙ sym en ∙ e in
     rw (ez, seen-size v (sym en ∙ e)) (fits row level s r)
 
@@ -108,8 +108,8 @@ module _ (row level count : ℕ) (rest : List ℕ) {i : ℕ} {b : Block}
       × (firstMet (blockCauses laterVersion row level (cut row (count - (i + 1)) (drop (sizeOf row rest) rest))) ≡ 0)
   next-accepted = first-accepted row level rest _ (rw cut-more at e)
 
-  pub next-seen : Seen row level rest b
-  next-seen = rw eb (seen row level rest)
+  pub next-seen : SeenAs row level rest b
+  next-seen = rw eb (seen-as row level rest)
 
   pub next-fine : numberOf b ≡ 0
   next-fine = seen-number next-seen ∙ next-accepted .0

@@ -1,7 +1,6 @@
 pub mod Cuts
 pub mod Stepping
 pub mod Tables
-pub mod Modes
-pub mod Counts
+pub mod Sorts
 pub mod Computes
 pub mod Worked

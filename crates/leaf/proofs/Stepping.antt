@@ -10,12 +10,12 @@ use lib.ListN.{length, drop, drop-of-length-le}
 use lib.Seq.{drop-drop, drop-cons}
 use Rattle.rom.specs.Refusal.{firstMet}
 use Rattle.format.specs.Block.{sizeOf, laterVersion}
-use Rattle.leaf.specs.Leaf.{cut, blockCauses, Place, placed, placeByStepping, startByStepping, runningStart}
+use Rattle.leaf.specs.Leaf.{cut, blockCauses, PlacedBlock, placed, placeByStepping, startByStepping, runningStart}
 use Rattle.leaf.specs.Claims.{PlacedByStepping, RunningStart}
 use Rattle.leaf.proofs.Cuts.{cut-more, first-accepted}
 
 -- the place behind a block
-abbrev next : ℕ → Place → Place
+abbrev next : ℕ → PlacedBlock → PlacedBlock
 next row p = record { start = p .start + sizeOf row (p .rest); rest = drop (sizeOf row (p .rest)) (p .rest) }
 
 step-more : (row at k : ℕ) (s : List ℕ) → placeByStepping row at (suc k) s ≡ next row (placeByStepping row at k s)
@@ -26,7 +26,7 @@ step-more row at (suc k) s = step-more row (at + sizeOf row s) k (drop (sizeOf r
 -- ## What a pass keeps: the next block's start and rest are those that stepping gives
 
 abbrev pub Stands : ℕ → ℕ → List ℕ → ℕ → ℕ → List ℕ → Type 0
-Stands row first s k at rest = _≡_ {A = Place} (record { start = at; rest = rest }) (placeByStepping row first k s)
+Stands row first s k at rest = _≡_ {A = PlacedBlock} (record { start = at; rest = rest }) (placeByStepping row first k s)
 
 pub stands-first : (row first : ℕ) (s : List ℕ) → Stands row first s 0 first s
 unfolding placeByStepping
@@ -73,7 +73,7 @@ running-start row first (suc k) image =
     let s = drop first image in
     ap (λ (n : ℕ). n + sizeOf row (drop n image)) (running-start row first k image)
     ∙ ap (λ (l : List ℕ). startByStepping row first k s + sizeOf row l) (sym (rest-here row first k s image refl))
-    ∙ ap (λ (p : Place). p .start) (sym (step-more row first k s))
+    ∙ ap (λ (p : PlacedBlock). p .start) (sym (step-more row first k s))
 
 -- ## What is placed
 
@@ -92,10 +92,10 @@ placed-stepping row at (suc count) (suc k) s d h = placed-stepping row (at + siz
 pub placed-more : (row first count k at : ℕ) (s rest : List ℕ) → Stands row first s k at rest → k < count
     → drop k (placed row first (cut row count s)) ≡ record { start = at; rest = rest } ∷ drop (k + 1) (placed row first (cut row count s))
 placed-more row first count k at s rest e h =
-    let d : Place = record { start = at; rest = rest } in
+    let d : PlacedBlock = record { start = at; rest = rest } in
     let l = placed row first (cut row count s) in
     drop-cons l k d (omega (arith, placed-length row first count s))
-    ∙ ap (λ (p : Place). p ∷ drop (suc k) l) (placed-stepping row first count k s d h ∙ sym e)
+    ∙ ap (λ (p : PlacedBlock). p ∷ drop (suc k) l) (placed-stepping row first count k s d h ∙ sym e)
     ∙ ap (λ (n : ℕ). d ∷ drop n l) (sym (add-one k))
 
 pub placed-none : (row first count k : ℕ) (s : List ℕ) → count ≤ k → drop k (placed row first (cut row count s)) ≡ []

@@ -6,9 +6,9 @@ use Rattle.leaf.specs.Cases.{startsFrom, runStepped, runKept, startsCase
 use Rattle.leaf.specs.Claims.{LeavesWorked, PowersWorked, FirstWorked, StartsWorked}
 use Rattle.leaf.proofs.Computes.{leaf-computes}
 
-pub worked : LeavesWorked
+pub leaves-worked : LeavesWorked
 unfolding leaf-computes imageAround firstBlockAt blocksOf runIn paperCases furtherCases
-worked = refl
+leaves-worked = refl
 
 pub powers-worked : PowersWorked
 unfolding leaf-computes imageAround firstBlockAt blocksOf runIn powerCases

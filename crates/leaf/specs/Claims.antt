@@ -7,7 +7,7 @@ use lib.ListN.{drop, getD}
 use Rattle.rom.specs.Refusal.{firstMet, Exact}
 use Rattle.format.specs.Block.{firstVersion, isListed, isReset, isPower, isSkipped}
 use Rattle.leaf.specs.Cases.{runIn, runLeaf, paperCases, furtherCases, powerCases, firstCases, runStepped, runKept, startsCases}
-use Rattle.leaf.specs.Leaf.{cut, countOf, leafCauses, Place, placed, placeByStepping, startByStepping, runningStart}
+use Rattle.leaf.specs.Leaf.{cut, countOf, leafCauses, PlacedBlock, placed, placeByStepping, startByStepping, runningStart}
 
 -- a leaf's refusal is exact: other than 0, its cause is met and none before it is; 0, none is met
 abbrev pub ExactLeaf : Type 0
@@ -22,7 +22,7 @@ SortsAddUp = (row level count : ℕ) (s : List ℕ) →
 
 -- each block is placed where stepping from the first one leads
 abbrev pub PlacedByStepping : Type 0
-PlacedByStepping = (row at count k : ℕ) (s : List ℕ) (d : Place) → k < count
+PlacedByStepping = (row at count k : ℕ) (s : List ℕ) (d : PlacedBlock) → k < count
     → getD (placed row at (cut row count s)) k d ≡ placeByStepping row at k s
 
 -- the start that is kept from block to block equals at each block the start that stepping from the first one gives, for blocks

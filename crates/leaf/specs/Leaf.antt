@@ -6,7 +6,7 @@ use mathlib.Core.Bool.{Bool, _||_, _&&_}
 use lib.ListN.{drop}
 use lib.Dec.{ltb}
 use Rattle.rom.specs.Geometry.{none}
-use Rattle.rom.specs.Bytes.{pick, one, anyBelow}
+use Rattle.rom.specs.Bytes.{pick, one, keep, anyBelow}
 use Rattle.rom.specs.Refusal.{Cause, _⇒_}
 use Rattle.format.specs.Block.{sizeOf, kindOf, isListed, isReset, isDefault, resetsPhy, setsMode, causes}
 
@@ -31,7 +31,7 @@ firstFrom p k (s ∷ bs) = pick (p s) k (firstFrom p (k + 1) bs)
 
 -- two type 5 blocks, or one and a PHY block with r above 0, or two defaults
 unfoldable pub clash : ℕ → ℕ → ℕ → Bool
-clash resets phys defaults = ltb 1 resets || ltb 0 resets && ltb 0 phys || ltb 1 defaults
+clash resets phyResets defaults = ltb 1 resets || ltb 0 resets && ltb 0 phyResets || ltb 1 defaults
 
 -- `first` is whether the image is of version 1
 unfoldable pub blockCauses : Bool → ℕ → ℕ → List (List ℕ) → List Cause
@@ -55,17 +55,17 @@ leafCauses first row level bs = blockCauses first row level bs ++ wholeCauses ro
 -- ## The table
 
 -- a block with its byte offset in the image
-pub record Place : Type 0 where
+pub record PlacedBlock : Type 0 where
   pub start : ℕ
   pub rest : List ℕ
 
 -- the blocks with their offsets, the first at `at`
-unfoldable pub placed : ℕ → ℕ → List (List ℕ) → List Place
+unfoldable pub placed : ℕ → ℕ → List (List ℕ) → List PlacedBlock
 placed row at [] = []
 placed row at (s ∷ bs) = record { start = at; rest = s } ∷ placed row (at + sizeOf row s) bs
 
 -- block k, found by k steps from the first, which stands at `at`: each goes on by the size of the block there
-unfoldable pub placeByStepping : ℕ → ℕ → ℕ → List ℕ → Place
+unfoldable pub placeByStepping : ℕ → ℕ → ℕ → List ℕ → PlacedBlock
 placeByStepping row at zero s = record { start = at; rest = s }
 placeByStepping row at (suc k) s = placeByStepping row (at + sizeOf row s) k (drop (sizeOf row s) s)
 
@@ -78,20 +78,16 @@ runningStart row first zero image = first
 runningStart row first (suc k) image =
     runningStart row first k image + sizeOf row (drop (runningStart row first k image) image)
 
-unfoldable pub keep : (Place → Bool) → List Place → List Place
-keep p [] = []
-keep p (b ∷ bs) = pick (p b) (b ∷ keep p bs) (keep p bs)
-
 -- listed blocks from the last to the first
-unfoldable pub table : ℕ → ℕ → List Place → List Place
+unfoldable pub table : ℕ → ℕ → List PlacedBlock → List PlacedBlock
 table row level bs = reverse (keep (λ b. isListed row level (b .rest)) bs)
 
 -- the table of so many blocks, of which the first stands at byte `at` of the image
-unfoldable pub tableOf : ℕ → ℕ → ℕ → ℕ → List ℕ → List Place
+unfoldable pub tableOf : ℕ → ℕ → ℕ → ℕ → List ℕ → List PlacedBlock
 tableOf row level count at s = table row level (placed row at (cut row count s))
 
-abbrev pub kindAt : ℕ → Place → ℕ
+abbrev pub kindAt : ℕ → PlacedBlock → ℕ
 kindAt row b = kindOf row (b .rest)
 
-abbrev pub startAt : Place → ℕ
+abbrev pub startAt : PlacedBlock → ℕ
 startAt b = b .start

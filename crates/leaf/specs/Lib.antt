@@ -2,4 +2,3 @@ pub mod Leaf
 pub mod Tally
 pub mod Cases
 pub mod Claims
-pub mod Inside

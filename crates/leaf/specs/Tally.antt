@@ -11,7 +11,7 @@ use Rattle.leaf.specs.Leaf.{countOf, firstFrom, leafCauses}
 
 -- a refusal's number and zeros
 unfoldable pub noTally : ℕ → Tally
-noTally n = record { number = n; listed = 0; resets = 0; skipped = 0; power = 0; phys = 0; defaults = 0; «default_number» = 0 }
+noTally n = record { number = n; listed = 0; resets = 0; skipped = 0; power = 0; «phy_resets» = 0; defaults = 0; «default_number» = 0 }
 
 unfoldable pub counts : ℕ → ℕ → List (List ℕ) → Tally
 counts row level bs = record {
@@ -20,7 +20,7 @@ counts row level bs = record {
   resets = countOf (isReset row level) bs;
   skipped = countOf (isSkipped row level) bs;
   power = countOf (isPower row level) bs;
-  phys = countOf (resetsPhy row level) bs;
+  «phy_resets» = countOf (resetsPhy row level) bs;
   defaults = countOf (isDefault row level) bs;
   «default_number» = firstFrom (isDefault row level) 0 bs;
 }

@@ -1,4 +1,6 @@
 // The Magic Packet block of an image: its reader and its writer (000, section 4; document 02, request 1).
+pub use packet::Magic;
+pub use packet::MagicAnswer;
 use rom::ByteOffset;
 use rom::refusal;
 use rom::store::put_byte;
@@ -10,23 +12,8 @@ ghost use lib.ListN.{length, take, drop, replicate};
 ghost use Rattle.rom.specs.Geometry.{wrongLength};
 ghost use Rattle.rom.specs.Bytes.{byteAt, wordAt};
 ghost use mathlib.Core.Bool.{false};
-ghost use Rattle.magic.specs.Block.{place, badCrc, badReserved, blockWith};
-ghost use Rattle.magic.specs.Answer.{magicReadNumber, noMagic, magicReading, magicWriteNumber, magicWritten};
-
-// What a block says: the SecureON password, the IEEE address that wakes the station, and the Magic command.
-#[repr(C)]
-pub struct Magic {
-    pub password: [u8; 6],
-    pub address: [u8; 6],
-    pub command: u16,
-}
-
-// What is read of a block, or a refusal's number and zeros.
-#[repr(C)]
-pub struct MagicAnswer {
-    pub number: u8,
-    pub magic: Magic,
-}
+ghost use Rattle.packet.specs.Block.{place, badCrc, badReserved, blockWith};
+ghost use Rattle.packet.specs.Answer.{magicReadNumber, noMagic, magicReading, magicWriteNumber, magicWritten};
 
 // ## Its fields, counted from its first byte
 
@@ -44,7 +31,7 @@ pub const CRC: u8 = 30;
 pub const LAST: u8 = 31;
 
 // Where a field stands in an image.
-pub fn place_of(size: u16, field: u8) -> usize
+pub fn field_at(size: u16, field: u8) -> usize
     ensures { λ r. ⌜ r ≡ place size field ⌝ }
 {
     rom::magic_at(size) + (field as usize)
@@ -161,7 +148,7 @@ pub fn read(image: &[u8], size: u16) -> MagicAnswer
 
 // ## Writing
 
-fn blank() -> [u8; rom::MAGIC_LENGTH]
+fn blank_block() -> [u8; rom::MAGIC_LENGTH]
     ensures { λ r. ⌜ r ≡ replicate 32 0 ⌝ }
 {
     [0; rom::MAGIC_LENGTH]
@@ -171,7 +158,7 @@ fn blank() -> [u8; rom::MAGIC_LENGTH]
 fn block_of(magic: Magic) -> [u8; rom::MAGIC_LENGTH]
     ensures { λ r. ⌜ r ≡ blockWith 0 magic ⌝ }
 {
-    let mut block = blank();
+    let mut block = blank_block();
     let password = magic.password;
     put_bytes(&mut block, ByteOffset(PASSWORD as usize), &password);
     let address = magic.address;

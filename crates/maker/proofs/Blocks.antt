@@ -16,7 +16,7 @@ use Rattle.format.specs.Chips.{newestLevel}
 use Rattle.format.specs.Block.{is21041, isExtended, lengthOf, siaSize, sizeOf, causes, refusalOf}
 use Rattle.block.proofs.Seen.{fits}
 use Rattle.block.proofs.Whole.{size-small}
-use Rattle.leaf.specs.Leaf.{Place, startByStepping}
+use Rattle.leaf.specs.Leaf.{PlacedBlock, startByStepping}
 use Rattle.leaf.proofs.Cuts.{cut-more, cut-none, rest-part, first-accepted}
 use Rattle.leaf.proofs.Stepping.{Passing, passing-first, passing-more}
 use Rattle.sheet.specs.Image.{openingLength, bodyOf, entryFrom}
@@ -36,7 +36,7 @@ opening-inside row s = go (is21041 row) (bit 6 (byteAt s 0)) (leb 128 (byteAt s 
     go false u true e = let n = eqb-false (byteAt s 0 % 128) 0 e in omega (arith, n)
     go false u false e = omega arith
 
-record Whole (row : ℕ) (s : List ℕ) : Type 0 where
+record FittingBlock (row : ℕ) (s : List ℕ) : Type 0 where
   pub inside : sizeOf row s ≤ length s
   pub opens : openingLength row s ≤ sizeOf row s
   pub small : sizeOf row s ≤ 128
@@ -52,9 +52,9 @@ some-length : (row : ℕ) (s : List ℕ) → refusalOf row newestLevel s ≡ 0 �
 unfolding refusalOf causes
 some-length row s e = or-false (isExtended row s && eqb (lengthOf s) 0) _ (none-here _ _ (lit< tt) (none-here _ _ (lit< tt) e .1) .0) .0
 
-whole : (row : ℕ) (s : List ℕ) → refusalOf row newestLevel s ≡ 0 → Whole row s
+fitting-block : (row : ℕ) (s : List ℕ) → refusalOf row newestLevel s ≡ 0 → FittingBlock row s
 unfolding bodyOf
-whole row s e =
+fitting-block row s e =
     let f = fits row newestLevel s e in
     let o = opening-inside row s (some-length row s e) in
     let n : openingLength row s + (sizeOf row s - openingLength row s) ≡ sizeOf row s = omega (arith, o) in
@@ -73,8 +73,8 @@ whole row s e =
 -- ## The blocks that are left, k of `count` being passed
 
 module _ (row : ℕ) (s : List ℕ) {count k : ℕ} where
-  next-block : AcceptedBlocks row (count - k) s → k < count → Whole row s
-  next-block e h = whole row s (first-accepted row newestLevel s _ (rw cut-more at e) .0)
+  next-block : AcceptedBlocks row (count - k) s → k < count → FittingBlock row s
+  next-block e h = fitting-block row s (first-accepted row newestLevel s _ (rw cut-more at e) .0)
 
   entries-more : k < count → entriesOf row (count - k) s ≡ entryFrom row s ∷ entriesOf row (count - (k + 1)) (drop (sizeOf row s) s)
   unfolding entriesOf
@@ -99,7 +99,7 @@ pub running-last : {row first count : ℕ} {leaves : List ℕ} {k start : ℕ} �
     → start ≡ startByStepping row first count (drop first leaves)
 running-last {row} {first} {count} {leaves} {k} p h =
     let e : k ≡ count = omega (arith, p .within) in
-    ap (λ (q : Place). q .start) (p .passing .stands) ∙ ap (λ (n : ℕ). startByStepping row first n (drop first leaves)) e
+    ap (λ (q : PlacedBlock). q .start) (p .passing .stands) ∙ ap (λ (n : ℕ). startByStepping row first n (drop first leaves)) e
 
 -- the rest from a start on, as the code takes it
 abbrev pub from : List ℕ → ℕ → List ℕ
@@ -117,10 +117,10 @@ pub record Turn (row first count : ℕ) (leaves : List ℕ) (k start size openin
       ≡ entryFrom row (drop start leaves) ∷ entriesOf row (count - (k + 1)) (drop (start + size) leaves)
   pub next : Running row first count leaves (k + 1) (start + size)
 
-pub turn : {row first count : ℕ} {leaves : List ℕ} {k start : ℕ} → Running row first count leaves k start → k < count
+pub next-turn : {row first count : ℕ} {leaves : List ℕ} {k start : ℕ} → Running row first count leaves k start → k < count
     → {size opening : ℕ} → size ≡ sizeOf row (from leaves start) → opening ≡ openingLength row (from leaves start)
     → Turn row first count leaves k start size opening
-turn {row} {first} {count} {leaves} {k} {start} p h {size} {opening} es eo =
+next-turn {row} {first} {count} {leaves} {k} {start} p h {size} {opening} es eo =
     let er = rest-part start leaves in
     let w = next-block row (drop start leaves) (p .passing .accepted) h in
     let z : size ≡ sizeOf row (drop start leaves) = rw er at es in

@@ -18,10 +18,10 @@ use Rattle.rom.proofs.Layouts.{geometry, small-length}
 use Rattle.rom.proofs.First.{after-accepted}
 use Rattle.rom.proofs.Truth.{pick-false}
 use Rattle.rom.proofs.Reached.{reached, end, stop, skip, among}
-use Rattle.rom.proofs.Put.{put-length, joined, laid-put}
+use Rattle.rom.proofs.Put.{put-length, put-joined, laid-put}
 use borrow.Rule.Slice.PartMut.{putMid}
 use Rattle.leaf.proofs.Cuts.{rest-part}
-use Rattle.header.specs.Image.{controllerCount, leafAt, restFrom}
+use Rattle.image.specs.Image.{controllerCount, leafAt, upToLeavesEnd}
 use Rattle.reader.specs.declared.Reading.{Reading}
 use Rattle.reader.specs.Reading.{judgeCauses, acceptedAnswer, acceptedReading, judgedReading}
 use Rattle.reader.proofs.Readings.{Accepted, accepted-judged, reading-number}
@@ -29,7 +29,7 @@ use Rattle.reader.proofs.Promised.{judge-numbered}
 use Rattle.sheet.specs.Lists.{over}
 use Rattle.sheet.specs.Layout.{idAt, chipAt, headLength}
 use Rattle.sheet.specs.Sheet.{bodyBytes, partsOf, contentOf, sheetOf}
-use Rattle.sheet.specs.Image.{leafStart, newestIn, imageFrom, leafEnd, upToLeavesEnd, isTidy}
+use Rattle.sheet.specs.Image.{leafStart, newestIn, imageFrom, leafEnd, isTidy}
 use Rattle.sheet.specs.Make.{sheetFor, makeCauses, makeNumber, makeLength, made, refusedMade, madeFor}
 use Rattle.sheet.specs.declared.Made.{Made}
 use Rattle.sheet.specs.declared.Form.{Form}
@@ -61,8 +61,8 @@ module _ (l : Layout) (from : ℕ) (image : List ℕ) {n : ℕ} (en : n ≡ byte
           ne-eqb (wordAt image (controllersAt + 1)) leafStart (λ e. z (ew ∙ e)),
         )
 
-    pub tidy-zeros : w ≡ leafStart → {b : Bool} → b ≡ allZero (restFrom l image from) → b ≡ isTidyFrom l from image
-    unfolding isTidyFrom controllerCount leafAt upToLeavesEnd restFrom
+    pub tidy-zeros : w ≡ leafStart → {b : Bool} → b ≡ allZero (upToLeavesEnd l image from) → b ≡ isTidyFrom l from image
+    unfolding isTidyFrom controllerCount leafAt
     tidy-zeros z e =
         simp (eq-eqb (byteAt image controllerCountAt) 1 (sym en ∙ one), eq-eqb (wordAt image (controllersAt + 1)) leafStart (sym ew ∙ z)) e
 
@@ -74,7 +74,7 @@ module _ {l : Layout} {sheet image : List ℕ} {chip : ℕ} {r : Reading} (t : C
 
   all-room : idAt + length (frontBytes image
       ++ (fieldBytes l chip (r .answer) image
-      ++ partsOf (entriesOf (r .row) (r .answer .blocks) (restFrom l image (r .start))))) ≤ length sheet
+      ++ partsOf (entriesOf (r .row) (r .answer .blocks) (upToLeavesEnd l image (r .start))))) ≤ length sheet
   all-room = rw (read-content l (t .edition) chip its-reading) (t .room)
 
   pub head-room : (leafStart ≤ length image) × (headLength ≤ length sheet)
@@ -101,7 +101,7 @@ module _ {l : Layout} {sheet image : List ℕ} {chip : ℕ} {r : Reading} (t : C
     )
 
     module _ {two : List ℕ} (e₂ : two ≡ put one chipAt (fieldBytes l chip (r .answer) image)) where
-      module _ (leaves : List ℕ) (q : leaves ≡ restFrom l image 0) where
+      module _ (leaves : List ℕ) (q : leaves ≡ upToLeavesEnd l image 0) where
         pub parts-room : ((r .start ≤ length leaves) × AcceptedBlocks (r .row) (r .answer .blocks) (drop (r .start) leaves))
             × (headLength + length (partsOf (entriesOf (r .row) (r .answer .blocks) (drop (r .start) leaves))) ≤ length two)
         parts-room = (
@@ -194,7 +194,7 @@ module _ {form : Form} {l : Layout} {sheet image : List ℕ} {chip total : ℕ} 
           → putMid k (length one - k) one part ≡ put sheet 0 (sheetFor form l image chip)
       unfolding sheetOf
       sheet-put ep =
-          joined sheet 0 counts content one-is (ap (putMid k (length one - k) one) ep ∙ part-put one k idAt content)
+          put-joined sheet 0 counts content one-is (ap (putMid k (length one - k) one) ep ∙ part-put one k idAt content)
           (omega (arith, counts-long)) (omega (arith, both-fit))
 
 -- ## The call
@@ -241,9 +241,9 @@ module _ (form : Form) (l : Layout) (edition : Bool) (served : isBeyond form (l 
         ∙ after-accepted (judgeCauses image (newestIn l edition chip)) _ (judge-numbered image (newestIn l edition chip)) (sym number-read
         ∙ z)
 
-    module _ (leaves : List ℕ) (q : leaves ≡ restFrom l image 0) (m : Measured)
+    module _ (leaves : List ℕ) (q : leaves ≡ upToLeavesEnd l image 0) (m : Measured)
         (em : m ≡ measuredOf (r .row) (r .start) (r .answer .blocks) (drop (r .start) leaves)) where
-      measured : m ≡ measuredOf (r .row) (r .start) (r .answer .blocks) (restFrom l image (r .start))
+      measured : m ≡ measuredOf (r .row) (r .start) (r .answer .blocks) (upToLeavesEnd l image (r .start))
       measured = rw (read-leaf l edition chip is-read leaves q) at em
 
       pub end-fits : m .end ≤ length leaves → m .end ≤ imageLength (l .size)
@@ -257,7 +257,7 @@ module _ (form : Form) (l : Layout) (edition : Bool) (served : isBeyond form (l 
       unfolding leafEnd measuredOf acceptedReading acceptedAnswer newestIn
       end-is =
           rw measured
-          (stepping-sizes (r .row) (r .start) (r .answer .blocks) (restFrom l image (r .start)) ∙ rw (is-read .known))
+          (stepping-sizes (r .row) (r .start) (r .answer .blocks) (upToLeavesEnd l image (r .start)) ∙ rw (is-read .known))
 
       tidy-is : isTidyFrom l (m .end) image ≡ isTidy l chip image
       unfolding isTidyFrom isTidy

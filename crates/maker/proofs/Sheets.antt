@@ -12,9 +12,9 @@ use Rattle.rom.specs.Geometry.{imageLength, checkedLength, leavesEnd, addressAt
 use Rattle.rom.specs.Bytes.{byteAt}
 use Rattle.rom.specs.Store.{wordBytes, put, laid}
 use Rattle.rom.proofs.Layouts.{geometry}
-use Rattle.rom.proofs.Put.{put-length, joined, laid-put}
-use Rattle.header.specs.Image.{restFrom}
-use Rattle.header.proofs.Headers.{whole-image}
+use Rattle.rom.proofs.Put.{put-length, put-joined, laid-put}
+use Rattle.image.specs.Image.{upToLeavesEnd}
+use Rattle.image.proofs.Causes.{whole-image}
 use Rattle.reader.specs.declared.Answer.{Answer}
 use Rattle.reader.specs.declared.Reading.{Reading}
 use Rattle.reader.specs.Reading.{acceptedAnswer, acceptedReading}
@@ -55,7 +55,7 @@ module _ (sheet : List ℕ) (at : ℕ) (a b c : List ℕ) (room : at + length (a
       third-room = omega (arith, long, same₁, same₂, n₁, n₂)
 
       pub three-put : {three : List ℕ} → three ≡ put two last c → three ≡ put sheet at (a ++ (b ++ c))
-      three-put e₃ = joined sheet at a (b ++ c) e₁ (joined one next b c e₂ e₃ n₂ second-room) n₁ first-room
+      three-put e₃ = put-joined sheet at a (b ++ c) e₁ (put-joined one next b c e₂ e₃ n₂ second-room) n₁ first-room
 
 -- ## The head
 
@@ -88,8 +88,8 @@ module _ (image : List ℕ) (enough : leafStart ≤ length image) where
         let f₂ = standing sheet 2 (take 16 image) e₂ (omega (arith, room, id-long)) in
         let f₃ = standing two 18 (take 2 (drop 17 image)) e₃ (omega (arith, room, f₂ .1, last-long)) in
         let f₄ = standing three 20 (take 7 (drop addressAt image)) e₄ (omega (arith, room, f₂ .1, f₃ .1, address-long)) in
-        joined sheet 2 (take 16 image) _ (f₂ .0)
-        (joined two 18 (take 2 (drop 17 image)) _ (f₃ .0) (f₄ .0) (omega (arith, last-long)) (omega (arith, room, f₂ .1, last-long)))
+        put-joined sheet 2 (take 16 image) _ (f₂ .0)
+        (put-joined two 18 (take 2 (drop 17 image)) _ (f₃ .0) (f₄ .0) (omega (arith, last-long)) (omega (arith, room, f₂ .1, last-long)))
         (omega (arith, id-long)) (omega (arith, room, id-long))
 
   -- as the record has it
@@ -132,9 +132,9 @@ module _ (l : Layout) (image : List ℕ) (whole : length image ≡ imageLength (
         let f₂ = standing one 29 (wordBytes (answer .connection)) e₂ (omega (arith, room, f₁ .1)) in
         let f₃ = standing two 31 (answer .control ∷ []) e₃ (omega (arith, room, f₁ .1, f₂ .1)) in
         let f₄ = standing three 32 (take 2 (drop (leavesEnd l) image)) e₄ (omega (arith, room, f₁ .1, f₂ .1, f₃ .1, maker-long)) in
-        joined sheet 27 (wordBytes chip) _ (f₁ .0)
-        (joined one 29 (wordBytes (answer .connection)) _ (f₂ .0)
-        (joined two 31 (answer .control ∷ []) _ (f₃ .0) (f₄ .0) refl (omega (arith, room, f₁ .1, f₂ .1)))
+        put-joined sheet 27 (wordBytes chip) _ (f₁ .0)
+        (put-joined one 29 (wordBytes (answer .connection)) _ (f₂ .0)
+        (put-joined two 31 (answer .control ∷ []) _ (f₃ .0) (f₄ .0) refl (omega (arith, room, f₁ .1, f₂ .1)))
         refl (omega (arith, room, f₁ .1)))
         refl (omega (arith, room))
 
@@ -172,15 +172,15 @@ module _ (l : Layout) (edition : Bool) (chip : ℕ) {image : List ℕ} {r : Read
   read-whole = whole-image image (newestIn l edition chip) (c .header)
 
   -- the leaf's blocks, in the image up to where leaves end
-  module _ (leaves : List ℕ) (q : leaves ≡ restFrom l image 0) where
-    pub read-leaf : drop (r .start) leaves ≡ restFrom l image (r .start)
-    unfolding restFrom newestIn
+  module _ (leaves : List ℕ) (q : leaves ≡ upToLeavesEnd l image 0) where
+    pub read-leaf : drop (r .start) leaves ≡ upToLeavesEnd l image (r .start)
+    unfolding upToLeavesEnd newestIn
     read-leaf =
         let e : leavesEnd l - 0 ≡ r .start + (leavesEnd l - r .start) = omega (arith, reading-start c) in
         ap (drop (r .start)) (q ∙ ap (λ (n : ℕ). take n image) e) ∙ drop-take (r .start) (leavesEnd l - r .start) image
 
     pub leaves-long : length leaves ≡ leavesEnd l
-    unfolding restFrom newestIn
+    unfolding upToLeavesEnd newestIn
     leaves-long =
         ap length q ∙ ap (λ (n : ℕ). length (take n image)) (sub-zero (leavesEnd l)) ∙ length-take-le (leavesEnd l) image (reading-end c)
 
@@ -188,16 +188,16 @@ module _ (l : Layout) (edition : Bool) (chip : ℕ) {image : List ℕ} {r : Read
     unfolding newestIn
     read-blocks = (omega (arith, leaves-long, reading-start c), rw read-leaf (reading-blocks c))
 
-  pub read-entries : entriesOf (r .row) (r .answer .blocks) (restFrom l image (r .start)) ≡ imageFrom l chip image .entries
+  pub read-entries : entriesOf (r .row) (r .answer .blocks) (upToLeavesEnd l image (r .start)) ≡ imageFrom l chip image .entries
   unfolding entriesOf imageFrom acceptedReading acceptedAnswer newestIn
   read-entries = rw (c .known)
 
   pub read-count : r .answer .blocks ≡ length (imageFrom l chip image .entries)
-  read-count = sym (entries-long (r .row) (r .answer .blocks) (restFrom l image (r .start))) ∙ ap length read-entries
+  read-count = sym (entries-long (r .row) (r .answer .blocks) (upToLeavesEnd l image (r .start))) ∙ ap length read-entries
 
   pub read-content : frontBytes image
       ++ (fieldBytes l chip (r .answer) image
-      ++ partsOf (entriesOf (r .row) (r .answer .blocks) (restFrom l image (r .start)))) ≡ contentOf (imageFrom l chip image)
+      ++ partsOf (entriesOf (r .row) (r .answer .blocks) (upToLeavesEnd l image (r .start)))) ≡ contentOf (imageFrom l chip image)
   read-content =
       head-is l image read-whole chip (r .answer) _ connection control
       ∙ ap (λ (es : List Entry). headOf (imageFrom l chip image) ++ partsOf es) read-entries
@@ -211,15 +211,15 @@ module _ (l : Layout) (edition : Bool) (chip : ℕ) {image : List ℕ} {r : Read
   pub content-long : 2 + length (contentOf (imageFrom l chip image))
       ≡ headLength + 3 * r .answer .blocks + length (bodyBytes (imageFrom l chip image .entries))
   content-long =
-      let es = entriesOf (r .row) (r .answer .blocks) (restFrom l image (r .start)) in
+      let es = entriesOf (r .row) (r .answer .blocks) (upToLeavesEnd l image (r .start)) in
       let f = front-long image (enough l image read-whole) in
       let g = field-long l image read-whole chip (r .answer) in
-      let p = parts-long (entriesOf (r .row) (r .answer .blocks) (restFrom l image (r .start))) in
-      let b : length (bodyBytes (entriesOf (r .row) (r .answer .blocks) (restFrom l image (r .start))))
+      let p = parts-long (entriesOf (r .row) (r .answer .blocks) (upToLeavesEnd l image (r .start))) in
+      let b : length (bodyBytes (entriesOf (r .row) (r .answer .blocks) (upToLeavesEnd l image (r .start))))
       ≡ length (bodyBytes (imageFrom l chip image .entries)) = ap (λ (es : List Entry). length (bodyBytes es)) read-entries in
-      let n = entries-long (r .row) (r .answer .blocks) (restFrom l image (r .start)) in
+      let n = entries-long (r .row) (r .answer .blocks) (upToLeavesEnd l image (r .start)) in
       let whole : length (contentOf (imageFrom l chip image)) ≡ 32 + length
-      (partsOf (entriesOf (r .row) (r .answer .blocks) (restFrom l image (r .start))))
+      (partsOf (entriesOf (r .row) (r .answer .blocks) (upToLeavesEnd l image (r .start))))
       = ap length (sym read-content) ∙ simp length-append (omega (arith, f, g)) in
       omega (arith, whole, p, b, n)
 

@@ -11,7 +11,7 @@ use Rattle.rom.specs.Bytes.{allZero}
 use Rattle.rom.specs.Store.{wordBytes}
 use Rattle.rom.specs.Refusal.{firstMet}
 use Rattle.format.specs.Chips.{newestLevel}
-use Rattle.header.specs.Image.{controllerCount, leafAt}
+use Rattle.image.specs.Image.{controllerCount, leafAt, upToLeavesEnd}
 use Rattle.format.specs.Block.{laterVersion}
 use Rattle.leaf.specs.Leaf.{cut, blockCauses, startByStepping}
 use Rattle.reader.specs.declared.Answer.{Answer}
@@ -22,7 +22,7 @@ use Rattle.sheet.specs.declared.Form.{Form}
 use Rattle.sheet.specs.Form.{largest}
 use Rattle.sheet.specs.Layout.{idAt}
 use Rattle.sheet.specs.Sheet.{bodyBytes, contentOf}
-use Rattle.sheet.specs.Image.{leafStart, entryFrom, upToLeavesEnd, newestIn, imageFrom}
+use Rattle.sheet.specs.Image.{leafStart, entryFrom, newestIn, imageFrom}
 use Rattle.sheet.specs.Make.{sheetFor}
 use Rattle.maker.specs.declared.parts.Measured.{Measured}
 
@@ -44,7 +44,7 @@ measuredOf row first count s =
 -- n = 1, leaf at 30, zeros from a place up to where leaves end
 unfoldable pub isTidyFrom : Layout → ℕ → List ℕ → Bool
 isTidyFrom l end image =
-    eqb (controllerCount image) 1 && (eqb (leafAt image 0) leafStart && allZero (upToLeavesEnd l end image))
+    eqb (controllerCount image) 1 && (eqb (leafAt image 0) leafStart && allZero (upToLeavesEnd l image end))
 
 -- ## Bytes laid into a sheet
 

@@ -24,12 +24,6 @@ ghost use Rattle.sheet.specs.Image.{leafStart, imageFrom};
 ghost use Rattle.sheet.specs.Make.{sheetFor, made, madeFor};
 ghost use Rattle.maker.specs.Inside.{frontBytes, fieldBytes, isTidyFrom, ContentFits, Sheetable};
 
-// ID byte 17, behind the ID CRC; the version follows it.
-const LAST_ID_BYTE: usize = 17;
-
-// The first controller's leaf offset, behind its device number.
-const LEAF_OFFSET_AT: usize = 27;
-
 // Whether an image has one controller, its leaf at 30, and zeros from the leaf's end up to where leaves end.
 fn is_tidy(image: &[u8], layout: Layout, end: usize) -> bool
     ensures { λ r. ⌜ r ≡ isTidyFrom layout end (now (image .entry)) ⌝ }
@@ -38,11 +32,11 @@ fn is_tidy(image: &[u8], layout: Layout, end: usize) -> bool
     if controllers != 1 {
         return false;
     }
-    let leaf = rom::word_at(image, ByteOffset(LEAF_OFFSET_AT));
+    let leaf = rom::word_at(image, ByteOffset(sheet::LEAF_OFFSET_AT));
     if (leaf as usize) != sheet::LEAF_START {
         return false;
     }
-    rom::all_zero(header::rest_from(image, layout, end))
+    rom::all_zero(header::up_to_leaves_end(image, layout, end))
 }
 
 // Bytes 2 to 26, as a narrow sheet has them: the ID bytes, the version, the address and the device number.
@@ -53,13 +47,13 @@ fn put_front(shifted: &mut [u8], image: &[u8])
     put_bytes(shifted, ByteOffset(sheet::ID_AT), &image[0..rom::ID_CRC_AT]);
     put_bytes(
         shifted,
-        ByteOffset(sheet::LAST_ID_AT),
-        &image[LAST_ID_BYTE..rom::CONTROLLER_COUNT_AT],
+        ByteOffset(sheet::SHEET_LAST_ID_AT),
+        &image[rom::LAST_ID_AT..rom::CONTROLLER_COUNT_AT],
     );
     put_bytes(
         shifted,
-        ByteOffset(sheet::ADDRESS_AT),
-        &image[rom::ADDRESS_AT..LEAF_OFFSET_AT],
+        ByteOffset(sheet::SHEET_ADDRESS_AT),
+        &image[rom::ADDRESS_AT..sheet::LEAF_OFFSET_AT],
     );
 }
 
@@ -84,7 +78,7 @@ fn put_content(shifted: &mut [u8], image: &[u8], chip: u16, layout: Layout, read
     let answer = reading.answer;
     put_front(shifted, image);
     put_fields(shifted, image, chip, layout, answer);
-    let leaves = header::rest_from(image, layout, 0);
+    let leaves = header::up_to_leaves_end(image, layout, 0);
     parts::put_parts(shifted, leaves, reading.start, answer.blocks, reading.row);
 }
 
@@ -139,7 +133,7 @@ pub fn make(
         return refused(answer.number);
     }
     // The image up to where leaves end.
-    let leaves = header::rest_from(image, layout, 0);
+    let leaves = header::up_to_leaves_end(image, layout, 0);
     let measured = parts::measure(leaves, reading.start, answer.blocks, reading.row);
     let tidy = is_tidy(image, layout, measured.end);
     if !tidy {

@@ -9,7 +9,7 @@ use lib.Dec.{eqb}
 use borrow.Author.Tests.{eqb-true, eq-eqb, ne-eqb}
 use Rattle.rom.specs.Bytes.{pick, one}
 use Rattle.rom.specs.Refusal.{firstMet}
-use Rattle.header.specs.declared.Arguments.{Arguments}
+use Rattle.image.specs.declared.Arguments.{Arguments}
 use Rattle.walk.specs.declared.Walk.{Walk}
 use Rattle.walk.specs.declared.Choice.{Choice}
 use Rattle.walk.specs.Walk.{wayOf, isFixed, freshWalk, loadedWalk, fixedBlock, chosen, switched, stepped, lookCauses, loadCauses, walkedTo}
@@ -36,9 +36,9 @@ switched-exactly n x y h = rw (ne-eqb n 65535 h) (go (eqb x y))
     go true = omega arith
     go false = refl
 
-few : (t : Bool) → one t ≤ 1
-few true = omega arith
-few false = omega arith
+one-few : (t : Bool) → one t ≤ 1
+one-few true = omega arith
+one-few false = omega arith
 
 module _ (w : Walk) (c : Counts w) (report : List ℕ) where
   stepped-exactly : firstMet (lookCauses w report) ≡ 0
@@ -60,7 +60,7 @@ module _ (w : Walk) (c : Counts w) (report : List ℕ) where
           let room = accepted-looks w report z in
           let s = stepped-exactly z in
           record {
-            fewer = omega (arith, c .fewer, s .0, s .1, few (not (eqb (w .selected) (stepped w report .selected))));
+            fewer = omega (arith, c .fewer, s .0, s .1, one-few (not (eqb (w .selected) (stepped w report .selected))));
             fits = omega (arith, c .fits, room, s .0);
           }
 
@@ -78,16 +78,16 @@ module _ (w : Walk) (c : Counts w) (report : List ℕ) where
   unfolding lookFor walkedTo pick
   look-exactly e = rw e (stepped-exactly e)
 
-counts : (w : Walk) → FromFresh w → Counts w
+counts-from-fresh : (w : Walk) → FromFresh w → Counts w
 unfolding clearFor
-counts u fresh = counts-fresh
-counts u (load {w} image a r) = counts-load w (counts w r) [] image a
-counts u (look {w} report r) = counts-look w (counts w r) report
-counts u (clear r) = counts-fresh
+counts-from-fresh u fresh = counts-fresh
+counts-from-fresh u (load {w} image a r) = counts-load w (counts-from-fresh w r) [] image a
+counts-from-fresh u (look {w} report r) = counts-look w (counts-from-fresh w r) report
+counts-from-fresh u (clear r) = counts-fresh
 
 pub counts-exactly : CountsExactly
 counts-exactly w r =
-    let c = counts w r in
+    let c = counts-from-fresh w r in
     (c .fewer, c .fits, λ report e. look-exactly w c report e)
 
 -- ## Under a fixed type
@@ -123,7 +123,7 @@ module _ (w : Walk) (s : UnderFixed w → SwitchedOnce w) where
             arith,
             e,
             switched-exactly (w .switches) (w .selected) (chosen w report .selected) (λ q. omega (arith, e)),
-            few (not (eqb (w .selected) (chosen w report .selected))),
+            one-few (not (eqb (w .selected) (chosen w report .selected))),
           ))
       go (to-medium e h) =
           to-medium chosen-block

@@ -16,10 +16,10 @@ use Rattle.rom.proofs.Truth.{true-false}
 use Rattle.format.specs.Chips.{isRead}
 use Rattle.format.proofs.Rows.{member}
 use Rattle.format.proofs.Chips.{no-first, no-later, each-its-own}
-use Rattle.header.specs.declared.Arguments.{Arguments}
-use Rattle.header.specs.Image.{versions, isFirstVersion, reservedAt, blocksAt, imageCauses, argumentCauses, leafHeaderCauses}
-use Rattle.header.specs.Header.{rowFor, leafFor, inEdition, headerCauses}
-use Rattle.header.proofs.Headers.{image-numbered, argument-numbered}
+use Rattle.image.specs.declared.Arguments.{Arguments}
+use Rattle.image.specs.Image.{versions, isFirstVersion, reservedAt, blocksAt, imageCauses, argumentCauses, leafHeaderCauses}
+use Rattle.image.specs.Arguments.{rowFor, leafFor, inEdition, headerCauses}
+use Rattle.image.proofs.Causes.{image-numbered, argument-numbered}
 use Rattle.reader.specs.Reading.{leafCausesFor, judgeCauses, readCauses, acceptedAnswer, answerFor, judgeAnswer, readAnswer}
 use Rattle.reader.specs.Reading.{readInto, readKinds, readOffsets, partFor, viewFor}
 use Rattle.reader.proofs.Readings.{answer-number}
@@ -27,7 +27,7 @@ use Rattle.walk.specs.declared.Walk.{Walk}
 use Rattle.walk.specs.Walk.{loadedWalk, loadCauses, loadFor}
 use Rattle.older.specs.Calls.{Call, load, look, clear, call, run}
 use Rattle.older.specs.Claims.{LaterAlike, codeFor, numberIn, EachEdition, marks, MarksRefused}
-use Rattle.older.proofs.OlderReadings.{parts}
+use Rattle.older.proofs.OlderReadings.{reading-parts}
 
 -- ## Versions 3 and 4
 
@@ -100,7 +100,7 @@ module _ (image : List ℕ) (a : Arguments) (first : isFirstVersion image ≡ tr
   accepted : (edition : Bool) → numberIn edition image a ≡ 0 → Before × (isRead edition (rowFor a) (codeFor image a) ≡ true)
   unfolding headerCauses argumentCauses leafHeaderCauses
   accepted edition z =
-      let h = parts image (inEdition a edition) (sym (number-is edition) ∙ z) .0 in
+      let h = reading-parts image (inEdition a edition) (sym (number-is edition) ∙ z) .0 in
       let i = both-accepted (imageCauses (a .layout) image) _ (image-numbered (a .layout) image) h in
       let g = both-accepted (argumentCauses image (inEdition a edition)) _ (argument-numbered image (inEdition a edition)) (i .1) in
       let l = none-here _ _ (lit< tt) (g .1) in

@@ -7,7 +7,7 @@ use Rattle.rom.specs.Geometry.{none}
 use Rattle.rom.specs.Bytes.{pick}
 use Rattle.rom.specs.Refusal.{firstMet}
 use Rattle.rom.proofs.Truth.{true-false}
-use Rattle.header.specs.declared.Arguments.{Arguments}
+use Rattle.image.specs.declared.Arguments.{Arguments}
 use Rattle.walk.specs.declared.Walk.{Walk}
 use Rattle.walk.specs.Walk.{wayOf, isFixed, fixedBlock, freshWalk, lookCauses, walkedTo, loadFor, lookFor, clearFor}
 use Rattle.walk.proofs.Loads.{load-loaded}

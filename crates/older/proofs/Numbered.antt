@@ -150,20 +150,21 @@ default-listed row level s e = go (eqb (kindOf row s) 5) refl (eqb (kindOf row s
     go false f true h true g = true-false (never 6 refl h g)
 
 -- the number that is found is that of a block that p takes, or none
-pub data Found (p : List ℕ → Bool) (k : ℕ) (bs : List (List ℕ)) : ℕ → Type 0 where
-  absent : Found p k bs none
-  at : (j : ℕ) {n : ℕ} → n ≡ k + j → blockIs p bs j ≡ true → Found p k bs n
+pub data FoundFirst (p : List ℕ → Bool) (k : ℕ) (bs : List (List ℕ)) : ℕ → Type 0 where
+  absent : FoundFirst p k bs none
+  at : (j : ℕ) {n : ℕ} → n ≡ k + j → blockIs p bs j ≡ true → FoundFirst p k bs n
 
-pub found : (p : List ℕ → Bool) (k : ℕ) (bs : List (List ℕ)) → Found p k bs (firstFrom p k bs)
+pub found-first : (p : List ℕ → Bool) (k : ℕ) (bs : List (List ℕ)) → FoundFirst p k bs (firstFrom p k bs)
 unfolding firstFrom pick blockIs
-found p k [] = absent
-found p k (s ∷ bs) = go (p s) refl (found p (k + 1) bs)
+found-first p k [] = absent
+found-first p k (s ∷ bs) = go (p s) refl (found-first p (k + 1) bs)
   where
-    later : {n : ℕ} → Found p (k + 1) bs n → Found p k (s ∷ bs) n
+    later : {n : ℕ} → FoundFirst p (k + 1) bs n → FoundFirst p k (s ∷ bs) n
     later absent = absent
     later (at j {n} q b) = let q′ : n ≡ k + suc j = omega arith in at (suc j) q′ b
 
-    go : (t : Bool) → p s ≡ t → Found p (k + 1) bs (firstFrom p (k + 1) bs) → Found p k (s ∷ bs) (pick t k (firstFrom p (k + 1) bs))
+    go : (t : Bool) → p s ≡ t → FoundFirst p (k + 1) bs (firstFrom p (k + 1) bs) → FoundFirst p k (s ∷ bs)
+        (pick t k (firstFrom p (k + 1) bs))
     go true e f = let q : k ≡ k + 0 = omega arith in at 0 q e
     go false e f = later f
 
@@ -171,13 +172,13 @@ pub default-kept : (row older newest : ℕ) (bs : List (List ℕ)) →
     let d = firstFrom (isDefault row newest) 0 bs in
     pick (isKnown older (kindOf row (getD bs d []))) d none ≡ pick (blockIs (isRemoved row older newest) bs d) none d
 unfolding pick
-default-kept row older newest bs = go (firstFrom (isDefault row newest) 0 bs) (found (isDefault row newest) 0 bs)
+default-kept row older newest bs = go (firstFrom (isDefault row newest) 0 bs) (found-first (isDefault row newest) 0 bs)
   where
     same : (t : Bool) → _≡_ {A = ℕ} (pick t none none) none
     same true = refl
     same false = refl
 
-    go : (d : ℕ) → Found (isDefault row newest) 0 bs d
+    go : (d : ℕ) → FoundFirst (isDefault row newest) 0 bs d
         → pick (isKnown older (kindOf row (getD bs d []))) d none ≡ pick (blockIs (isRemoved row older newest) bs d) none d
     go d absent = same (isKnown older (kindOf row (getD bs none []))) ∙ sym (same (blockIs (isRemoved row older newest) bs none))
     go d (at j q b) =

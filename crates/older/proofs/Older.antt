@@ -8,29 +8,30 @@ use mathlib.Core.Path.{_≡_, refl, ap, sym, _∙_}
 use mathlib.Core.Bool.{Bool, true, false, _||_, _&&_}
 use lib.Dec.{eqb, ltb}
 use borrow.Author.Tests.{ltb-false, le-ltb}
-use Rattle.rom.specs.Bytes.{pick, one, bit, anyBelow}
+use Rattle.rom.specs.Bytes.{pick, one, bit, anyBelow, keep}
 use Rattle.rom.proofs.Fewer.{Fewer, end, and, fewer, fewer-append}
 use Rattle.rom.proofs.Truth.{true-false}
 use Rattle.format.specs.Block.{kindOf, isKnown, factsOf, isMedium, isListed, isReset, isPower, isDefault, resetsPhy, setsMode}
 use Rattle.format.proofs.Levels.{known-up, causes-down}
-use Rattle.leaf.specs.Leaf.{Place, keep, table, countOf, clash, blockCauses, clashCause, modeCause, wholeCauses, leafCauses}
+use Rattle.leaf.specs.Leaf.{PlacedBlock, table, countOf, clash, blockCauses, clashCause, modeCause, wholeCauses, leafCauses}
 use Rattle.leaf.proofs.Cuts.{leaf-numbered}
 use Rattle.older.specs.Claims.{OlderTable, OlderAccepts}
 use Rattle.older.specs.Levels.{isKept}
 
-keep-keep : (p q r : Place → Bool) → ((b : Place) → p b ≡ (q b && r b)) → (bs : List Place) → keep p bs ≡ keep q (keep r bs)
+keep-keep : (p q r : PlacedBlock → Bool) → ((b : PlacedBlock) → p b ≡ (q b && r b)) → (bs : List PlacedBlock) → keep p bs ≡ keep q
+    (keep r bs)
 unfolding keep pick
 keep-keep p q r e [] = refl
 keep-keep p q r e (b ∷ bs) = rw e (go (q b) (r b) refl (keep-keep p q r e bs))
   where
     go : (x y : Bool) → q b ≡ x → keep p bs ≡ keep q (keep r bs)
         → pick (x && y) (b ∷ keep p bs) (keep p bs) ≡ keep q (pick y (b ∷ keep r bs) (keep r bs))
-    go true true h ih = rw h (ap (λ (l : List Place). b ∷ l) ih)
+    go true true h ih = rw h (ap (λ (l : List PlacedBlock). b ∷ l) ih)
     go true false h ih = ih
     go false true h ih = rw h ih
     go false false h ih = ih
 
-keep-append : (p : Place → Bool) (xs bs : List Place) → keep p (xs ++ bs) ≡ keep p xs ++ keep p bs
+keep-append : (p : PlacedBlock → Bool) (xs bs : List PlacedBlock) → keep p (xs ++ bs) ≡ keep p xs ++ keep p bs
 unfolding keep pick
 keep-append p [] bs = refl
 keep-append p (a ∷ xs) bs = rw (keep-append p xs bs) (go (p a))
@@ -39,7 +40,7 @@ keep-append p (a ∷ xs) bs = rw (keep-append p xs bs) (go (p a))
     go true = refl
     go false = refl
 
-keep-reverse : (p : Place → Bool) (bs : List Place) → keep p (reverse bs) ≡ reverse (keep p bs)
+keep-reverse : (p : PlacedBlock → Bool) (bs : List PlacedBlock) → keep p (reverse bs) ≡ reverse (keep p bs)
 unfolding keep pick
 keep-reverse p [] = refl
 keep-reverse p (b ∷ bs) = rw (reverse-cons, keep-append, keep-reverse p bs) (go (p b))

@@ -15,7 +15,7 @@ use Rattle.format.specs.Block.{kindOf, isKnown, factsOf, isMedium, isListed, is
 use Rattle.format.proofs.Levels.{known-up, and-down}
 use Rattle.leaf.specs.Leaf.{countOf, firstFrom}
 use Rattle.older.specs.Claims.{OlderCounts, OlderDefault}
-use Rattle.older.proofs.Numbered.{Found, absent, at, found}
+use Rattle.older.proofs.Numbered.{FoundFirst, absent, at, found-first}
 
 count-sum : (p q r : List ℕ → Bool) → ((s : List ℕ) → one (p s) + one (q s) ≡ one (r s)) → (bs : List (List ℕ))
     → countOf p bs + countOf q bs ≡ countOf r bs
@@ -120,7 +120,7 @@ module _ (row older : ℕ) where
   kept-number : List (List ℕ) → ℕ → ℕ → ℕ
   kept-number bs k n = pick (isKnown older (kindOf row (getD bs (n - k) []))) n none
 
-  past-first : (p : List ℕ → Bool) (s : List ℕ) (bs : List (List ℕ)) (k n : ℕ) → Found p (k + 1) bs n
+  past-first : (p : List ℕ → Bool) (s : List ℕ) (bs : List (List ℕ)) (k n : ℕ) → FoundFirst p (k + 1) bs n
       → kept-number bs (k + 1) n ≡ kept-number (s ∷ bs) k n
   unfolding kept-number pick
   past-first p s bs k n absent = same (isKnown older (kindOf row (getD bs (none - (k + 1)) [])))
@@ -154,7 +154,7 @@ module _ (row older : ℕ) where
           rw (default-known row older newest s f, no-default row older newest (k + 1) bs h z, e)
       go false f l ih =
           rw (default-less row older newest s h f)
-          (ih (omega arith) ∙ past-first (isDefault row newest) s bs k _ (found (isDefault row newest) (k + 1) bs))
+          (ih (omega arith) ∙ past-first (isDefault row newest) s bs k _ (found-first (isDefault row newest) (k + 1) bs))
 
 pub older-default : OlderDefault
 unfolding kept-number

@@ -10,9 +10,9 @@ use Rattle.rom.specs.Geometry.{none}
 use Rattle.rom.specs.Bytes.{pick, Bytes}
 use Rattle.rom.specs.Refusal.{firstMet}
 use Rattle.format.specs.Chips.{newestLevel}
-use Rattle.header.specs.declared.Arguments.{Arguments}
-use Rattle.header.specs.Image.{restFrom}
-use Rattle.header.specs.Header.{rowFor, startFor, countFor, atLevel}
+use Rattle.image.specs.declared.Arguments.{Arguments}
+use Rattle.image.specs.Image.{upToLeavesEnd}
+use Rattle.image.specs.Arguments.{rowFor, startFor, countFor, atLevel}
 use Rattle.leaf.proofs.Cuts.{cut-length}
 use Rattle.reader.specs.declared.Answer.{Answer}
 use Rattle.reader.specs.Reading.{blocksFor, judgeCauses, acceptedAnswer, answerFor, judgeAnswer}
@@ -62,7 +62,7 @@ module _ (image : List ℕ) (a : Arguments) (older : ℕ) (bytes : Bytes image) 
       omega (
         arith,
         few-blocks image a bytes,
-        cut-length (rowFor a) (countFor image a) (restFrom (a .layout) image (startFor image a)),
+        cut-length (rowFor a) (countFor image a) (upToLeavesEnd (a .layout) image (startFor image a)),
       ) in
       block-past _ (blocksFor image a) none few
 

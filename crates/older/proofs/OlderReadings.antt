@@ -8,24 +8,24 @@ use lib.ListN.{length, take, drop, length-map}
 use lib.Seq.{take-at}
 use borrow.Author.Tests.{ltb-false, le-ltb}
 use Rattle.rom.specs.Geometry.{none}
-use Rattle.rom.specs.Bytes.{pick}
+use Rattle.rom.specs.Bytes.{pick, keep}
 use Rattle.rom.specs.Refusal.{Cause, firstMet}
 use Rattle.rom.proofs.First.{after-accepted, both-accepted}
 use Rattle.rom.proofs.Fewer.{Fewer, end, and, fewer, fewer-append}
 use Rattle.format.specs.Chips.{newestLevel}
 use Rattle.format.specs.Block.{isKnown, isListed}
-use Rattle.header.specs.declared.Arguments.{Arguments}
-use Rattle.header.specs.Image.{isFirstVersion, restFrom, imageCauses, argumentCauses, leafHeaderCauses}
-use Rattle.header.specs.Header.{rowFor, editionFor, leafFor, startFor, countFor, headerCauses, atLevel}
-use Rattle.header.proofs.Headers.{header-numbered}
-use Rattle.leaf.specs.Leaf.{Place, keep, countOf, tableOf, kindAt, startAt}
+use Rattle.image.specs.declared.Arguments.{Arguments}
+use Rattle.image.specs.Image.{isFirstVersion, upToLeavesEnd, imageCauses, argumentCauses, leafHeaderCauses}
+use Rattle.image.specs.Arguments.{rowFor, editionFor, leafFor, startFor, countFor, headerCauses, atLevel}
+use Rattle.image.proofs.Causes.{header-numbered}
+use Rattle.leaf.specs.Leaf.{PlacedBlock, countOf, tableOf, kindAt, startAt}
 use Rattle.leaf.proofs.Tables.{listed-length}
-use Rattle.leaf.proofs.Counts.{accepted-defaults}
+use Rattle.leaf.proofs.Sorts.{accepted-defaults}
 use Rattle.reader.specs.Table.{tabled}
 use Rattle.reader.specs.Reading.{blocksFor, tableFor, leafCausesFor, judgeCauses, readCauses, acceptedAnswer, answerFor, readAnswer}
 use Rattle.reader.specs.Reading.{readInto, readKinds, readOffsets}
 use Rattle.older.specs.Levels.{isKept, removedBlock}
-use Rattle.older.specs.Written.{Arrays, Room, TableEntry, asEntry, entries, answerOf, tableIn, those, removed, kept}
+use Rattle.older.specs.Written.{Arrays, Room, TableEntry, asEntry, entries, answerOf, tableIn, removed, kept}
 use Rattle.older.specs.Claims.{ReadsAgree}
 use Rattle.older.proofs.Older.{older-accepts, older-table}
 use Rattle.older.proofs.OlderAnswer.{older-counts, older-default}
@@ -33,43 +33,43 @@ use Rattle.older.proofs.Numbered.{default-kept}
 
 -- ## Acceptance goes down the levels
 
-same : (cs : List Cause) → Fewer cs cs
-same [] = end
-same (c ∷ cs) = and (λ e. e) (same cs)
+fewer-same : (cs : List Cause) → Fewer cs cs
+fewer-same [] = end
+fewer-same (c ∷ cs) = and (λ e. e) (fewer-same cs)
 
 pub header-down : (image : List ℕ) (a : Arguments) (older newest : ℕ) → older ≤ newest
     → Fewer (headerCauses image (atLevel a newest)) (headerCauses image (atLevel a older))
 unfolding headerCauses argumentCauses
 header-down image a older newest h =
-    fewer-append (same (imageCauses (a .layout) image))
+    fewer-append (fewer-same (imageCauses (a .layout) image))
     (fewer-append
     (and (λ e. e)
     (and (λ e. e) (and (λ e. e) (and (λ e. le-ltb newestLevel older (omega (arith, ltb-false newestLevel newest e))) (and (λ e. e) end)))))
-    (same (leafHeaderCauses (a .layout) image (editionFor image a) (rowFor a) (leafFor image a))))
+    (fewer-same (leafHeaderCauses (a .layout) image (editionFor image a) (rowFor a) (leafFor image a))))
 
 -- an accepted reading has an accepted header and an accepted leaf
-pub parts : (image : List ℕ) (a : Arguments) → firstMet (judgeCauses image a) ≡ 0
+pub reading-parts : (image : List ℕ) (a : Arguments) → firstMet (judgeCauses image a) ≡ 0
     → (firstMet (headerCauses image a) ≡ 0) × (firstMet (leafCausesFor image a) ≡ 0)
 unfolding judgeCauses
-parts image a e = both-accepted (headerCauses image a) (leafCausesFor image a) (header-numbered image a) e
+reading-parts image a e = both-accepted (headerCauses image a) (leafCausesFor image a) (header-numbered image a) e
 
 pub judge-down : (image : List ℕ) (a : Arguments) (older newest : ℕ) → older ≤ newest → firstMet (judgeCauses image (atLevel a newest)) ≡ 0
     → firstMet (judgeCauses image (atLevel a older)) ≡ 0
 unfolding judgeCauses leafCausesFor
 judge-down image a older newest h e =
-    let b = parts image (atLevel a newest) e in
+    let b = reading-parts image (atLevel a newest) e in
     let header = fewer (header-numbered image (atLevel a newest)) (header-down image a older newest h) (b .0) in
     after-accepted (headerCauses image (atLevel a older)) _ (header-numbered image (atLevel a older)) header
     ∙ older-accepts (isFirstVersion image) (rowFor a) older newest (blocksFor image a) h (b .1)
 
 -- ## What an accepted reading answers and writes
 
-entries-map : (row : ℕ) (t : List Place) → entries (map (kindAt row) t) (map startAt t) ≡ map (asEntry row) t
+entries-map : (row : ℕ) (t : List PlacedBlock) → entries (map (kindAt row) t) (map startAt t) ≡ map (asEntry row) t
 unfolding entries
 entries-map row [] = refl
 entries-map row (p ∷ t) = ap (λ (es : List TableEntry). asEntry row p ∷ es) (entries-map row t)
 
-take-tabled : (f : Place → ℕ) (t : List Place) (array : List ℕ) (n : ℕ) → n ≡ length t → take n (tabled f t array) ≡ map f t
+take-tabled : (f : PlacedBlock → ℕ) (t : List PlacedBlock) (array : List ℕ) (n : ℕ) → n ≡ length t → take n (tabled f t array) ≡ map f t
 unfolding tabled
 take-tabled f t array n e = take-at (map f t) (drop (length t) array) n (length-map t f ∙ sym e)
 
@@ -77,7 +77,7 @@ module _ (image : List ℕ) (a : Arguments) (e : firstMet (judgeCauses image a) 
   no-cause : firstMet (readCauses image a (length (arrays .kinds)) (length (arrays .offsets))) ≡ 0
   unfolding readCauses firstMet pick
   no-cause =
-      let b = parts image a e in
+      let b = reading-parts image a e in
       after-accepted (headerCauses image a) _ (header-numbered image a) (b .0)
       ∙ simp (le-ltb (length (arrays .kinds)) (countFor image a) (room .0), le-ltb (length (arrays .offsets)) (countFor image a) (room .1))
       (b .1)
@@ -90,7 +90,8 @@ module _ (image : List ℕ) (a : Arguments) (e : firstMet (judgeCauses image a) 
   unfolding tableIn readKinds readOffsets readInto pick acceptedAnswer
   table-is =
       let n : countOf (isListed (rowFor a) (a .level)) (blocksFor image a) ≡ length (tableFor image a) =
-      sym (listed-length (rowFor a) (a .level) (countFor image a) (startFor image a) (restFrom (a .layout) image (startFor image a))) in
+      sym (listed-length (rowFor a) (a .level) (countFor image a) (startFor image a)
+      (upToLeavesEnd (a .layout) image (startFor image a))) in
       rw (
         answer-is,
         no-cause,
@@ -101,25 +102,25 @@ module _ (image : List ℕ) (a : Arguments) (e : firstMet (judgeCauses image a) 
 
 -- ## The older table
 
-those-map : (row older : ℕ) (t : List Place) → map (asEntry row) (keep (isKept row older) t) ≡ those (kept older) (map (asEntry row) t)
-unfolding keep those pick
-those-map row older [] = refl
-those-map row older (p ∷ t) = go (isKept row older p) (those-map row older t)
+keep-map : (row older : ℕ) (t : List PlacedBlock) → map (asEntry row) (keep (isKept row older) t) ≡ keep (kept older) (map (asEntry row) t)
+unfolding keep pick
+keep-map row older [] = refl
+keep-map row older (p ∷ t) = go (isKept row older p) (keep-map row older t)
   where
-    go : (x : Bool) → map (asEntry row) (keep (isKept row older) t) ≡ those (kept older) (map (asEntry row) t)
+    go : (x : Bool) → map (asEntry row) (keep (isKept row older) t) ≡ keep (kept older) (map (asEntry row) t)
         → map (asEntry row) (pick x (p ∷ keep (isKept row older) t) (keep (isKept row older) t))
-        ≡ pick x (asEntry row p ∷ those (kept older) (map (asEntry row) t)) (those (kept older) (map (asEntry row) t))
+        ≡ pick x (asEntry row p ∷ keep (kept older) (map (asEntry row) t)) (keep (kept older) (map (asEntry row) t))
     go true ih = ap (λ (es : List TableEntry). asEntry row p ∷ es) ih
     go false ih = ih
 
-both-lengths : (older : ℕ) (es : List TableEntry) → length (those (kept older) es) + length (those (removed older) es) ≡ length es
-unfolding those pick
+both-lengths : (older : ℕ) (es : List TableEntry) → length (keep (kept older) es) + length (keep (removed older) es) ≡ length es
+unfolding keep pick
 both-lengths older [] = refl
 both-lengths older (e ∷ es) = go (isKnown older (e .kind)) (both-lengths older es)
   where
-    go : (x : Bool) → length (those (kept older) es) + length (those (removed older) es) ≡ length es
-        → length (pick x (e ∷ those (kept older) es) (those (kept older) es)) + length
-        (pick (not x) (e ∷ those (removed older) es) (those (removed older) es)) ≡ length (e ∷ es)
+    go : (x : Bool) → length (keep (kept older) es) + length (keep (removed older) es) ≡ length es
+        → length (pick x (e ∷ keep (kept older) es) (keep (kept older) es)) + length
+        (pick (not x) (e ∷ keep (removed older) es) (keep (removed older) es)) ≡ length (e ∷ es)
     go true ih = omega arith
     go false ih = omega arith
 
@@ -141,18 +142,18 @@ module _ (image : List ℕ) (a : Arguments) (older : ℕ) (h : older < newestLev
   unfolding acceptedAnswer leafCausesFor
   default-number =
       older-default (rowFor a) older newestLevel (blocksFor image a) down
-      (accepted-defaults (isFirstVersion image) (rowFor a) newestLevel (blocksFor image a) (parts image new e .1))
+      (accepted-defaults (isFirstVersion image) (rowFor a) newestLevel (blocksFor image a) (reading-parts image new e .1))
       ∙ default-kept (rowFor a) older newestLevel (blocksFor image a)
 
-  filtered : map (asEntry (rowFor a)) (tableFor image old) ≡ those (kept older) (map (asEntry (rowFor a)) (tableFor image new))
+  filtered : map (asEntry (rowFor a)) (tableFor image old) ≡ keep (kept older) (map (asEntry (rowFor a)) (tableFor image new))
   unfolding tableOf
   filtered =
-      ap (map (asEntry (rowFor a))) (older-table (rowFor a) older newestLevel _ down) ∙ those-map (rowFor a) older (tableFor image new)
+      ap (map (asEntry (rowFor a))) (older-table (rowFor a) older newestLevel _ down) ∙ keep-map (rowFor a) older (tableFor image new)
 
   listed-table : (b : Arguments) → length (map (asEntry (rowFor b)) (tableFor image b)) ≡ acceptedAnswer image b .listed
   unfolding acceptedAnswer
   listed-table b = length-map (tableFor image b) _
-      ∙ listed-length (rowFor b) (b .level) (countFor image b) (startFor image b) (restFrom (b .layout) image (startFor image b))
+      ∙ listed-length (rowFor b) (b .level) (countFor image b) (startFor image b) (upToLeavesEnd (b .layout) image (startFor image b))
 
   pub reads-agree : ReadsAgree image a older
   unfolding acceptedAnswer pick

@@ -6,13 +6,13 @@ use mathlib.Core.List.{List, [], _∷_, _++_, map, map-append, append-nil, rever
 use mathlib.Core.Path.{_≡_, refl, ap, sym, _∙_}
 use mathlib.Core.Bool.{Bool, true, false, _&&_, not}
 use lib.ListN.{length, getD, replicate, length-append, length-map, length-replicate, replicate-append-replicate}
-use Rattle.rom.specs.Bytes.{pick, one, Bytes}
+use Rattle.rom.specs.Bytes.{pick, one, Bytes, keep}
 use Rattle.rom.proofs.Truth.{and-false}
 use Rattle.format.specs.Block.{sizeOf, isListed}
-use Rattle.header.specs.declared.Arguments.{Arguments}
-use Rattle.header.specs.Image.{restFrom}
-use Rattle.header.specs.Header.{rowFor, startFor, countFor}
-use Rattle.leaf.specs.Leaf.{Place, placed, keep, table, tableOf}
+use Rattle.image.specs.declared.Arguments.{Arguments}
+use Rattle.image.specs.Image.{upToLeavesEnd}
+use Rattle.image.specs.Arguments.{rowFor, startFor, countFor}
+use Rattle.leaf.specs.Leaf.{PlacedBlock, placed, table, tableOf}
 use Rattle.leaf.proofs.Cuts.{cut-length}
 use Rattle.reader.specs.Reading.{blocksFor, acceptedAnswer}
 use Rattle.rom.specs.Geometry.{none}
@@ -46,7 +46,7 @@ module _ (image : List ℕ) (a : Arguments) (bytes : Bytes image) where
   few = omega (arith, few-blocks image a bytes)
 
   short : length (blocksFor image a) ≤ 256
-  short = omega (arith, few, cut-length (rowFor a) (countFor image a) (restFrom (a .layout) image (startFor image a)))
+  short = omega (arith, few, cut-length (rowFor a) (countFor image a) (upToLeavesEnd (a .layout) image (startFor image a)))
 
 pub flag-for-each : FlagForEach
 unfolding loadedWalk rowsOf acceptedAnswer
@@ -97,10 +97,10 @@ unfolding firstOr
 or-append q d [] bs = refl
 or-append q d (x ∷ xs) bs = rw (or-append q d xs bs)
 
-or-none : (q : ℕ → Bool) (ks : List ℕ) → firstOr q none ks ≡ firstOf q ks
+first-or-none : (q : ℕ → Bool) (ks : List ℕ) → firstOr q none ks ≡ firstOf q ks
 unfolding firstOr firstOf
-or-none q [] = refl
-or-none q (k ∷ ks) = rw (or-none q ks)
+first-or-none q [] = refl
+first-or-none q (k ∷ ks) = rw (first-or-none q ks)
 
 module _ (p : List ℕ → Bool) (q : ℕ → Bool) (whole : List (List ℕ)) where
   taken : ℕ → Bool
@@ -141,10 +141,10 @@ unfolding taken lastBelow
 table-order p q image a =
     let bs = blocksFor image a in
     let all : countFor image a ≡ 0 + length bs =
-    omega (arith, cut-length (rowFor a) (countFor image a) (restFrom (a .layout) image (startFor image a))) in
+    omega (arith, cut-length (rowFor a) (countFor image a) (upToLeavesEnd (a .layout) image (startFor image a))) in
     ap (lastBelow (taken p q bs)) all
     ∙ sym (last-first p q bs 0 bs (λ j. ap (blockIs p bs) (zero-add j)))
-    ∙ or-none q (reverse (numbersFrom p 0 bs))
+    ∙ first-or-none q (reverse (numbersFrom p 0 bs))
 
 pub first-in-order : FirstInOrder
 unfolding loadedWalk rowsOf acceptedAnswer firstUp isCandidate entryNumbers taken lastBelow
@@ -184,13 +184,13 @@ fixed-in-order image a =
 
 -- ## The table's entries
 
-map-reverse : (f : ℕ → Place) (ks : List ℕ) → map f (reverse ks) ≡ reverse (map f ks)
+map-reverse : (f : ℕ → PlacedBlock) (ks : List ℕ) → map f (reverse ks) ≡ reverse (map f ks)
 map-reverse f [] = refl
 map-reverse f (k ∷ ks) =
-    ap (map f) (reverse-cons k ks) ∙ map-append f (reverse ks) (k ∷ []) ∙ ap (λ (t : List Place). t ++ f k ∷ []) (map-reverse f ks)
+    ap (map f) (reverse-cons k ks) ∙ map-append f (reverse ks) (k ∷ []) ∙ ap (λ (t : List PlacedBlock). t ++ f k ∷ []) (map-reverse f ks)
     ∙ sym (reverse-cons (f k) (map f ks))
 
-keep-numbers : (p : List ℕ → Bool) (row k at : ℕ) (bs : List (List ℕ)) (whole : List Place) (d : Place)
+keep-numbers : (p : List ℕ → Bool) (row k at : ℕ) (bs : List (List ℕ)) (whole : List PlacedBlock) (d : PlacedBlock)
     → ((j : ℕ) → getD whole (k + j) d ≡ getD (placed row at bs) j d)
     → keep (λ b. p (b .rest)) (placed row at bs) ≡ map (λ n. getD whole n d) (numbersFrom p k bs)
 unfolding keep placed numbersFrom pick

@@ -12,8 +12,8 @@ use Rattle.rom.specs.Bytes.{pick, isIn}
 use Rattle.rom.proofs.Truth.{and-false}
 use Rattle.format.specs.Chips.{newestLevel}
 use Rattle.format.specs.Block.{sizeOf, kindOf, isKnown, isListed}
-use Rattle.header.specs.Header.{rowFor, startFor, atLevel}
-use Rattle.leaf.specs.Leaf.{Place, placed}
+use Rattle.image.specs.Arguments.{rowFor, startFor, atLevel}
+use Rattle.leaf.specs.Leaf.{PlacedBlock, placed}
 use Rattle.reader.specs.Reading.{blocksFor}
 use Rattle.walk.specs.Walk.{blockIs}
 use Rattle.older.specs.Levels.{isRemoved}
@@ -64,10 +64,10 @@ in-numbers p f (j ∷ ks) k = go (p (f j)) refl (eqb j k) refl (in-numbers p f k
 
 -- ## Numbers of blocks
 
-below : (p : List ℕ → Bool) (k : ℕ) (bs : List (List ℕ)) (i : ℕ) → i < k → isIn i (numbersFrom p k bs) ≡ false
+not-below : (p : List ℕ → Bool) (k : ℕ) (bs : List (List ℕ)) (i : ℕ) → i < k → isIn i (numbersFrom p k bs) ≡ false
 unfolding isIn numbersFrom pick
-below p k [] i h = refl
-below p k (s ∷ bs) i h = go (p s) (below p (k + 1) bs i (omega arith))
+not-below p k [] i h = refl
+not-below p k (s ∷ bs) i h = go (p s) (not-below p (k + 1) bs i (omega arith))
   where
     go : (t : Bool) → isIn i (numbersFrom p (k + 1) bs) ≡ false
         → isIn i (pick t (k ∷ numbersFrom p (k + 1) bs) (numbersFrom p (k + 1) bs)) ≡ false
@@ -77,7 +77,7 @@ below p k (s ∷ bs) i h = go (p s) (below p (k + 1) bs i (omega arith))
 in-from : (p : List ℕ → Bool) (k : ℕ) (bs : List (List ℕ)) (j : ℕ) → isIn (k + j) (numbersFrom p k bs) ≡ blockIs p bs j
 unfolding isIn numbersFrom blockIs pick
 in-from p k [] j = refl
-in-from p k (s ∷ bs) zero = go (p s) (below p (k + 1) bs (k + 0) (omega arith))
+in-from p k (s ∷ bs) zero = go (p s) (not-below p (k + 1) bs (k + 0) (omega arith))
   where
     go : (t : Bool) → isIn (k + 0) (numbersFrom p (k + 1) bs) ≡ false
         → isIn (k + 0) (pick t (k ∷ numbersFrom p (k + 1) bs) (numbersFrom p (k + 1) bs)) ≡ t
@@ -93,7 +93,7 @@ in-from p k (s ∷ bs) (suc j) = go (p s) (ap (λ (n : ℕ). isIn n (numbersFrom
     go true ih = rw (ne-eqb k (k + suc j) (λ z. omega arith)) ih
     go false ih = ih
 
-placed-rest : (row at : ℕ) (bs : List (List ℕ)) (k : ℕ) (d : Place) → d .rest ≡ [] → getD (placed row at bs) k d .rest ≡ getD bs k []
+placed-rest : (row at : ℕ) (bs : List (List ℕ)) (k : ℕ) (d : PlacedBlock) → d .rest ≡ [] → getD (placed row at bs) k d .rest ≡ getD bs k []
 unfolding placed
 placed-rest row at [] k d e = e
 placed-rest row at (s ∷ bs) zero d e = refl
@@ -108,7 +108,7 @@ removed-listed row older newest (s ∷ bs) (suc k) = removed-listed row older ne
 
 -- ## The table's entries
 
-map-twice : (f : Place → TableEntry) (g : ℕ → Place) (ks : List ℕ) → map f (map g ks) ≡ map (λ k. f (g k)) ks
+map-twice : (f : PlacedBlock → TableEntry) (g : ℕ → PlacedBlock) (ks : List ℕ) → map f (map g ks) ≡ map (λ k. f (g k)) ks
 map-twice f g [] = refl
 map-twice f g (k ∷ ks) = ap (λ (es : List TableEntry). f (g k) ∷ es) (map-twice f g ks)
 
@@ -119,7 +119,7 @@ removed-numbers image a older e n room k =
     let row = rowFor a in
     let bs = blocksFor image a in
     let whole = placed row (startFor image a) bs in
-    let d : Place = record { start = 0; rest = [] } in
+    let d : PlacedBlock = record { start = 0; rest = [] } in
     let ks = entryNumbers image new in
     let table : tableIn image new n ≡ map (λ j. asEntry row (getD whole j d)) ks =
     table-is image new e n room ∙ ap (map (asEntry row)) (table-numbers image new) ∙ map-twice (asEntry row) (λ j. getD whole j d) ks in

@@ -14,13 +14,13 @@ use Rattle.rom.proofs.First.{after-accepted, after-refused}
 use Rattle.rom.proofs.Fewer.{fewer}
 use Rattle.format.specs.Chips.{newestLevel}
 use Rattle.format.specs.Block.{kindOf, factsOf, isPower, setsMode, causes}
-use Rattle.header.specs.declared.Arguments.{Arguments}
-use Rattle.header.specs.Image.{isFirstVersion, magicCauses, imageCauses, argumentCauses, leafHeaderCauses}
-use Rattle.header.specs.Header.{rowFor, headerCauses, atLevel}
-use Rattle.header.proofs.Headers.{header-numbered}
+use Rattle.image.specs.declared.Arguments.{Arguments}
+use Rattle.image.specs.Image.{isFirstVersion, magicCauses, imageCauses, argumentCauses, leafHeaderCauses}
+use Rattle.image.specs.Arguments.{rowFor, headerCauses, atLevel}
+use Rattle.image.proofs.Causes.{header-numbered}
 use Rattle.leaf.specs.Leaf.{countOf, blockCauses, clashCause, modeCause, wholeCauses, leafCauses}
 use Rattle.leaf.proofs.Cuts.{blocks-numbered}
-use Rattle.leaf.proofs.Modes.{any-same}
+use Rattle.rom.proofs.Below.{any-same}
 use Rattle.reader.specs.Reading.{blocksFor, leafCausesFor, judgeCauses, acceptedAnswer, answerFor, judgeAnswer}
 use Rattle.older.specs.Claims.{ReadBelow}
 use Rattle.older.proofs.Older.{count-down, blocks-down, clash-vanishes}
@@ -43,10 +43,10 @@ without-append n (c ∷ cs) ds t u = go (not (eqb (c .number) n)) t (without-app
     go false t later = t
 
 -- do not answer n
-other : (n : ℕ) (cs : List Cause) → (n ≡ 0 → ⊥) → T (without n cs) → firstMet cs ≡ n → ⊥
+without-unmet : (n : ℕ) (cs : List Cause) → (n ≡ 0 → ⊥) → T (without n cs) → firstMet cs ≡ n → ⊥
 unfolding firstMet pick
-other n [] z t e = z (sym e)
-other n (c ∷ cs) z t e = go (c .met) e (eqb (c .number) n) refl t (other n cs z)
+without-unmet n [] z t e = z (sym e)
+without-unmet n (c ∷ cs) z t e = go (c .met) e (eqb (c .number) n) refl t (without-unmet n cs z)
   where
     go : (x : Bool) → pick x (c .number) (firstMet cs) ≡ n → (y : Bool) → eqb (c .number) n ≡ y → T (not y && without n cs)
         → (T (without n cs) → firstMet cs ≡ n → ⊥)
@@ -61,7 +61,7 @@ not-met n cs ds z t e = go (firstMet cs) refl
   where
     go : (m : ℕ) → firstMet cs ≡ m → firstMet cs ≡ 0
     go zero f = f
-    go (suc m) f = absurd (other n cs z t (f ∙ sym (after-refused cs ds (suc m) (λ z. omega arith) f) ∙ e))
+    go (suc m) f = absurd (without-unmet n cs z t (f ∙ sym (after-refused cs ds (suc m) (λ z. omega arith) f) ∙ e))
 
 header-without : (image : List ℕ) (a : Arguments) → T (without 31 (headerCauses image a))
 unfolding headerCauses imageCauses magicCauses argumentCauses leafHeaderCauses

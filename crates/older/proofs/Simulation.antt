@@ -10,7 +10,7 @@ use Rattle.rom.specs.Geometry.{none}
 use Rattle.rom.specs.Bytes.{pick}
 use Rattle.rom.specs.Refusal.{firstMet}
 use Rattle.rom.proofs.Truth.{and-false}
-use Rattle.header.specs.declared.Arguments.{Arguments}
+use Rattle.image.specs.declared.Arguments.{Arguments}
 use Rattle.walk.specs.declared.Walk.{Walk}
 use Rattle.walk.specs.declared.Choice.{Choice}
 use Rattle.walk.specs.declared.Way.{Way}
@@ -208,12 +208,12 @@ looksIn : Seen → ℕ
 looksIn fresh = 0
 looksIn (loaded s x l n) = l
 
-switchesIn : Seen → ℕ
+abbrev pub switchesIn : Seen → ℕ
 switchesIn fresh = 0
 switchesIn (loaded s x l n) = n
 
 pub seen-tells : SeenTells
-unfolding seen pick settledIn selectedIn looksIn switchesIn
+unfolding seen pick settledIn selectedIn looksIn
 seen-tells v w a b e =
     let f : loaded (v .settled) (v .selected) (v .looks) (v .switches) ≡ loaded (w .settled) (w .selected) (w .looks) (w .switches) =
     rw (a, b) at e in

@@ -11,8 +11,8 @@ use lib.ListN.{getD}
 use Rattle.rom.specs.Bytes.{pick}
 use Rattle.rom.specs.Refusal.{firstMet}
 use Rattle.rom.proofs.Truth.{and-true}
-use Rattle.header.specs.declared.Arguments.{Arguments}
-use Rattle.header.specs.Header.{rowFor}
+use Rattle.image.specs.declared.Arguments.{Arguments}
+use Rattle.image.specs.Arguments.{rowFor}
 use Rattle.format.specs.Block.{isListed, isDefault}
 use Rattle.leaf.specs.Leaf.{firstFrom}
 use Rattle.reader.specs.Reading.{blocksFor, acceptedAnswer}
@@ -24,13 +24,13 @@ use Rattle.walk.specs.Walk.{lookCauses, loadCauses, walkedTo, loadFor, lookFor,
 use Rattle.older.specs.FromFresh.{FromFresh, fresh, load, look, clear}
 use Rattle.older.specs.Claims.{StandsOnEntry}
 use Rattle.older.proofs.Order.{fixed-within}
-use Rattle.older.proofs.Numbered.{Found, found, absent, at, block-at, default-listed, flag-block}
+use Rattle.older.proofs.Numbered.{FoundFirst, found-first, absent, at, block-at, default-listed, flag-block}
 
 -- no block, or one that is listed
 abbrev OnEntry : List ℕ → ℕ → Type 0
 OnEntry listed x = (x ≡ none) ⊎ (flagAt listed x ≡ true)
 
-record Stands (w : Walk) : Type 0 where
+record StandsListed (w : Walk) : Type 0 where
   selected : OnEntry (w .rows .listed) (w .selected)
   «default» : OnEntry (w .rows .listed) (w .«default_number»)
   fixed : (k : ℕ) → flagAt (w .rows .fixed) k ≡ true → flagAt (w .rows .listed) k ≡ true
@@ -55,10 +55,10 @@ up-on w report =
 
 -- ## A default is listed
 
-default-on : (row level : ℕ) (bs : List (List ℕ)) → OnEntry (flags (isListed row level) bs) (firstFrom (isDefault row level) 0 bs)
-default-on row level bs = go (firstFrom (isDefault row level) 0 bs) (found (isDefault row level) 0 bs)
+default-on-entry : (row level : ℕ) (bs : List (List ℕ)) → OnEntry (flags (isListed row level) bs) (firstFrom (isDefault row level) 0 bs)
+default-on-entry row level bs = go (firstFrom (isDefault row level) 0 bs) (found-first (isDefault row level) 0 bs)
   where
-    go : (d : ℕ) → Found (isDefault row level) 0 bs d → OnEntry (flags (isListed row level) bs) d
+    go : (d : ℕ) → FoundFirst (isDefault row level) 0 bs d → OnEntry (flags (isListed row level) bs) d
     go d absent = inl refl
     go d (at j q b) =
         let t = block-at (isDefault row level) (isListed row level) bs j b in
@@ -75,19 +75,19 @@ fixed-on connection row level bs k e =
 
 -- ## Calls
 
-stands-fresh : Stands freshWalk
+stands-fresh : StandsListed freshWalk
 unfolding freshWalk noRows noFlags
 stands-fresh = record { selected = inl refl; «default» = inl refl; fixed = λ k e. e }
 
-module _ (w : Walk) (s : Stands w) where
-  stands-load : (image : List ℕ) (a : Arguments) → Stands (loadFor w image a .walk)
+module _ (w : Walk) (s : StandsListed w) where
+  stands-load : (image : List ℕ) (a : Arguments) → StandsListed (loadFor w image a .walk)
   unfolding loadFor walkedTo loadedWalk rowsOf acceptedAnswer pick
   stands-load image a = go (eqb (firstMet (loadCauses w image a)) 0)
     where
-      go : (t : Bool) → Stands (pick t (loadedWalk image a) w)
+      go : (t : Bool) → StandsListed (pick t (loadedWalk image a) w)
       go true = record {
         selected = inl refl;
-        «default» = default-on (rowFor a) (a .level) (blocksFor image a);
+        «default» = default-on-entry (rowFor a) (a .level) (blocksFor image a);
         fixed = fixed-on (acceptedAnswer image a .connection) (rowFor a) (a .level) (blocksFor image a);
       }
       go false = s
@@ -112,20 +112,20 @@ module _ (w : Walk) (s : Stands w) where
       go true = last-on (w .rows .listed) (flagAt (w .rows .fixed)) (s .fixed) (w .blocks)
       go false = sensed-on report
 
-  stands-look : (report : List ℕ) → Stands (lookFor w report .walk)
+  stands-look : (report : List ℕ) → StandsListed (lookFor w report .walk)
   unfolding lookFor walkedTo stepped pick
   stands-look report = go (eqb (firstMet (lookCauses w report)) 0)
     where
-      go : (t : Bool) → Stands (pick t (stepped w report) w)
+      go : (t : Bool) → StandsListed (pick t (stepped w report) w)
       go true = record { selected = chosen-on report; «default» = s .«default»; fixed = s .fixed }
       go false = s
 
-stands : (w : Walk) → FromFresh w → Stands w
+stands-listed : (w : Walk) → FromFresh w → StandsListed w
 unfolding clearFor
-stands u fresh = stands-fresh
-stands u (load {w} image a r) = stands-load w (stands w r) image a
-stands u (look {w} report r) = stands-look w (stands w r) report
-stands u (clear r) = stands-fresh
+stands-listed u fresh = stands-fresh
+stands-listed u (load {w} image a r) = stands-load w (stands-listed w r) image a
+stands-listed u (look {w} report r) = stands-look w (stands-listed w r) report
+stands-listed u (clear r) = stands-fresh
 
 pub stands-on-entry : StandsOnEntry
-stands-on-entry w r = stands w r .selected
+stands-on-entry w r = stands-listed w r .selected

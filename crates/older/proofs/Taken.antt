@@ -11,9 +11,9 @@ use Rattle.rom.specs.Bytes.{pick}
 use Rattle.rom.specs.Refusal.{firstMet}
 use Rattle.format.specs.Chips.{takenAs}
 use Rattle.format.specs.Block.{isDefault}
-use Rattle.header.specs.declared.Arguments.{Arguments}
-use Rattle.header.specs.Image.{restFrom}
-use Rattle.header.specs.Header.{rowFor, startFor, countFor}
+use Rattle.image.specs.declared.Arguments.{Arguments}
+use Rattle.image.specs.Image.{upToLeavesEnd}
+use Rattle.image.specs.Arguments.{rowFor, startFor, countFor}
 use Rattle.leaf.specs.Leaf.{firstFrom}
 use Rattle.leaf.proofs.Cuts.{cut-length}
 use Rattle.reader.specs.Reading.{judgeCauses, acceptedAnswer}
@@ -67,8 +67,8 @@ module _ (image other : List ℕ) (a b : Arguments) (s : SameButCode image other
 
   same-count : countFor other b ≡ countFor image a
   same-count =
-      sym (cut-length (rowFor b) (countFor other b) (restFrom (b .layout) other (startFor other b))) ∙ ap length (s .blocks)
-      ∙ cut-length (rowFor a) (countFor image a) (restFrom (a .layout) image (startFor image a))
+      sym (cut-length (rowFor b) (countFor other b) (upToLeavesEnd (b .layout) other (startFor other b))) ∙ ap length (s .blocks)
+      ∙ cut-length (rowFor a) (countFor image a) (upToLeavesEnd (a .layout) image (startFor image a))
 
   -- the loaded walks are equal but for the type
   loaded-type : loadedWalk other b ≡ under taken (loadedWalk image a)

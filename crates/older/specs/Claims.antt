@@ -7,14 +7,14 @@ use mathlib.Core.Logic.{_⊎_}
 use lib.Dec.{eqb, ltb}
 use lib.ListN.{length, getD}
 use Rattle.rom.specs.Geometry.{none, wrongLength, versionAt}
-use Rattle.rom.specs.Bytes.{pick, one, byteAt, wordAt, isIn, Bytes}
+use Rattle.rom.specs.Bytes.{pick, one, byteAt, wordAt, isIn, Bytes, keep}
 use Rattle.rom.specs.Refusal.{firstMet}
 use Rattle.format.specs.Chips.{newestLevel, firstEdition, laterEdition, firstCodes, laterCodes, takenAs}
 use Rattle.format.specs.Block.{kindOf, isKnown, isListed, isReset, isPower, isSkipped, isDefault}
-use Rattle.header.specs.declared.Arguments.{Arguments}
-use Rattle.header.specs.Image.{isFirstVersion}
-use Rattle.header.specs.Header.{rowFor, leafFor, startFor, atLevel, inEdition}
-use Rattle.leaf.specs.Leaf.{Place, placed, keep, table, countOf, firstFrom, leafCauses}
+use Rattle.image.specs.declared.Arguments.{Arguments}
+use Rattle.image.specs.Image.{isFirstVersion}
+use Rattle.image.specs.Arguments.{rowFor, leafFor, startFor, atLevel, inEdition}
+use Rattle.leaf.specs.Leaf.{PlacedBlock, placed, table, countOf, firstFrom, leafCauses}
 use Rattle.reader.specs.declared.Answer.{Answer}
 use Rattle.reader.specs.Reading.{blocksFor, tableFor, judgeCauses, acceptedAnswer, judgeAnswer, readAnswer, readKinds, readOffsets}
 use Rattle.reader.specs.Reading.{viewFor}
@@ -25,7 +25,7 @@ use Rattle.walk.specs.Walk.{wayOf, isFixed, rowLength, noFlags, blockIs, flagAt
 use Rattle.walk.specs.Walk.{firstUp, fixedBlock, lookFor}
 use Rattle.older.specs.Levels.{isKept, onlyNewest, isRemoved, removedBlock}
 use Rattle.older.specs.Calls.{Call, look, Each, Down, QuietAt, RefusedAt, seen, run}
-use Rattle.older.specs.Written.{Arrays, Room, answerOf, TableEntry, asEntry, tableIn, those, removed, kept, numbersOf}
+use Rattle.older.specs.Written.{Arrays, Room, answerOf, TableEntry, asEntry, tableIn, removed, kept, numbersOf}
 use Rattle.older.specs.FromFresh.{FromFresh}
 use Rattle.older.specs.Alike.{Kept, StandAlike}
 
@@ -40,10 +40,10 @@ pub record OlderReads (image : List ℕ) (a : Arguments) (older : ℕ) (new old 
   pub blocks : old .blocks ≡ new .blocks
   pub «default» : old .«default_number» ≡ pick (removedBlock image a older (new .«default_number»)) none (new .«default_number»)
   pub resets : old .resets ≡ pick (ltb 5 older) (new .resets) 0
-  pub listed : old .listed + length (those (removed older) newTable) ≡ new .listed
+  pub listed : old .listed + length (keep (removed older) newTable) ≡ new .listed
   pub skipped : old .skipped ≡ new .skipped + countOf (onlyNewest (rowFor a) older newestLevel) (blocksFor image a)
   pub power : old .power ≡ 0
-  pub table : oldTable ≡ those (kept older) newTable
+  pub table : oldTable ≡ keep (kept older) newTable
 
 -- as `read` answers and writes them, each into arrays no shorter than the block count
 abbrev pub ReadsAgree : List ℕ → Arguments → ℕ → Type 0
@@ -126,7 +126,8 @@ OlderAccepts = (first : Bool) (row older newest : ℕ) (bs : List (List ℕ)) �
 
 -- the older table is the newest one without the removed entries, in the same order
 abbrev pub OlderTable : Type 0
-OlderTable = (row older newest : ℕ) (bs : List Place) → older ≤ newest → table row older bs ≡ keep (isKept row older) (table row newest bs)
+OlderTable = (row older newest : ℕ) (bs : List PlacedBlock) → older ≤ newest → table row older bs ≡ keep (isKept row older)
+    (table row newest bs)
 
 -- the older counts: the same resets if it knows type 5, else 0; listed lower by the removed entries; skipped higher by the
 -- blocks of types that only the newest knows; the same power if it knows type 6, else 0
@@ -192,7 +193,7 @@ unfoldable pub firstOf : (ℕ → Bool) → List ℕ → ℕ
 firstOf p [] = none
 firstOf p (k ∷ ks) = pick (p k) k (firstOf p ks)
 
-abbrev nowhere : Place
+abbrev nowhere : PlacedBlock
 nowhere = record { start = 0; rest = [] }
 
 -- they are the table's entries

@@ -1,7 +1,7 @@
 -- The walks that calls reach.
 use Prim.Native.Nat.{ℕ}
 use mathlib.Core.List.{List}
-use Rattle.header.specs.declared.Arguments.{Arguments}
+use Rattle.image.specs.declared.Arguments.{Arguments}
 use Rattle.walk.specs.declared.Walk.{Walk}
 use Rattle.walk.specs.Walk.{freshWalk, loadFor, lookFor, clearFor}
 

@@ -4,14 +4,14 @@ use mathlib.Core.List.{List}
 use mathlib.Core.Bool.{Bool, _&&_, not}
 use Rattle.format.specs.Chips.{newestLevel}
 use Rattle.format.specs.Block.{kindOf, isKnown, isListed}
-use Rattle.header.specs.declared.Arguments.{Arguments}
-use Rattle.header.specs.Header.{rowFor}
-use Rattle.leaf.specs.Leaf.{Place}
+use Rattle.image.specs.declared.Arguments.{Arguments}
+use Rattle.image.specs.Arguments.{rowFor}
+use Rattle.leaf.specs.Leaf.{PlacedBlock}
 use Rattle.reader.specs.Reading.{blocksFor}
 use Rattle.walk.specs.Walk.{blockIs}
 
 -- an entry that is not removed: its kind is no type, or a type below the older level
-abbrev pub isKept : ℕ → ℕ → Place → Bool
+abbrev pub isKept : ℕ → ℕ → PlacedBlock → Bool
 isKept row older b = isKnown older (kindOf row (b .rest))
 
 -- a block of a type that only the newest knows

@@ -5,9 +5,9 @@ use mathlib.Core.Bool.{Bool, not}
 use lib.ListN.{length, take}
 use Rattle.rom.specs.Bytes.{pick}
 use Rattle.format.specs.Block.{isKnown}
-use Rattle.header.specs.declared.Arguments.{Arguments}
-use Rattle.header.specs.Header.{countFor}
-use Rattle.leaf.specs.Leaf.{Place, kindAt, startAt}
+use Rattle.image.specs.declared.Arguments.{Arguments}
+use Rattle.image.specs.Arguments.{countFor}
+use Rattle.leaf.specs.Leaf.{PlacedBlock, kindAt, startAt}
 use Rattle.reader.specs.declared.Answer.{Answer}
 use Rattle.reader.specs.Reading.{readAnswer, readKinds, readOffsets}
 
@@ -33,7 +33,7 @@ entries (k ∷ kinds) [] = []
 entries (k ∷ kinds) (s ∷ starts) = record { kind = k; start = s } ∷ entries kinds starts
 
 -- an entry of the table that the definitions give
-abbrev pub asEntry : ℕ → Place → TableEntry
+abbrev pub asEntry : ℕ → PlacedBlock → TableEntry
 asEntry row p = record { kind = kindAt row p; start = startAt p }
 
 -- as many as are listed, from the front of what `read` writes
@@ -42,11 +42,6 @@ tableIn image a arrays =
     let listed = answerOf image a arrays .listed in
     entries (take listed (readKinds image a (arrays .kinds) (arrays .offsets)))
     (take listed (readOffsets image a (arrays .kinds) (arrays .offsets)))
-
--- the entries that p takes, in their order
-unfoldable pub those : (TableEntry → Bool) → List TableEntry → List TableEntry
-those p [] = []
-those p (e ∷ es) = pick (p e) (e ∷ those p es) (those p es)
 
 -- a removed entry: one of the newest table whose kind is a type not below the older level; 256 and 257 are no types
 abbrev pub removed : ℕ → TableEntry → Bool

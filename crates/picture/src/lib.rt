@@ -3,7 +3,7 @@ use block::Block;
 use block::NEWEST_LEVEL;
 use console::output;
 use console::status;
-use magic::place_of;
+use magic::field_at;
 use reader::Arguments;
 use report::words;
 use rom::Layout;
@@ -206,12 +206,12 @@ impl Cells {
         if !layout.magic {
             return self;
         }
-        self.painted(PASSWORD, 0, place_of(layout.size, magic::PASSWORD), 6)
-            .painted(WAKE_ADDRESS, 0, place_of(layout.size, magic::ADDRESS), 6)
-            .painted(COMMAND, 0, place_of(layout.size, magic::COMMAND), 2)
-            .painted(RESERVED, 0, place_of(layout.size, magic::ZEROS), 16)
-            .painted(MAGIC_CRC, 0, place_of(layout.size, magic::CRC), 1)
-            .painted(RESERVED, 0, place_of(layout.size, magic::LAST), 1)
+        self.painted(PASSWORD, 0, field_at(layout.size, magic::PASSWORD), 6)
+            .painted(WAKE_ADDRESS, 0, field_at(layout.size, magic::ADDRESS), 6)
+            .painted(COMMAND, 0, field_at(layout.size, magic::COMMAND), 2)
+            .painted(RESERVED, 0, field_at(layout.size, magic::ZEROS), 16)
+            .painted(MAGIC_CRC, 0, field_at(layout.size, magic::CRC), 1)
+            .painted(RESERVED, 0, field_at(layout.size, magic::LAST), 1)
     }
 }
 

@@ -10,12 +10,12 @@ use Rattle.rom.specs.Geometry.{leavesEnd}
 use Rattle.rom.specs.Bytes.{pick}
 use Rattle.rom.specs.Refusal.{Numbered, firstMet}
 use Rattle.rom.proofs.First.{exact, numbered-append, both-accepted}
-use Rattle.header.specs.declared.Arguments.{Arguments}
-use Rattle.header.specs.Image.{isFirstVersion, restFrom}
-use Rattle.header.specs.Header.{rowFor, startFor, countFor, headerCauses}
-use Rattle.header.proofs.Headers.{header-numbered, start-fits}
+use Rattle.image.specs.declared.Arguments.{Arguments}
+use Rattle.image.specs.Image.{isFirstVersion, upToLeavesEnd}
+use Rattle.image.specs.Arguments.{rowFor, startFor, countFor, headerCauses}
+use Rattle.image.proofs.Causes.{header-numbered, start-fits}
 use Rattle.leaf.proofs.Cuts.{leaf-numbered, accepted-blocks}
-use Rattle.leaf.proofs.Counts.{sorts-add-up}
+use Rattle.leaf.proofs.Sorts.{sorts-add-up}
 use Rattle.reader.specs.declared.Part.{Part}
 use Rattle.reader.specs.Table.{entryPart}
 use Rattle.reader.specs.Reading.{blocksFor, tableFor, leafCausesFor, judgeCauses, readCauses, acceptedAnswer, judgeAnswer, readAnswer}
@@ -48,7 +48,7 @@ exact-reading image a = (
 
 pub counts-add-up : CountsAddUp
 unfolding acceptedAnswer
-counts-add-up image a = sorts-add-up (rowFor a) (a .level) (countFor image a) (restFrom (a .layout) image (startFor image a))
+counts-add-up image a = sorts-add-up (rowFor a) (a .level) (countFor image a) (upToLeavesEnd (a .layout) image (startFor image a))
 
 -- ## The view
 
@@ -60,11 +60,11 @@ inner l (suc d) (suc m) [] h = refl
 inner l (suc d) (suc m) (x ∷ xs) h = inner l d m xs (omega arith)
 
 pub view-is-block : ViewIsBlock
-unfolding viewFor partFor judgeCauses leafCausesFor restFrom pick
+unfolding viewFor partFor judgeCauses leafCausesFor upToLeavesEnd pick
 view-is-block image a e z l =
     let b = both-accepted (headerCauses image a) (leafCausesFor image a) (header-numbered image a) z in
     let start = startFor image a in
-    let rest = restFrom (a .layout) image start in
+    let rest = upToLeavesEnd (a .layout) image start in
     let fine = accepted-blocks (isFirstVersion image) (rowFor a) (a .level) (blocksFor image a) (b .1) in
     let p : Part = entryPart (rowFor a) (tableFor image a) e in
     let after : start ≤ p .start = entry-after (rowFor a) (a .level) (countFor image a) start rest e fine l in

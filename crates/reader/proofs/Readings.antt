@@ -13,17 +13,19 @@ use Rattle.rom.specs.Bytes.{pick}
 use Rattle.rom.specs.Refusal.{Cause, _⇒_, firstMet}
 use Rattle.rom.proofs.First.{none-here, after-accepted, after-refused, both-accepted}
 use Rattle.rom.proofs.Truth.{or-false}
-use Rattle.header.specs.declared.Arguments.{Arguments}
+use Rattle.image.specs.declared.Arguments.{Arguments}
 use Rattle.header.specs.declared.Header.{Header}
-use Rattle.header.specs.Image.{isFirstVersion, restFrom}
-use Rattle.header.specs.Header.{rowFor, startFor, countFor, headerCauses, foundHeader, headerFor}
-use Rattle.header.proofs.Headers.{header-numbered, whole-image, start-fits, read-number, no-refusal, read-found, read-count}
+use Rattle.image.specs.Image.{isFirstVersion, upToLeavesEnd}
+use Rattle.image.specs.Arguments.{rowFor, startFor, countFor, headerCauses}
+use Rattle.header.specs.Header.{foundHeader, headerFor}
+use Rattle.image.proofs.Causes.{header-numbered, whole-image, start-fits}
+use Rattle.header.proofs.Headers.{read-number, no-refusal, read-found, read-count}
 use Rattle.format.specs.Block.{laterVersion}
 use Rattle.leaf.specs.declared.Tally.{Tally}
-use Rattle.leaf.specs.Leaf.{Place, cut, blockCauses, tableOf}
+use Rattle.leaf.specs.Leaf.{PlacedBlock, cut, blockCauses, tableOf}
 use Rattle.leaf.specs.Tally.{tallyOf, counts}
 use Rattle.leaf.proofs.Cuts.{accepted-blocks}
-use Rattle.leaf.proofs.Counts.{tally-number, tally-accepted, sorts-add-up}
+use Rattle.leaf.proofs.Sorts.{tally-number, tally-accepted, sorts-add-up}
 use Rattle.leaf.proofs.Tables.{listed-length}
 use Rattle.reader.specs.declared.Answer.{Answer}
 use Rattle.reader.specs.declared.Part.{Part}
@@ -91,7 +93,7 @@ module _ (image : List ℕ) (a : Arguments) (k o : ℕ) (h : Header) (eh : h ≡
         refused-reading image a k o 12 (λ e. omega arith)
         (no-room image a k o accepted (simp (le-ltb k (countFor image a) (rw count at g), lt-ltb o (countFor image a) (rw count at l))))
 
-    module _ (hk : h .blocks ≤ k) (ho : h .blocks ≤ o) (rest : List ℕ) (er : rest ≡ restFrom (a .layout) image (h .start))
+    module _ (hk : h .blocks ≤ k) (ho : h .blocks ≤ o) (rest : List ℕ) (er : rest ≡ upToLeavesEnd (a .layout) image (h .start))
         {first : Bool} (ef : first ≡ isFirstVersion image) (t : Tally)
         (et : t ≡ tallyOf first (h .row) (a .level) (cut (h .row) (h .blocks) rest)) where
       tally : t ≡ tallyOf (isFirstVersion image) (rowFor a) (a .level) (blocksFor image a)
@@ -154,7 +156,7 @@ pub record Accepted (image : List ℕ) (a : Arguments) (r : Reading) : Type 0 wh
 
 -- the leaf's rest from where the reading says that its blocks start
 abbrev pub restOf : List ℕ → Arguments → Reading → List ℕ
-restOf image a r = restFrom (a .layout) image (r .start)
+restOf image a r = upToLeavesEnd (a .layout) image (r .start)
 
 module _ {image : List ℕ} {a : Arguments} {r : Reading} (c : Accepted image a r) where
   pub reading-start : r .start ≤ leavesEnd (a .layout)
@@ -172,15 +174,16 @@ module _ {image : List ℕ} {a : Arguments} {r : Reading} (c : Accepted image a 
   unfolding acceptedReading acceptedAnswer
   reading-listed =
       rw (c .known)
-      (sym (listed-length (rowFor a) (a .level) (countFor image a) (startFor image a) (restFrom (a .layout) image (startFor image a))))
+      (sym (listed-length (rowFor a) (a .level) (countFor image a) (startFor image a) (upToLeavesEnd (a .layout) image (startFor image a))))
 
   pub reading-few : r .answer .listed ≤ countFor image a
   unfolding acceptedReading acceptedAnswer
   reading-few =
-      rw (c .known) (omega (arith, sorts-add-up (rowFor a) (a .level) (countFor image a) (restFrom (a .layout) image (startFor image a))))
+      rw (c .known)
+      (omega (arith, sorts-add-up (rowFor a) (a .level) (countFor image a) (upToLeavesEnd (a .layout) image (startFor image a))))
 
   pub reading-short : r .start + length (restOf image a r) < 65536
-  unfolding restFrom
+  unfolding upToLeavesEnd
   reading-short =
       let g = geometry (a .layout) in omega (arith, reading-start, length-take (leavesEnd (a .layout) - r .start) (drop (r .start) image))
 
@@ -244,7 +247,7 @@ module _ (image : List ℕ) (a : Arguments) (k o : ℕ) (r : Reading) (er : r �
   unfolding readingFor readAnswer
   answer-read = reading-answer (firstMet (readCauses image a k o)) image a r er
 
-  pub unchanged : (f : Place → ℕ) (array : List ℕ) → (r .answer .number ≡ 0 → ⊥)
+  pub unchanged : (f : PlacedBlock → ℕ) (array : List ℕ) → (r .answer .number ≡ 0 → ⊥)
       → array ≡ readInto f (firstMet (readCauses image a k o)) image a array
   unfolding readInto pick
   unchanged f array n = simp (ne-eqb (firstMet (readCauses image a k o)) 0 (λ e. n (number-read ∙ e)))
@@ -270,7 +273,7 @@ module _ (image : List ℕ) (a : Arguments) (k o : ℕ) (r : Reading) (er : r �
     pub room-offsets : r .answer .listed ≤ o
     room-offsets = omega (arith, reading-few accepted-read, behind-met .2)
 
-    pub filled-in : (rest : List ℕ) → rest ≡ restOf image a r → (f : ℕ → Place → ℕ) (array : List ℕ)
+    pub filled-in : (rest : List ℕ) → rest ≡ restOf image a r → (f : ℕ → PlacedBlock → ℕ) (array : List ℕ)
         → tabled (f (r .row)) (tableOf (r .row) (a .level) (r .answer .blocks) (r .start) rest) array
         ≡ readInto (f (rowFor a)) (firstMet (readCauses image a k o)) image a array
     unfolding readInto pick
@@ -280,7 +283,7 @@ module _ (image : List ℕ) (a : Arguments) (k o : ℕ) (r : Reading) (er : r �
 
 module _ (image : List ℕ) (a : Arguments) (e : ℕ) where
   inside-image : partFor image a e .start + partFor image a e .length ≤ length image
-  unfolding partFor judgeCauses leafCausesFor restFrom pick entryPart
+  unfolding partFor judgeCauses leafCausesFor upToLeavesEnd pick entryPart
   inside-image = go (firstMet (judgeCauses image a)) refl
     where
       inside : firstMet (judgeCauses image a) ≡ 0
@@ -295,7 +298,7 @@ module _ (image : List ℕ) (a : Arguments) (e : ℕ) where
             geometry (a .layout) .stored,
             geometry (a .layout) .board,
             length-take (leavesEnd (a .layout) - startFor image a) (drop (startFor image a) image),
-            entry-inside (rowFor a) (a .level) (countFor image a) (startFor image a) (restFrom (a .layout) image (startFor image a)) e
+            entry-inside (rowFor a) (a .level) (countFor image a) (startFor image a) (upToLeavesEnd (a .layout) image (startFor image a)) e
                 (accepted-blocks (isFirstVersion image) (rowFor a) (a .level) (blocksFor image a) (b .1)),
           )
 

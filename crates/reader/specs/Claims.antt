@@ -5,9 +5,9 @@ use mathlib.Core.List.{List, []}
 use lib.ListN.{length, take, getD}
 use Rattle.rom.specs.Refusal.{Exact, firstMet}
 use Rattle.format.specs.Block.{sizeOf}
-use Rattle.header.specs.declared.Arguments.{Arguments}
-use Rattle.header.specs.Header.{rowFor}
-use Rattle.leaf.specs.Leaf.{Place}
+use Rattle.image.specs.declared.Arguments.{Arguments}
+use Rattle.image.specs.Arguments.{rowFor}
+use Rattle.leaf.specs.Leaf.{PlacedBlock}
 use Rattle.reader.specs.Reading.{tableFor, judgeCauses, readCauses, acceptedAnswer, judgeAnswer, readAnswer, viewFor}
 
 -- a number other than 0 means that its cause is met and none before it; 0 that none is met
@@ -22,7 +22,7 @@ CountsAddUp = (image : List ℕ) (a : Arguments) →
     acceptedAnswer image a .listed + acceptedAnswer image a .resets + acceptedAnswer image a .skipped + acceptedAnswer image a .power
     ≡ acceptedAnswer image a .blocks
 
-abbrev pub entryAt : List ℕ → Arguments → ℕ → Place
+abbrev pub entryAt : List ℕ → Arguments → ℕ → PlacedBlock
 entryAt image a e = getD (tableFor image a) e (record { start = 0; rest = [] })
 
 -- the view of an entry of an accepted image is that block's bytes

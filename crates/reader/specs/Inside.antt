@@ -5,7 +5,7 @@ use lib.ListN.{set}
 use Rattle.rom.specs.Refusal.{firstMet}
 use Rattle.block.specs.declared.Block.{Block}
 use Rattle.block.specs.declared.Block.the-variants.{Listed, Reset, Power, Unknown, Refused}
-use Rattle.header.specs.declared.Arguments.{Arguments}
+use Rattle.image.specs.declared.Arguments.{Arguments}
 use Rattle.header.specs.declared.Header.{Header}
 use Rattle.leaf.specs.declared.Tally.{Tally}
 use Rattle.reader.specs.declared.Answer.{Answer}

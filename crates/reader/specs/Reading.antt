@@ -7,11 +7,11 @@ use lib.Dec.{eqb, ltb}
 use lib.ListN.{length, take, drop}
 use Rattle.rom.specs.Bytes.{pick, wordAt}
 use Rattle.rom.specs.Refusal.{Cause, _⇒_, firstMet}
-use Rattle.header.specs.declared.Arguments.{Arguments}
-use Rattle.header.specs.Image.{isFirstVersion, addressOf, controlByte, restFrom}
-use Rattle.header.specs.Header.{rowFor, leafFor, startFor, countFor, headerCauses}
+use Rattle.image.specs.declared.Arguments.{Arguments}
+use Rattle.image.specs.Image.{isFirstVersion, addressOf, controlByte, upToLeavesEnd}
+use Rattle.image.specs.Arguments.{rowFor, leafFor, startFor, countFor, headerCauses}
 use Rattle.format.specs.Block.{isListed, isReset, isPower, isSkipped, isDefault}
-use Rattle.leaf.specs.Leaf.{Place, cut, countOf, firstFrom, leafCauses, kindAt, startAt, tableOf}
+use Rattle.leaf.specs.Leaf.{PlacedBlock, cut, countOf, firstFrom, leafCauses, kindAt, startAt, tableOf}
 use Rattle.reader.specs.declared.Answer.{Answer}
 use Rattle.reader.specs.declared.Reading.{Reading}
 use Rattle.reader.specs.declared.Part.{Part}
@@ -21,11 +21,11 @@ use Rattle.reader.specs.Table.{tabled, noPart, entryPart}
 
 -- its blocks
 abbrev pub blocksFor : List ℕ → Arguments → List (List ℕ)
-blocksFor image a = cut (rowFor a) (countFor image a) (restFrom (a .layout) image (startFor image a))
+blocksFor image a = cut (rowFor a) (countFor image a) (upToLeavesEnd (a .layout) image (startFor image a))
 
 -- its media table
-abbrev pub tableFor : List ℕ → Arguments → List Place
-tableFor image a = tableOf (rowFor a) (a .level) (countFor image a) (startFor image a) (restFrom (a .layout) image (startFor image a))
+abbrev pub tableFor : List ℕ → Arguments → List PlacedBlock
+tableFor image a = tableOf (rowFor a) (a .level) (countFor image a) (startFor image a) (upToLeavesEnd (a .layout) image (startFor image a))
 
 -- ## Why a reading is refused
 
@@ -86,7 +86,7 @@ unfoldable pub readAnswer : List ℕ → Arguments → ℕ → ℕ → Answer
 readAnswer image a kinds offsets = answerFor (firstMet (readCauses image a kinds offsets)) image a
 
 -- an array after the reading: the table's numbers at its front, or unchanged on a refusal
-unfoldable pub readInto : (Place → ℕ) → ℕ → List ℕ → Arguments → List ℕ → List ℕ
+unfoldable pub readInto : (PlacedBlock → ℕ) → ℕ → List ℕ → Arguments → List ℕ → List ℕ
 readInto f n image a array = pick (eqb n 0) (tabled f (tableFor image a) array) array
 
 unfoldable pub readKinds : List ℕ → Arguments → List ℕ → List ℕ → List ℕ

@@ -41,7 +41,7 @@ pub struct Reading {
     pub start: usize,
 }
 
-// More than any block count: room where no array is lent.
+// As much room as any block count asks for, where no array is lent.
 const NO_ARRAY: usize = 255;
 
 fn refused_answer(number: u8) -> Answer
@@ -61,7 +61,7 @@ fn refused_answer(number: u8) -> Answer
     }
 }
 
-fn refused(number: u8) -> Reading
+fn refused_reading(number: u8) -> Reading
     ensures { λ r. ⌜ r ≡ refusedReading number ⌝ }
 {
     Reading {
@@ -96,23 +96,23 @@ fn assess_for(image: &[u8], arguments: Arguments, kinds: usize, offsets: usize) 
     let h = header::read_header(image, arguments);
     let number = h.number;
     if number != refusal::ACCEPTED {
-        return refused(number);
+        return refused_reading(number);
     }
     let blocks = h.blocks;
     if kinds < blocks as usize {
-        return refused(refusal::ARRAY_LENGTH);
+        return refused_reading(refusal::ARRAY_LENGTH);
     }
     if offsets < blocks as usize {
-        return refused(refusal::ARRAY_LENGTH);
+        return refused_reading(refusal::ARRAY_LENGTH);
     }
     let row = h.row;
     let start = h.start;
-    let rest = header::rest_from(image, arguments.layout, start);
+    let rest = header::up_to_leaves_end(image, arguments.layout, start);
     let first_version = header::is_first_version(image);
-    let t = leaf::judge(rest, blocks, row, arguments.level, first_version);
+    let t = tally::judge(rest, blocks, row, arguments.level, first_version);
     let number = t.number;
     if number != refusal::ACCEPTED {
-        return refused(number);
+        return refused_reading(number);
     }
     Reading {
         answer: answer_of(h, t),
@@ -150,7 +150,7 @@ pub fn read(image: &[u8], arguments: Arguments, kinds: &mut [u16], offsets: &mut
     let row = reading.row;
     let start = reading.start;
     table::fill(
-        header::rest_from(image, arguments.layout, start),
+        header::up_to_leaves_end(image, arguments.layout, start),
         start,
         answer.blocks,
         row,
@@ -178,7 +178,7 @@ pub fn view_part(image: &[u8], arguments: Arguments, entry: usize) -> Part
     let row = reading.row;
     let start = reading.start;
     table::find(
-        header::rest_from(image, arguments.layout, start),
+        header::up_to_leaves_end(image, arguments.layout, start),
         start,
         answer.blocks,
         row,

@@ -8,7 +8,7 @@ use lib.Dec.{eqb}
 use Rattle.rom.specs.Bytes.{pick}
 use Rattle.text.specs.declared.line.Line.{Line}
 use Rattle.text.specs.Written.{textOf, fitted}
-use Rattle.text.proofs.Building.{Building, built, finished}
+use Rattle.text.proofs.Building.{Building, built, line-finished}
 use Rattle.report.specs.Words.{bitsFrom}
 
 module _ (name : ℕ → List ℕ) (next other : List ℕ) (bits bit : ℕ) {whole : List ℕ} {l : Line}
@@ -26,7 +26,7 @@ module _ (name : ℕ → List ℕ) (next other : List ℕ) (bits bit : ℕ) {who
 
   pub done : 16 ≤ bit → textOf l ≡ fitted whole
   unfolding bitsFrom
-  done h = let n : 16 - bit ≡ 0 = omega arith in finished (bitsFrom name next other (16 - bit) bit bits) (rw n) b
+  done h = let n : 16 - bit ≡ 0 = omega arith in line-finished (bitsFrom name next other (16 - bit) bit bits) (rw n) b
 
 -- equal names, equal words
 pub same-names : (f g : ℕ → List ℕ) → ((bit : ℕ) → bit < 256 → f bit ≡ g bit) → (next other : List ℕ) (left bit bits : ℕ) → left + bit ≤ 256

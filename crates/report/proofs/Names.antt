@@ -14,7 +14,7 @@ use Rattle.text.specs.Tables.{hasKey, wordsIn, wordsFor}
 use Rattle.text.specs.Numbers.{placesFrom, numeral, decimalOf}
 use Rattle.text.specs.Written.{textOf, fitted}
 use Rattle.text.specs.declared.line.Line.{Line}
-use Rattle.text.proofs.Building.{Roomy, begun, finished, after}
+use Rattle.text.proofs.Building.{RoomyLine, begun, line-finished, fitted-after}
 use Rattle.rom.proofs.Below.{allBelow, below}
 use Rattle.report.specs.Words.{mediaNames, mediaWords, nameInTable, nameInList, commandNames, modeNames}
 
@@ -22,14 +22,14 @@ use Rattle.report.specs.Words.{mediaNames, mediaWords, nameInTable, name
 pub three : (line a b c : List ℕ) {u v w : List ℕ} → u ≡ fitted (line ++ a) → v ≡ fitted (u ++ b) → w ≡ fitted (v ++ c)
     → w ≡ fitted (line ++ (a ++ (b ++ c)))
 three line a b c p q r =
-    after _ _ (after _ _ p q) r ∙ ap fitted (append-assoc (line ++ a) b c ∙ append-assoc line a (b ++ c))
+    fitted-after _ _ (fitted-after _ _ p q) r ∙ ap fitted (append-assoc (line ++ a) b c ∙ append-assoc line a (b ++ c))
 
 pub two : (line a b : List ℕ) {u w : List ℕ} → u ≡ fitted (line ++ a) → w ≡ fitted (u ++ b) → w ≡ fitted (line ++ (a ++ b))
-two line a b p q = after _ _ p q ∙ ap fitted (append-assoc line a b)
+two line a b p q = fitted-after _ _ p q ∙ ap fitted (append-assoc line a b)
 
 -- nothing behind a line
-pub none : (l : Line) → Roomy l → textOf l ≡ fitted (textOf l ++ [])
-none l r = finished [] refl (begun l [] r)
+pub none-more : (l : Line) → RoomyLine l → textOf l ≡ fitted (textOf l ++ [])
+none-more l r = line-finished [] refl (begun l [] r)
 
 -- ## A table is tested at every number
 
@@ -69,17 +69,17 @@ media-table = named mediaTable mediaNames media-tested
 
 -- ## The bits of a Magic command, and of a mode byte
 
-unfoldable pub commandTable : List ℕ
-commandTable =
+unfoldable pub commandBitTable : List ℕ
+commandBitTable =
     quoted "0 MAGIC_DIS\n1 Sec_ON_En\n2 bit 2\n3 BNC\n4 AUI/HR\n5 TP10\n6 MII\n7 SYM\n8 LOCK\n9 bit 9\n10 bit 10\n"
     ++ quoted "11 bit 11\n12 bit 12\n13 bit 13\n14 bit 14\n15 bit 15\n"
 
-command-tested : T (allBelow (hasName commandTable commandNames) 256)
-unfolding hasName commandTable commandNames sameBytes wordsIn hasKey linesOf lineOf numeral placesFrom pick
+command-tested : T (allBelow (hasName commandBitTable commandNames) 256)
+unfolding hasName commandBitTable commandNames sameBytes wordsIn hasKey linesOf lineOf numeral placesFrom pick
 command-tested = tt
 
-pub command-table : (bit : ℕ) → bit < 256 → nameInTable commandTable bit ≡ nameInList commandNames bit
-command-table = named commandTable commandNames command-tested
+pub command-table : (bit : ℕ) → bit < 256 → nameInTable commandBitTable bit ≡ nameInList commandNames bit
+command-table = named commandBitTable commandNames command-tested
 
 unfoldable pub modeTable : List ℕ
 modeTable = quoted "0 link fail\n1 D1\n2 D2\n3 D3\n4 bit 4\n5 bit 5\n6 bit 6\n7 bit 7\n"

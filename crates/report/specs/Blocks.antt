@@ -5,15 +5,15 @@ use lib.ListN.{take}
 use Rattle.rom.specs.declared.Layout.{Layout}
 use Rattle.block.specs.declared.Block.{Block}
 use Rattle.block.specs.Answer.{blockIn}
-use Rattle.header.specs.declared.Arguments.{Arguments}
-use Rattle.header.specs.Image.{isFirstVersion, restFrom}
-use Rattle.header.specs.Header.{rowFor}
+use Rattle.image.specs.declared.Arguments.{Arguments}
+use Rattle.image.specs.Image.{isFirstVersion, upToLeavesEnd}
+use Rattle.image.specs.Arguments.{rowFor}
 use Rattle.survey.specs.declared.Place.{Place}
 
 -- what a reader finds the block at a byte to be
 unfoldable pub blockFrom : List ℕ → Arguments → ℕ → Block
-blockFrom image a start = blockIn (isFirstVersion image) (rowFor a) (a .level) (restFrom (a .layout) image start)
+blockFrom image a start = blockIn (isFirstVersion image) (rowFor a) (a .level) (upToLeavesEnd (a .layout) image start)
 
 -- the bytes of a block, as far as leaves go
 unfoldable pub bytesAt : Layout → List ℕ → Place → List ℕ
-bytesAt l image p = take (p .size) (restFrom l image (p .start))
+bytesAt l image p = take (p .size) (upToLeavesEnd l image (p .start))

@@ -7,9 +7,9 @@ use lib.ListN.{length}
 use Rattle.rom.specs.declared.Layout.{Layout}
 use Rattle.rom.specs.Geometry.{checkedLength}
 use Rattle.rom.specs.Bytes.{wordAt}
-use Rattle.crc.specs.Answer.{sromAnswer}
-use Rattle.header.specs.declared.Arguments.{Arguments}
-use Rattle.header.specs.Header.{inEdition}
+use Rattle.checksum.specs.Answer.{sromAnswer}
+use Rattle.image.specs.declared.Arguments.{Arguments}
+use Rattle.image.specs.Arguments.{inEdition}
 use Rattle.reader.specs.Reading.{judgeAnswer}
 use Rattle.report.specs.Sizes.{sizeByLength}
 

@@ -12,8 +12,8 @@ use Rattle.text.specs.Numbers.{decimalOf}
 use Rattle.text.specs.Tables.{wordsFor}
 use Rattle.text.specs.Written.{withValues, withFields}
 use Rattle.format.specs.Chips.{kindCompact, kind21041, takenAs}
-use Rattle.header.specs.declared.Arguments.{Arguments}
-use Rattle.header.specs.Image.{isFirstVersion}
+use Rattle.image.specs.declared.Arguments.{Arguments}
+use Rattle.image.specs.Image.{isFirstVersion}
 use Rattle.survey.specs.declared.Place.{Place}
 use Rattle.report.specs.Sizes.{isNamed}
 

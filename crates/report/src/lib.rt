@@ -21,7 +21,7 @@ ghost use mathlib.Core.Path.{_≡_};
 ghost use mathlib.Core.List.{_++_};
 ghost use Rattle.text.specs.Written.{textOf, fitted};
 ghost use Rattle.format.specs.Block.{isKnown};
-ghost use Rattle.header.specs.Image.{leafAt};
+ghost use Rattle.image.specs.Image.{leafAt};
 ghost use Rattle.report.specs.Blocks.{blockFrom, bytesAt};
 ghost use Rattle.report.specs.Layouts.{otherwise, ofLength, inOther};
 ghost use Rattle.report.specs.Layouts.{isAcceptedOtherwise, isAcceptedByLength, isAcceptedInOther, hasSromCrc};
@@ -154,7 +154,7 @@ pub fn block_at(image: &[u8], arguments: Arguments, start: u16) -> Block
     ensures { λ r. ⌜ r ≡ blockFrom (now (image .entry)) arguments start ⌝ }
 {
     let row = chip::row_of(arguments.chip);
-    let rest = header::rest_from(image, arguments.layout, start as usize);
+    let rest = header::up_to_leaves_end(image, arguments.layout, start as usize);
     block::judge_in(rest, row, arguments.level, header::is_first_version(image))
 }
 
@@ -162,7 +162,7 @@ pub fn block_at(image: &[u8], arguments: Arguments, start: u16) -> Block
 pub fn block_bytes(image: &[u8], layout: Layout, place: Place) -> &[u8]
     ensures { λ r. ⌜ now r ≡ bytesAt layout (now (image .entry)) place ⌝ }
 {
-    let rest = header::rest_from(image, layout, place.start as usize);
+    let rest = header::up_to_leaves_end(image, layout, place.start as usize);
     part(rest, 0, place.size as usize)
 }
 
@@ -343,7 +343,7 @@ pub fn show_magic(magic: Magic) {
 }
 
 fn show_magic_crc(image: &[u8], size: u16) {
-    let at = magic::place_of(size, magic::CRC);
+    let at = magic::field_at(size, magic::CRC);
     let computed = crc::magic_crc(image, size).value as u64;
     line::of(
         b"  Magic CRC, byte #: 0x% stored, 0x% of the block's other bytes",
@@ -363,7 +363,7 @@ fn show_magic_reserved(image: &[u8], size: u16) {
     let mut field = magic::ZEROS;
     while field <= magic::LAST {
         if field != magic::CRC {
-            show_reserved(image, magic::place_of(size, field));
+            show_reserved(image, magic::field_at(size, field));
         }
         field += 1;
     }

@@ -6,6 +6,7 @@ use native.Mathlib.Nat.{not-suc-le-zero}
 use native.Mathlib.Decide.{ℕ-discrete}
 use native.Mathlib.Omega.{arith}
 use lib.Dec.{T}
+use Rattle.rom.specs.Bytes.{anyBelow}
 
 pub both-left : (a b : Bool) → T (a && b) → T a
 both-left true b t = tt
@@ -36,3 +37,9 @@ same-equal true true t = refl
 same-equal true false t = absurd t
 same-equal false true t = absurd t
 same-equal false false t = refl
+
+-- tests that agree at every number take one below n alike
+pub any-same : (p q : ℕ → Bool) (n : ℕ) → ((k : ℕ) → p k ≡ q k) → anyBelow p n ≡ anyBelow q n
+unfolding anyBelow
+any-same p q zero e = refl
+any-same p q (suc n) e = rw (e n, any-same p q n e)

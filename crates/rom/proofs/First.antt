@@ -50,10 +50,10 @@ none-here c cs h e = go (c .met) refl e
     go true g e = absurd (omega arith)
     go false g e = (g, e)
 
-pub none : (cs : List Cause) → Numbered cs → firstMet cs ≡ 0 → (j : ℕ) → causeAt cs j .met ≡ false
-none [] h e j = refl
-none (c ∷ cs) h e zero = none-here c cs (h .0) e .0
-none (c ∷ cs) h e (suc j) = none cs (h .1) (none-here c cs (h .0) e .1) j
+pub none-met : (cs : List Cause) → Numbered cs → firstMet cs ≡ 0 → (j : ℕ) → causeAt cs j .met ≡ false
+none-met [] h e j = refl
+none-met (c ∷ cs) h e zero = none-here c cs (h .0) e .0
+none-met (c ∷ cs) h e (suc j) = none-met cs (h .1) (none-here c cs (h .0) e .1) j
 
 all-unmet : (cs : List Cause) → ((j : ℕ) → causeAt cs j .met ≡ false) → firstMet cs ≡ 0
 unfolding firstMet pick
@@ -67,7 +67,7 @@ unique cs (suc n) x =
 
 pub exact : FirstIsExact
 exact cs h =
-    (record { refused = λ p. there cs (firstMet cs) p refl; accepted = none cs h }, unique cs)
+    (record { refused = λ p. there cs (firstMet cs) p refl; accepted = none-met cs h }, unique cs)
 
 pub numbered-append : (cs ds : List Cause) → Numbered cs → Numbered ds → Numbered (cs ++ ds)
 numbered-append [] ds h g = g

@@ -30,8 +30,8 @@ unfolding allZero
 all-zeros [] e = refl
 all-zeros (x ∷ s) e = let h = and-true _ _ e in ap₂ (λ (y : ℕ) (l : List ℕ). y ∷ l) (eqb-true x 0 (h .0)) (all-zeros s (h .1))
 
-pub zeros : (n : ℕ) (s : List ℕ) → allZero s ≡ true → length s ≡ n → s ≡ replicate n 0
-zeros n s z l = all-zeros s z ∙ ap (λ (k : ℕ). replicate k 0) l
+pub zeros-are : (n : ℕ) (s : List ℕ) → allZero s ≡ true → length s ≡ n → s ≡ replicate n 0
+zeros-are n s z l = all-zeros s z ∙ ap (λ (k : ℕ). replicate k 0) l
 
 pub zeros-all : (n : ℕ) → allZero (replicate n 0) ≡ true
 unfolding allZero

@@ -46,9 +46,9 @@ put-put xs at a b h =
     same = simp length-append (omega arith)
 
 -- the same for what two calls leave
-pub joined : (xs : List ℕ) (at : ℕ) (a b : List ℕ) {ys zs : List ℕ} {next : ℕ} → ys ≡ put xs at a → zs ≡ put ys next b
+pub put-joined : (xs : List ℕ) (at : ℕ) (a b : List ℕ) {ys zs : List ℕ} {next : ℕ} → ys ≡ put xs at a → zs ≡ put ys next b
     → next ≡ at + length a → at + length a ≤ length xs → zs ≡ put xs at (a ++ b)
-joined xs at a b {ys} {zs} {next} ey ez en h = ez ∙ ap₂ (λ (l : List ℕ) (n : ℕ). put l n b) ey en ∙ put-put xs at a b h
+put-joined xs at a b {ys} {zs} {next} ey ez en h = ez ∙ ap₂ (λ (l : List ℕ) (n : ℕ). put l n b) ey en ∙ put-put xs at a b h
 
 -- one store, and two
 pub put-one : (xs : List ℕ) (at a : ℕ) → at + 1 ≤ length xs → set xs at a ≡ put xs at (a ∷ [])

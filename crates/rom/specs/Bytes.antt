@@ -36,6 +36,11 @@ unfoldable pub isIn : ℕ → List ℕ → Bool
 isIn x [] = false
 isIn x (y ∷ ys) = eqb y x || isIn x ys
 
+-- those that p takes, in their order
+unfoldable pub keep {ℓ} : {X : Type ℓ} → (X → Bool) → List X → List X
+keep p [] = []
+keep p (x ∷ xs) = pick (p x) (x ∷ keep p xs) (keep p xs)
+
 -- whether p takes a number below n
 unfoldable pub anyBelow : (ℕ → Bool) → ℕ → Bool
 anyBelow p zero = false

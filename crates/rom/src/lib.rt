@@ -3,7 +3,7 @@ pub mod refusal;
 pub mod store;
 
 ghost use mathlib.Core.Path.{_≡_};
-ghost use Prim.Native.Nat.{_+_, _*_};
+ghost use Prim.Native.Nat.{_+_, _*_, _<_};
 ghost use Rattle.rom.specs.Geometry.{imageLength, magicAt, magicWord, boardLength, checkedLength, leavesEnd};
 ghost use Rattle.rom.specs.Geometry.{mostControllers, isSize, wrongLength};
 ghost use Rattle.rom.specs.Bytes.{byteAt, wordAt, allZero};
@@ -114,6 +114,9 @@ impl Layout {
 
 pub const ID_CRC_AT: usize = 16;
 
+// ID byte 17, behind the ID CRC.
+pub const LAST_ID_AT: usize = 17;
+
 pub const VERSION_AT: usize = 18;
 
 pub const CONTROLLER_COUNT_AT: usize = 19;
@@ -160,6 +163,13 @@ pub fn byte_at(bytes: &[u8], at: ByteOffset) -> u8
         return bytes[i];
     }
     0
+}
+
+// A byte as a count, 0 past the end.
+pub fn count_at(bytes: &[u8], at: usize) -> usize
+    ensures { λ r. ⌜ (r ≡ byteAt (now (bytes .entry)) at) × (r < 256) ⌝ }
+{
+    byte_at(bytes, ByteOffset(at)) as usize
 }
 
 // The word whose low byte stands at an offset, with zeros past the end.

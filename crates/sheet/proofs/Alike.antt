@@ -28,7 +28,7 @@ use Rattle.sheet.specs.Make.{sheetFor, makeCauses, makeNumber, makeLengt
 use Rattle.sheet.specs.Convert.{converted, tooLarge, convertCauses, convertNumber, convertLength, convertedIn, convertedFor}
 use Rattle.sheet.specs.Claims.{WrittenAlike, MadeAlike}
 use Rattle.sheet.proofs.Sheets.{sheet-is}
-use Rattle.sheet.proofs.Images.{accepted, tidy, means-sized}
+use Rattle.sheet.proofs.Images.{accepted-image, tidy, means-sized}
 use Rattle.sheet.proofs.Conversions.{convertible, count-kept, conversion-means, converted-is, front-is}
 use Rattle.sheet.proofs.Returns.{judge-numbered, makeable, made-front}
 
@@ -45,11 +45,11 @@ unfolding wrongOutput isBeyond otherSize
 same-output Narrow l n small = rw small
 same-output Wide l n small = rw small
 
-alike : (from : Form) (l : Layout) (edition : Bool) (s out : List ℕ) → Bytes s → isSheet from s ≡ true → tooLarge from s ≡ false
+numbers-alike : (from : Form) (l : Layout) (edition : Bool) (s out : List ℕ) → Bytes s → isSheet from s ≡ true → tooLarge from s ≡ false
     → l .size ≡ smallSize
     → firstMet (writeCauses (other from) l edition (converted from s) out) ≡ firstMet (writeCauses from l edition s out)
 unfolding writeCauses firstMet
-alike from l edition s out by is small size =
+numbers-alike from l edition s out by is small size =
     let few = few-both from s by small in
     let m = conversion-means from s is in
     pick-false (not (isSheet (other from) (converted from s))) _ _ (met-not _ (converted-is from s is))
@@ -63,7 +63,7 @@ pub written-alike : WrittenAlike
 unfolding writeNumber written
 written-alike from l edition s first out by h size =
     let c = convertible from s (length first) h in
-    let a = alike from l edition s out by (c .is) (c .small) size in
+    let a = numbers-alike from l edition s out by (c .is) (c .small) size in
     rw (front-is from s first h)
     (a, ap₂ (λ (n : ℕ) (p : Plain). pick (eqb n 0) (imageOf l p out) out) a (conversion-means from s (c .is)))
 
@@ -85,7 +85,7 @@ pub made-alike : MadeAlike
 unfolding madeFor convertedFor makeLength convertLength made convertedIn converted sheetOf
 made-alike l edition image chip first buffer by h =
     let m = makeable Narrow l edition image chip (length first) h in
-    let z = means-sized l chip image by (accepted l edition chip image (m .reads)) (tidy l chip image (m .neat)) in
+    let z = means-sized l chip image by (accepted-image l edition chip image (m .reads)) (tidy l chip image (m .neat)) in
     let n = same-number l edition image chip (length buffer) (m .reads) (m .neat) (sheet-is Narrow (imageFrom l chip image) z) in
     let answer : ℕ → Made = λ k. record { number = k; length = pick (eqb k 0) (length (sheetFor Wide l image chip)) 0 } in
     rw (made-front Narrow l edition image chip first h)

@@ -14,7 +14,7 @@ use Rattle.rom.proofs.First.{none-here}
 use Rattle.rom.proofs.Truth.{true-false, or-false}
 use Rattle.format.specs.Chips.{row21041, kindCompact, kind21041}
 use Rattle.format.specs.Block.{isExtended, lengthOf, siaSize, sizeOf, kindOf, causes, laterVersion, refusalOf}
-use Rattle.block.proofs.Whole.{Form, extended-form, compact-form, form-21041}
+use Rattle.block.proofs.Whole.{BlockForm, extended-form, compact-form, form-21041}
 use Rattle.leaf.specs.Leaf.{cut, blockCauses}
 use Rattle.leaf.proofs.Cuts.{first-accepted}
 use Rattle.sheet.specs.Record.{Entry}
@@ -100,15 +100,15 @@ module _ (e : Entry) where
 
 -- a block's body, by its form
 module _ {row : ℕ} {s : List ℕ} {kind size : ℕ} where
-  pub whole-body : Form row s false kind size → bodyOf row s ≡ take size s
+  pub whole-body : BlockForm row s false kind size → bodyOf row s ≡ take size s
   unfolding bodyOf openingLength pick
   whole-body f = simp (f .is-extended, f .is-size)
 
-  pub extended-body : Form row s true kind size → bodyOf row s ≡ drop 2 (take size s)
+  pub extended-body : BlockForm row s true kind size → bodyOf row s ≡ drop 2 (take size s)
   unfolding bodyOf openingLength pick
   extended-body f = simp (f .is-extended, f .is-size)
 
-pub form-of-21041 : (row : ℕ) (s : List ℕ) → row ≡ row21041 → Form row s false kind21041 (siaSize (byteAt s 0))
+pub form-of-21041 : (row : ℕ) (s : List ℕ) → row ≡ row21041 → BlockForm row s false kind21041 (siaSize (byteAt s 0))
 form-of-21041 row s h = rw h (form-21041 s)
 
 -- ## The cut of one encoding
@@ -123,7 +123,7 @@ first-of : (b r : List ℕ) → 0 < length b → byteAt (b ++ r) 0 ≡ byteAt b 
 first-of b r h = List·getD-append b r 0 0 h
 
 -- a form without an opening: the body is the whole block
-cut-whole : (row : ℕ) (e : Entry) (r : List ℕ) (size : ℕ) → Form row (e .body ++ r) false (e .kind) size → openingOf e ≡ []
+cut-whole : (row : ℕ) (e : Entry) (r : List ℕ) (size : ℕ) → BlockForm row (e .body ++ r) false (e .kind) size → openingOf e ≡ []
     → size ≡ length (e .body) → CutAs row (encode e ++ r) e
 cut-whole row e r size f o l =
     rw o
@@ -168,7 +168,7 @@ cut-one row e r (good-extended k c l) =
 -- ## The encoding of one cut
 
 -- what acceptance says of the block that starts s
-pub record Whole (row : ℕ) (s : List ℕ) : Type 0 where
+pub record WholeBlock (row : ℕ) (s : List ℕ) : Type 0 where
   pub fits : sizeOf row s ≤ length s
   pub good : isBad row (entryFrom row s) ≡ false
   pub back : encode (entryFrom row s) ≡ take (sizeOf row s) s
@@ -177,7 +177,7 @@ first-take : (n : ℕ) (s : List ℕ) → 0 < n → byteAt (take n s) 0 ≡ byte
 first-take n s h = getD-take n s 0 0 h
 
 module _ (row : ℕ) (s : List ℕ) (fits : sizeOf row s ≤ length s) where
-  whole-compact : (row ≡ row21041 → ⊥) → byteAt s 0 < 128 → Whole row s
+  whole-compact : (row ≡ row21041 → ⊥) → byteAt s 0 < 128 → WholeBlock row s
   whole-compact c b =
       let f = compact-form row s c b in
       let n = f .is-size in
@@ -192,7 +192,7 @@ module _ (row : ℕ) (s : List ℕ) (fits : sizeOf row s ≤ length s) where
             ∙ ap (λ (x : ℕ). take x s) (sym n);
       }
 
-  whole-21041 : row ≡ row21041 → Whole row s
+  whole-21041 : row ≡ row21041 → WholeBlock row s
   whole-21041 c =
       let f = form-of-21041 row s c in
       let n = f .is-size in
@@ -209,7 +209,7 @@ module _ (row : ℕ) (s : List ℕ) (fits : sizeOf row s ≤ length s) where
       }
 
 whole-extended : (row : ℕ) (s : List ℕ) → Bytes s → sizeOf row s ≤ length s → (row ≡ row21041 → ⊥) → 128 ≤ byteAt s 0
-    → (byteAt s 0 % 128 ≡ 0 → ⊥) → Whole row s
+    → (byteAt s 0 % 128 ≡ 0 → ⊥) → WholeBlock row s
 unfolding lengthOf
 whole-extended row [] by fits c b z = absurd (omega arith)
 whole-extended row (x ∷ []) by fits c b z =
@@ -232,15 +232,15 @@ whole-extended row (x ∷ y ∷ s) by fits c b z =
           ∙ ap (λ (m : ℕ). take m (x ∷ y ∷ s)) (sym n);
     }
 
-pub whole : (row level : ℕ) (s : List ℕ) → Bytes s → refusalOf row level s ≡ 0 → Whole row s
+pub whole-block : (row level : ℕ) (s : List ℕ) → Bytes s → refusalOf row level s ≡ 0 → WholeBlock row s
 unfolding refusalOf causes isExtended lengthOf
-whole row level s by h =
+whole-block row level s by h =
     let a = none-here _ _ (lit< tt) h in
     let b = none-here _ _ (lit< tt) (a .1) in
     go (eqb row 0) refl (leb 128 (byteAt s 0)) refl (ltb-false _ _ (a .0)) (or-false _ _ (b .0) .0)
   where
     go : (r : Bool) → eqb row 0 ≡ r → (t : Bool) → leb 128 (byteAt s 0) ≡ t → sizeOf row s ≤ length s
-        → ((not r && t) && eqb (byteAt s 0 % 128) 0) ≡ false → Whole row s
+        → ((not r && t) && eqb (byteAt s 0 % 128) 0) ≡ false → WholeBlock row s
     go true er t et f z = whole-21041 row s f (eqb-true _ _ er)
     go false er true et f z = whole-extended row s by f (eqb-false _ _ er) (leb-true _ _ et) (eqb-false _ _ z)
     go false er false et f z = whole-compact row s f (eqb-false _ _ er) (leb-false _ _ et)
@@ -284,7 +284,7 @@ unfolding cut sizes encodes anyBad
 encodes-cut row level zero s by h = record { fits = omega arith; good = refl; back = refl }
 encodes-cut row level (suc n) s by h =
     let z = first-accepted row level s (cut row n (drop (sizeOf row s) s)) h in
-    let w = whole row level s by (z .0) in
+    let w = whole-block row level s by (z .0) in
     let ih = encodes-cut row level n (drop (sizeOf row s) s) (bytes-drop (sizeOf row s) s by) (z .1) in
     record {
       fits = omega (arith, w .fits, ih .fits, length-drop (sizeOf row s) s);

@@ -22,7 +22,7 @@ use Rattle.sheet.specs.Form.{other, shift, shifted, countIn, totalIn, co
 use Rattle.sheet.specs.Sheet.{entriesFrom, plainFrom, sheetFrom, sizesIn, isSheet}
 use Rattle.sheet.specs.Convert.{Convertible, converted, tooLarge, convertCauses, convertNumber, convertLength, convertedIn}
 use Rattle.sheet.specs.Claims.{OneForm, sheetConverted, ConversionReturns, ConversionMeans, ConverterOrder}
-use Rattle.sheet.proofs.Sheets.{whole, counts-length, counts-back, sheet-long}
+use Rattle.sheet.proofs.Sheets.{whole-sheet, counts-length, counts-back, sheet-long}
 
 -- ## The order of a converter's causes
 
@@ -67,9 +67,9 @@ unfolding converted wordBytes
 content-kept Narrow s = refl
 content-kept Wide s = refl
 
-twice : (form : Form) → other (other form) ≡ form
-twice Narrow = refl
-twice Wide = refl
+other-twice : (form : Form) → other (other form) ≡ form
+other-twice Narrow = refl
+other-twice Wide = refl
 
 -- what stands behind the first two bytes does not go by them
 behind-two : (k a b c d : ℕ) (t : List ℕ) → 2 ≤ k → drop k (a ∷ b ∷ t) ≡ drop k (c ∷ d ∷ t)
@@ -141,7 +141,7 @@ module _ (from : Form) (s : List ℕ) (is : isSheet from s ≡ true) where
   pub converted-is : isSheet (other from) new ≡ true
   unfolding isSheet
   converted-is =
-      let w = whole from s is in
+      let w = whole-sheet from s is in
       let n : length new ≡ shift (other from) + (headLength + 3 * countIn (other from) new + totalIn (other from) new)
       = omega (arith, converted-length from s, length-drop idAt (shifted from s), w .long, count-kept from s, total-kept from s) in
       let t : totalIn (other from) new ≡ sum (take (countIn (other from) new)
@@ -156,7 +156,7 @@ module _ (from : Form) (s : List ℕ) (is : isSheet from s ≡ true) where
   unfolding converted
   converted-back by =
       (λ i. countsOf (other (other from)) (count-kept from s i) (total-kept from s i) ++ content-kept from s i)
-      ∙ ap (λ (f : Form). countsOf f (countIn from s) (totalIn from s) ++ content from s) (twice from)
+      ∙ ap (λ (f : Form). countsOf f (countIn from s) (totalIn from s) ++ content from s) (other-twice from)
       ∙ counts-back from s by old-long
 
 -- ## A sheet has one form
@@ -165,8 +165,8 @@ module _ (from : Form) (s : List ℕ) (is : isSheet from s ≡ true) where
 pub one-form : OneForm
 unfolding wordAt
 one-form s narrow wide =
-    let n = whole Narrow s narrow in
-    let w = whole Wide s wide in
+    let n = whole-sheet Narrow s narrow in
+    let w = whole-sheet Wide s wide in
     omega (arith, n .long, w .long, length-drop 2 s)
 
 -- ## The promises

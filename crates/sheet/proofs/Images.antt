@@ -17,14 +17,14 @@ use Rattle.rom.specs.Store.{wordBytes}
 use Rattle.rom.specs.Refusal.{firstMet}
 use Rattle.rom.proofs.First.{none-here, both-accepted}
 use Rattle.rom.proofs.Truth.{true-false, and-true, or-false}
-use Rattle.crc.specs.Crc.{sromCrc, crc8Words, word, crc8, idCrc}
+use Rattle.checksum.specs.Crc.{sromCrc, crc8Words, word, crc8, idCrc}
 use Rattle.format.specs.Chips.{chips, rowOf, row21140, newestLevel}
 use Rattle.format.specs.Block.{laterVersion}
-use Rattle.header.specs.Image.{isFirstVersion, controllerCount, reservedAt, leafAt, headerLength, controlByte, blocksAt, blockCount}
-use Rattle.header.specs.Image.{restFrom, badCount}
-use Rattle.header.specs.Image.{magicCauses, imageCauses, argumentCauses}
-use Rattle.header.specs.Header.{leafFor, startFor, countFor, headerCauses}
-use Rattle.header.proofs.Headers.{magic-numbered, image-numbered, argument-numbered, header-numbered}
+use Rattle.image.specs.Image.{isFirstVersion, controllerCount, reservedAt, leafAt, headerLength, controlByte, blocksAt, blockCount}
+use Rattle.image.specs.Image.{upToLeavesEnd, badCount}
+use Rattle.image.specs.Image.{magicCauses, imageCauses, argumentCauses}
+use Rattle.image.specs.Arguments.{leafFor, startFor, countFor, headerCauses}
+use Rattle.image.proofs.Causes.{magic-numbered, image-numbered, argument-numbered, header-numbered}
 use Rattle.leaf.specs.Leaf.{cut, blockCauses}
 use Rattle.leaf.proofs.Cuts.{accepted-blocks}
 use Rattle.reader.specs.Reading.{blocksFor, leafCausesFor, judgeCauses}
@@ -32,12 +32,12 @@ use Rattle.sheet.specs.Lists.{padded}
 use Rattle.sheet.specs.Record.{Plain}
 use Rattle.sheet.specs.Image.{leafStart, frontWith, frontOf, encodes, controlBytes, leafHeadOf, leafOf, coveredOf, boardOf}
 use Rattle.sheet.specs.Image.{imageOf, newestIn, newest}
-use Rattle.sheet.specs.Image.{entryFrom, imageFrom, sizes, leafEnd, upToLeavesEnd, isTidy}
+use Rattle.sheet.specs.Image.{entryFrom, imageFrom, sizes, leafEnd, isTidy}
 use Rattle.sheet.specs.Write.{anyBad, strayControl, cannotHold}
 use Rattle.rom.proofs.Layouts.{Geometry, geometry, right-length}
-use Rattle.rom.proofs.Lists.{word-of, word-back, zeros, zeros-all, bytes-drop, bytes-take, spell, spelled}
+use Rattle.rom.proofs.Lists.{word-of, word-back, zeros-are, zeros-all, bytes-drop, bytes-take, spell, spelled}
 use Rattle.sheet.proofs.Blocks.{cut-encodes, entries-length, Encoded, encodes-cut}
-use Rattle.sheet.proofs.Sheets.{Sized, spelledOut, spelled-out}
+use Rattle.sheet.proofs.Sheets.{SizedFields, spelledOut, spelled-out}
 use Rattle.sheet.proofs.Crcs.{srom-covered}
 
 -- ## The front
@@ -58,10 +58,10 @@ unfolding frontWith spelledOut spell wordBytes wordAt
 spelled-front p c r =
     record { id = refl; lastId = refl; version = refl; count = refl; address = refl; device = refl; leaf = refl; behind = refl }
 
-front-says : (p : Plain) (c : ℕ) (r : List ℕ) → Sized p → Front p (frontWith c p ++ r) r
+front-says : (p : Plain) (c : ℕ) (r : List ℕ) → SizedFields p → Front p (frontWith c p ++ r) r
 front-says p c r z = rw (spelled-out p z) (spelled-front p c r)
 
-pub front-length : (p : Plain) (c : ℕ) → Sized p → length (frontWith c p) ≡ leafStart
+pub front-length : (p : Plain) (c : ℕ) → SizedFields p → length (frontWith c p) ≡ leafStart
 unfolding frontWith spelledOut spell wordBytes
 front-length p c z = ap (λ (x : Plain). length (frontWith c x)) (spelled-out p z)
 
@@ -86,8 +86,8 @@ header-some row = go (eqb row row21140)
     go false = (omega arith, omega arith)
 
 -- how many bytes a leaf can have there
-abbrev pub room : Layout → ℕ
-room l = leavesEnd l - leafStart
+abbrev pub leafRoom : Layout → ℕ
+leafRoom l = leavesEnd l - leafStart
 
 module _ (l : Layout) (chip : ℕ) (s : List ℕ) (leaf : wordAt s 27 ≡ leafStart) where
   leaf-at : leafAt s 0 ≡ leafStart
@@ -118,18 +118,18 @@ module _ (l : Layout) (chip : ℕ) (s : List ℕ) (leaf : wordAt s 27 ≡ leafSt
       let n : leafStart + headerLength (rowOf chip) - 1 ≡ leafStart + (headerLength (rowOf chip) - 1) = omega (arith, h .0) in
       ap (λ (k : ℕ). byteAt s (k - 1)) start-is ∙ ap (byteAt s) n ∙ byte-behind s _
 
-  up-to : (k : ℕ) → upToLeavesEnd l (leafStart + k) s ≡ take (room l - k) (drop k (drop leafStart s))
+  up-to : (k : ℕ) → upToLeavesEnd l s (leafStart + k) ≡ take (leafRoom l - k) (drop k (drop leafStart s))
   unfolding upToLeavesEnd
-  up-to k = let n : leavesEnd l - (leafStart + k) ≡ room l - k = omega arith in ap₂ take n (drop-behind s k)
+  up-to k = let n : leavesEnd l - (leafStart + k) ≡ leafRoom l - k = omega arith in ap₂ take n (drop-behind s k)
 
-  rest-is : restFrom l s (startFor s (newest l chip))
-      ≡ take (room l - headerLength (rowOf chip)) (drop (headerLength (rowOf chip)) (drop leafStart s))
-  unfolding restFrom upToLeavesEnd
+  rest-is : upToLeavesEnd l s (startFor s (newest l chip))
+      ≡ take (leafRoom l - headerLength (rowOf chip)) (drop (headerLength (rowOf chip)) (drop leafStart s))
+  unfolding upToLeavesEnd
   rest-is = ap (λ (n : ℕ). take (leavesEnd l - n) (drop n s)) start-is ∙ up-to (headerLength (rowOf chip))
 
   blocks-are : blocksFor s (newest l chip)
       ≡ cut (rowOf chip) (byteAt (drop leafStart s) (headerLength (rowOf chip) - 1))
-      (take (room l - headerLength (rowOf chip)) (drop (headerLength (rowOf chip)) (drop leafStart s)))
+      (take (leafRoom l - headerLength (rowOf chip)) (drop (headerLength (rowOf chip)) (drop leafStart s)))
   unfolding newestIn
   blocks-are = ap₂ (cut (rowOf chip)) count-is rest-is
 
@@ -184,48 +184,48 @@ padded-length n xs h = simp (length-append, length-replicate) (omega arith)
 
 -- the zeros behind the leaf, and the bytes behind those
 abbrev gap : Layout → Plain → List ℕ
-gap l p = replicate (room l - length (leafOf p)) 0
+gap l p = replicate (leafRoom l - length (leafOf p)) 0
 
-abbrev after : Layout → Plain → List ℕ → List ℕ
-after l p out = p .maker ++ (wordBytes (sromCrc l (coveredOf l p)) ++ drop (boardLength l) out)
+abbrev behindLeaves : Layout → Plain → List ℕ → List ℕ
+behindLeaves l p out = p .maker ++ (wordBytes (sromCrc l (coveredOf l p)) ++ drop (boardLength l) out)
 
-joined : (f h e g m w o : List ℕ) → ((f ++ (((h ++ e) ++ g) ++ m)) ++ w) ++ o ≡ f ++ (h ++ ((e ++ g) ++ (m ++ (w ++ o))))
-joined f h e g m w o = simp append-assoc
+image-parts : (f h e g m w o : List ℕ) → ((f ++ (((h ++ e) ++ g) ++ m)) ++ w) ++ o ≡ f ++ (h ++ ((e ++ g) ++ (m ++ (w ++ o))))
+image-parts f h e g m w o = simp append-assoc
 
 regroup : (h e g a : List ℕ) → h ++ ((e ++ g) ++ a) ≡ (h ++ e) ++ (g ++ a)
 regroup h e g a = simp append-assoc
 
-module _ (l : Layout) (p : Plain) (out : List ℕ) (z : Sized p) (fits : length (leafOf p) ≤ room l) where
-  image-is : imageOf l p out ≡ frontOf p ++ (leafHeadOf p ++ ((encodes (p .entries) ++ gap l p) ++ after l p out))
+module _ (l : Layout) (p : Plain) (out : List ℕ) (z : SizedFields p) (fits : length (leafOf p) ≤ leafRoom l) where
+  image-is : imageOf l p out ≡ frontOf p ++ (leafHeadOf p ++ ((encodes (p .entries) ++ gap l p) ++ behindLeaves l p out))
   unfolding imageOf boardOf coveredOf padded leafOf
-  image-is = joined (frontOf p) (leafHeadOf p) (encodes (p .entries)) (gap l p) (p .maker) _ _
+  image-is = image-parts (frontOf p) (leafHeadOf p) (encodes (p .entries)) (gap l p) (p .maker) _ _
 
   pub covered-length : length (coveredOf l p) ≡ checkedLength l
   unfolding coveredOf frontOf
   covered-length =
       let g = geometry l in
-      simp length-append (omega (arith, front-length p (idCrc (frontWith 0 p)) z, padded-length (room l) (leafOf p) fits, z .maker))
+      simp length-append (omega (arith, front-length p (idCrc (frontWith 0 p)) z, padded-length (leafRoom l) (leafOf p) fits, z .maker))
 
   pub board-length : length (boardOf l p) ≡ boardLength l
   unfolding boardOf wordBytes
   board-length = let g = geometry l in length-append (coveredOf l p) _ ∙ omega (arith, covered-length)
 
-  front-of : Front p (imageOf l p out) (leafHeadOf p ++ ((encodes (p .entries) ++ gap l p) ++ after l p out))
+  front-of : Front p (imageOf l p out) (leafHeadOf p ++ ((encodes (p .entries) ++ gap l p) ++ behindLeaves l p out))
   unfolding frontOf
   front-of = rw image-is (front-says p _ _ z)
 
-  blocks-length : length (encodes (p .entries) ++ gap l p) ≡ room l - headerLength (rowOf (p .chip))
+  blocks-length : length (encodes (p .entries) ++ gap l p) ≡ leafRoom l - headerLength (rowOf (p .chip))
   blocks-length = simp (length-append, length-replicate) (omega (arith, leaf-length p, fits))
 
   image-blocks : blocksFor (imageOf l p out) (newest l (p .chip))
       ≡ cut (rowOf (p .chip)) (length (p .entries)) (encodes (p .entries) ++ gap l p)
   image-blocks =
       let f = front-of in
-      let r : take (room l - headerLength (rowOf (p .chip))) (drop (headerLength (rowOf (p .chip))) (drop leafStart (imageOf l p out)))
+      let r : take (leafRoom l - headerLength (rowOf (p .chip))) (drop (headerLength (rowOf (p .chip))) (drop leafStart (imageOf l p out)))
       ≡ encodes (p .entries) ++ gap l p
-      = ap (λ (x : List ℕ). take (room l - headerLength (rowOf (p .chip))) (drop (headerLength (rowOf (p .chip))) x)) (f .behind)
-      ∙ ap (take (room l - headerLength (rowOf (p .chip)))) (drop-at (leafHeadOf p) _ _ (leaf-head-length p))
-      ∙ take-at (encodes (p .entries) ++ gap l p) (after l p out) _ blocks-length in
+      = ap (λ (x : List ℕ). take (leafRoom l - headerLength (rowOf (p .chip))) (drop (headerLength (rowOf (p .chip))) x)) (f .behind)
+      ∙ ap (take (leafRoom l - headerLength (rowOf (p .chip)))) (drop-at (leafHeadOf p) _ _ (leaf-head-length p))
+      ∙ take-at (encodes (p .entries) ++ gap l p) (behindLeaves l p out) _ blocks-length in
       let n : byteAt (drop leafStart (imageOf l p out)) (headerLength (rowOf (p .chip)) - 1) ≡ length (p .entries)
       = ap (λ (x : List ℕ). byteAt x (headerLength (rowOf (p .chip)) - 1)) (f .behind) ∙ head-count p _ in
       blocks-are l (p .chip) (imageOf l p out) (f .leaf) ∙ ap₂ (cut (rowOf (p .chip))) n r
@@ -233,13 +233,13 @@ module _ (l : Layout) (p : Plain) (out : List ℕ) (z : Sized p) (fits : length 
   image-maker : take 2 (drop (leavesEnd l) (imageOf l p out)) ≡ p .maker
   image-maker =
       let g = geometry l in
-      let at : leavesEnd l ≡ leafStart + room l = omega arith in
-      let all : length (leafHeadOf p ++ (encodes (p .entries) ++ gap l p)) ≡ room l
+      let at : leavesEnd l ≡ leafStart + leafRoom l = omega arith in
+      let all : length (leafHeadOf p ++ (encodes (p .entries) ++ gap l p)) ≡ leafRoom l
       = length-append (leafHeadOf p) _ ∙ omega (arith, leaf-head-length p, blocks-length, leaf-length p, fits) in
       ap (take 2)
-      (ap (λ (n : ℕ). drop n (imageOf l p out)) at ∙ drop-behind (imageOf l p out) (room l) ∙ ap (drop (room l))
-      (front-of .behind ∙ sym (append-assoc (leafHeadOf p) (encodes (p .entries) ++ gap l p) (after l p out)))
-      ∙ drop-at (leafHeadOf p ++ (encodes (p .entries) ++ gap l p)) (after l p out) (room l) all)
+      (ap (λ (n : ℕ). drop n (imageOf l p out)) at ∙ drop-behind (imageOf l p out) (leafRoom l) ∙ ap (drop (leafRoom l))
+      (front-of .behind ∙ sym (append-assoc (leafHeadOf p) (encodes (p .entries) ++ gap l p) (behindLeaves l p out)))
+      ∙ drop-at (leafHeadOf p ++ (encodes (p .entries) ++ gap l p)) (behindLeaves l p out) (leafRoom l) all)
       ∙ take-at (p .maker) _ 2 (z .maker)
 
   module _ (holds : cannotHold p ≡ false) where
@@ -284,20 +284,20 @@ module _ (l : Layout) (p : Plain) (out : List ℕ) (z : Sized p) (fits : length 
         = ap (sizes (rowOf (p .chip))) image-blocks ∙ cut-encodes (rowOf (p .chip)) (p .entries) (gap l p) holds-entries .1 in
         let end : leafEnd l (p .chip) (imageOf l p out) ≡ leafStart + length (leafOf p)
         = omega (arith, end-is l (p .chip) (imageOf l p out) (f .leaf), n, leaf-length p) in
-        let behind : drop leafStart (imageOf l p out) ≡ leafOf p ++ (gap l p ++ after l p out)
-        = f .behind ∙ (unfold leafOf in regroup (leafHeadOf p) (encodes (p .entries)) (gap l p) (after l p out)) in
-        let none : upToLeavesEnd l (leafEnd l (p .chip) (imageOf l p out)) (imageOf l p out) ≡ gap l p
-        = ap (λ (k : ℕ). upToLeavesEnd l k (imageOf l p out)) end ∙ up-to l (p .chip) (imageOf l p out) (f .leaf) (length (leafOf p))
-        ∙ ap (λ (x : List ℕ). take (room l - length (leafOf p)) (drop (length (leafOf p)) x)) behind
-        ∙ ap (take (room l - length (leafOf p))) (drop-at (leafOf p) _ _ refl)
-        ∙ take-at (gap l p) (after l p out) (room l - length (leafOf p)) (length-replicate (room l - length (leafOf p)) 0) in
+        let behind : drop leafStart (imageOf l p out) ≡ leafOf p ++ (gap l p ++ behindLeaves l p out)
+        = f .behind ∙ (unfold leafOf in regroup (leafHeadOf p) (encodes (p .entries)) (gap l p) (behindLeaves l p out)) in
+        let none : upToLeavesEnd l (imageOf l p out) (leafEnd l (p .chip) (imageOf l p out)) ≡ gap l p
+        = ap (upToLeavesEnd l (imageOf l p out)) end ∙ up-to l (p .chip) (imageOf l p out) (f .leaf) (length (leafOf p))
+        ∙ ap (λ (x : List ℕ). take (leafRoom l - length (leafOf p)) (drop (length (leafOf p)) x)) behind
+        ∙ ap (take (leafRoom l - length (leafOf p))) (drop-at (leafOf p) _ _ refl)
+        ∙ take-at (gap l p) (behindLeaves l p out) (leafRoom l - length (leafOf p)) (length-replicate (leafRoom l - length (leafOf p)) 0) in
         let one = eq-eqb (byteAt (imageOf l p out) 19) 1 (f .count) in
         let at = eq-eqb (leafAt (imageOf l p out) 0) leafStart (leaf-at l (p .chip) (imageOf l p out) (f .leaf)) in
-        rw (none, zeros-all (room l - length (leafOf p))) (simp (one, at))
+        rw (none, zeros-all (leafRoom l - length (leafOf p))) (simp (one, at))
 
 -- ## What acceptance by the newest reader says of an image
 
-pub record Accepted (l : Layout) (chip : ℕ) (s : List ℕ) : Type 0 where
+pub record AcceptedImage (l : Layout) (chip : ℕ) (s : List ℕ) : Type 0 where
   pub known : Geometry l
   pub right : wrongLength (l .size) (length s) ≡ false
   pub long : length s ≡ imageLength (l .size)
@@ -312,10 +312,10 @@ third true q r e = true-false e
 third false true r e = true-false e
 third false false r e = e
 
-pub accepted : (l : Layout) (edition : Bool) (chip : ℕ) (s : List ℕ) → firstMet (judgeCauses s (newestIn l edition chip)) ≡ 0
-    → Accepted l chip s
+pub accepted-image : (l : Layout) (edition : Bool) (chip : ℕ) (s : List ℕ) → firstMet (judgeCauses s (newestIn l edition chip)) ≡ 0
+    → AcceptedImage l chip s
 unfolding judgeCauses headerCauses imageCauses argumentCauses badCount leafCausesFor newestIn
-accepted l edition chip s h =
+accepted-image l edition chip s h =
     let j = both-accepted (headerCauses s (newestIn l edition chip)) _ (header-numbered s (newestIn l edition chip)) h in
     let i = both-accepted (imageCauses l s) _ (image-numbered l s) (j .0) in
     let g = both-accepted (argumentCauses s (newestIn l edition chip)) _ (argument-numbered s (newestIn l edition chip)) (i .1) in
@@ -342,7 +342,7 @@ accepted l edition chip s h =
 pub record Tidy (l : Layout) (chip : ℕ) (s : List ℕ) : Type 0 where
   pub one : byteAt s 19 ≡ 1
   pub leaf : wordAt s 27 ≡ leafStart
-  pub zero : allZero (upToLeavesEnd l (leafEnd l chip s) s) ≡ true
+  pub zero : allZero (upToLeavesEnd l s (leafEnd l chip s)) ≡ true
 
 pub tidy : (l : Layout) (chip : ℕ) (s : List ℕ) → isTidy l chip s ≡ true → Tidy l chip s
 unfolding isTidy controllerCount leafAt
@@ -366,11 +366,11 @@ spell-head row r low h = rw (word-back (byteAt r 0) (byteAt r 1) low) (go (eqb r
     go true = sym (spelled 0 4 r (omega arith))
     go false = sym (spelled 0 3 r (omega arith))
 
-module _ (l : Layout) (chip : ℕ) (s : List ℕ) (by : Bytes s) (a : Accepted l chip s) (t : Tidy l chip s) where
+module _ (l : Layout) (chip : ℕ) (s : List ℕ) (by : Bytes s) (a : AcceptedImage l chip s) (t : Tidy l chip s) where
   behind-length : length (drop leafStart s) ≡ imageLength (l .size) - leafStart
   behind-length = length-drop leafStart s ∙ omega (arith, a .long)
 
-  pub means-sized : Sized (imageFrom l chip s)
+  pub means-sized : SizedFields (imageFrom l chip s)
   unfolding imageFrom
   means-sized = record {
     id = length-take-le 16 s (omega (arith, a .long));
@@ -380,12 +380,12 @@ module _ (l : Layout) (chip : ℕ) (s : List ℕ) (by : Bytes s) (a : Accepted l
 
   -- the leaf's rest, and how many bytes of it the blocks take
   abbrev rest : List ℕ
-  rest = take (room l - headerLength (rowOf chip)) (drop (headerLength (rowOf chip)) (drop leafStart s))
+  rest = take (leafRoom l - headerLength (rowOf chip)) (drop (headerLength (rowOf chip)) (drop leafStart s))
 
   abbrev used : ℕ
   used = sizes (rowOf chip) (blocksFor s (newest l chip))
 
-  rest-length : length rest ≡ room l - headerLength (rowOf chip)
+  rest-length : length rest ≡ leafRoom l - headerLength (rowOf chip)
   rest-length =
       let h = header-some (rowOf chip) in
       length-take-le _ _ (omega (arith, h .0, h .1, length-drop (headerLength (rowOf chip)) (drop leafStart s), behind-length))
@@ -393,11 +393,11 @@ module _ (l : Layout) (chip : ℕ) (s : List ℕ) (by : Bytes s) (a : Accepted l
   rest-encoded : Encoded (rowOf chip) (byteAt (drop leafStart s) (headerLength (rowOf chip) - 1)) rest
   rest-encoded =
       encodes-cut (rowOf chip) newestLevel _ rest
-      (bytes-take (room l - headerLength (rowOf chip)) (drop (headerLength (rowOf chip)) (drop leafStart s))
+      (bytes-take (leafRoom l - headerLength (rowOf chip)) (drop (headerLength (rowOf chip)) (drop leafStart s))
       (bytes-drop (headerLength (rowOf chip)) (drop leafStart s) (bytes-drop leafStart s by)))
       (rw (← blocks-are l chip s (t .leaf)) (a .blocks))
 
-  used-fits : headerLength (rowOf chip) + used ≤ room l
+  used-fits : headerLength (rowOf chip) + used ≤ leafRoom l
   used-fits =
       let f : used ≤ length rest = rw (blocks-are l chip s (t .leaf)) (rest-encoded .fits) in
       let h = header-some (rowOf chip) in
@@ -419,12 +419,13 @@ module _ (l : Layout) (chip : ℕ) (s : List ℕ) (by : Bytes s) (a : Accepted l
   means-encodes =
       let e : encodes (map (entryFrom (rowOf chip)) (blocksFor s (newest l chip))) ≡ take used rest
       = rw (blocks-are l chip s (t .leaf)) (rest-encoded .back) in
-      e ∙ take-take used (room l - headerLength (rowOf chip)) _ (omega (arith, used-fits))
+      e ∙ take-take used (leafRoom l - headerLength (rowOf chip)) _ (omega (arith, used-fits))
 
   means-count : length (imageFrom l chip s .entries) ≡ byteAt (drop leafStart s) (headerLength (rowOf chip) - 1)
   unfolding imageFrom newestIn
   means-count =
-      entries-length (rowOf chip) (countFor s (newest l chip)) (restFrom l s (startFor s (newest l chip))) ∙ count-is l chip s (t .leaf)
+      entries-length (rowOf chip) (countFor s (newest l chip)) (upToLeavesEnd l s (startFor s (newest l chip))) ∙ count-is l chip s
+      (t .leaf)
 
   means-connection : imageFrom l chip s .connection ≡ wordAt (drop leafStart s) 0
   unfolding imageFrom
@@ -451,26 +452,27 @@ module _ (l : Layout) (chip : ℕ) (s : List ℕ) (by : Bytes s) (a : Accepted l
   means-length : length (leafOf (imageFrom l chip s)) ≡ headerLength (rowOf chip) + used
   means-length = ap length means-leaf ∙ length-take-le _ _ (omega (arith, used-fits, behind-length))
 
-  pub means-fits : length (leafOf (imageFrom l chip s)) ≤ room l
+  pub means-fits : length (leafOf (imageFrom l chip s)) ≤ leafRoom l
   means-fits = omega (arith, means-length, used-fits)
 
-  means-gap : take (room l - (headerLength (rowOf chip) + used)) (drop (headerLength (rowOf chip) + used) (drop leafStart s))
-      ≡ replicate (room l - (headerLength (rowOf chip) + used)) 0
+  means-gap : take (leafRoom l - (headerLength (rowOf chip) + used)) (drop (headerLength (rowOf chip) + used) (drop leafStart s))
+      ≡ replicate (leafRoom l - (headerLength (rowOf chip) + used)) 0
   means-gap =
-      let e : upToLeavesEnd l (leafEnd l chip s) s
-      ≡ take (room l - (headerLength (rowOf chip) + used)) (drop (headerLength (rowOf chip) + used) (drop leafStart s))
-      = ap (λ (n : ℕ). upToLeavesEnd l n s) (end-is l chip s (t .leaf)) ∙ up-to l chip s (t .leaf) (headerLength (rowOf chip) + used) in
-      zeros _ _ (rw (← e) (t .zero)) (length-take-le (room l - (headerLength (rowOf chip) + used))
+      let e : upToLeavesEnd l s (leafEnd l chip s)
+      ≡ take (leafRoom l - (headerLength (rowOf chip) + used)) (drop (headerLength (rowOf chip) + used) (drop leafStart s))
+      = ap (upToLeavesEnd l s) (end-is l chip s (t .leaf)) ∙ up-to l chip s (t .leaf) (headerLength (rowOf chip) + used) in
+      zeros-are _ _ (rw (← e) (t .zero)) (length-take-le (leafRoom l - (headerLength (rowOf chip) + used))
       (drop (headerLength (rowOf chip) + used) (drop leafStart s))
       (omega (arith, length-drop (headerLength (rowOf chip) + used) (drop leafStart s), behind-length, used-fits)))
 
-  means-padded : padded (room l) (leafOf (imageFrom l chip s)) ≡ take (room l) (drop leafStart s)
+  means-padded : padded (leafRoom l) (leafOf (imageFrom l chip s)) ≡ take (leafRoom l) (drop leafStart s)
   unfolding padded
   means-padded =
-      let n : headerLength (rowOf chip) + used + (room l - (headerLength (rowOf chip) + used)) ≡ room l = omega (arith, used-fits) in
-      ap₂ (λ (x : List ℕ) (k : ℕ). x ++ replicate (room l - k) 0) means-leaf means-length
+      let n : headerLength (rowOf chip) + used + (leafRoom l - (headerLength (rowOf chip) + used)) ≡ leafRoom l = omega
+      (arith, used-fits) in
+      ap₂ (λ (x : List ℕ) (k : ℕ). x ++ replicate (leafRoom l - k) 0) means-leaf means-length
       ∙ ap (λ (x : List ℕ). take (headerLength (rowOf chip) + used) (drop leafStart s) ++ x) (sym means-gap)
-      ∙ sym (take-add (headerLength (rowOf chip) + used) (room l - (headerLength (rowOf chip) + used)) (drop leafStart s))
+      ∙ sym (take-add (headerLength (rowOf chip) + used) (leafRoom l - (headerLength (rowOf chip) + used)) (drop leafStart s))
       ∙ ap (λ (k : ℕ). take k (drop leafStart s)) n
 
   -- the count is a byte
@@ -508,18 +510,18 @@ module _ (l : Layout) (chip : ℕ) (s : List ℕ) (by : Bytes s) (a : Accepted l
   unfolding coveredOf
   means-covered =
       ap₂ (λ (x y : List ℕ). x ++ y) means-front
-      (ap₂ (λ (x y : List ℕ). x ++ y) means-padded (means-maker ∙ ap (take 2) (ap (λ (n : ℕ). drop n s) at ∙ drop-behind s (room l)))
-      ∙ sym (take-add (room l) 2 (drop leafStart s)))
-      ∙ sym (take-add leafStart (room l + 2) s)
+      (ap₂ (λ (x y : List ℕ). x ++ y) means-padded (means-maker ∙ ap (take 2) (ap (λ (n : ℕ). drop n s) at ∙ drop-behind s (leafRoom l)))
+      ∙ sym (take-add (leafRoom l) 2 (drop leafStart s)))
+      ∙ sym (take-add leafStart (leafRoom l + 2) s)
       ∙ ap (λ (n : ℕ). take n s) end
     where
       means-maker : imageFrom l chip s .maker ≡ take 2 (drop (leavesEnd l) s)
       means-maker = unfold imageFrom in refl
 
-      at : leavesEnd l ≡ leafStart + room l
+      at : leavesEnd l ≡ leafStart + leafRoom l
       at = omega arith
 
-      end : leafStart + (room l + 2) ≡ checkedLength l
+      end : leafStart + (leafRoom l + 2) ≡ checkedLength l
       end = omega arith
 
   means-board : boardOf l (imageFrom l chip s) ≡ take (boardLength l) s

@@ -25,8 +25,8 @@ use Rattle.sheet.specs.Write.{anyBad, cannotHold}
 use Rattle.sheet.specs.Claims.{longestSheet}
 use Rattle.sheet.proofs.Blocks.{Good, good-compact, good-21041, good-extended, good-so, opening-compact, opening-21041}
 use Rattle.sheet.proofs.Blocks.{opening-extended}
-use Rattle.sheet.proofs.Sheets.{Sized, sheet-length}
-use Rattle.sheet.proofs.Images.{room, header-some, leaf-length}
+use Rattle.sheet.proofs.Sheets.{SizedFields, sheet-length}
+use Rattle.sheet.proofs.Images.{leafRoom, header-some, leaf-length}
 
 -- ## On a 21041
 
@@ -105,7 +105,8 @@ most n k t h e f = ⊎-elim (λ g. omega (arith, g)) (λ g. omega (arith, g)) (f
         go true e = inl (leb-true _ _ e)
         go false e = inr (leb-false _ _ e)
 
-module _ (l : Layout) (p : Plain) (holds : cannotHold p ≡ false) (fits : length (leafOf p) ≤ room l) (few : length (p .entries) ≤ 255) where
+module _ (l : Layout) (p : Plain) (holds : cannotHold p ≡ false) (fits : length (leafOf p) ≤ leafRoom l)
+    (few : length (p .entries) ≤ 255) where
   good : anyBad (rowOf (p .chip)) (p .entries) ≡ false
   unfolding cannotHold
   good = or-false (anyBad (rowOf (p .chip)) (p .entries)) _ holds .0
@@ -129,7 +130,7 @@ module _ (l : Layout) (p : Plain) (holds : cannotHold p ≡ false) (fits : lengt
       go false er true h = omega (arith, lights (rowOf (p .chip)) (p .entries) (eqb-false _ _ er) good, h)
       go false er false h = omega (arith, lights (rowOf (p .chip)) (p .entries) (eqb-false _ _ er) good, h)
 
-pub longest : (form : Form) (l : Layout) (p : Plain) → Sized p → cannotHold p ≡ false → length (leafOf p) ≤ room l
+pub longest : (form : Form) (l : Layout) (p : Plain) → SizedFields p → cannotHold p ≡ false → length (leafOf p) ≤ leafRoom l
     → length (p .entries) ≤ 255 → length (sheetOf form p) ≤ longestSheet form (l .size)
 unfolding longestSheet pick
 longest form l p z holds fits few = go (eqb (l .size) largeSize) (parts-short l p holds fits few)

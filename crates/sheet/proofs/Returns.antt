@@ -6,7 +6,7 @@ use mathlib.Core.List.{List}
 use native.Mathlib.Omega.{arith}
 use lib.ListN.{length, take, drop, drop-of-length-le}
 use lib.Seq.{take-append-seam, drop-at}
-use lib.Dec.{lit<}
+use lib.Dec.{lit<, eqb}
 use borrow.Author.Tests.{eq-eqb, ne-eqb, ltb-false, le-ltb, not-false}
 use Rattle.rom.specs.declared.Layout.{Layout}
 use Rattle.rom.specs.Geometry.{wrongLength, imageLength, boardLength, leavesEnd}
@@ -17,9 +17,9 @@ use Rattle.rom.proofs.Layouts.{geometry, magic-board, plain-board}
 use Rattle.rom.proofs.Reached.{reached, end, stop, skip, past}
 use Rattle.rom.proofs.Truth.{pick-true, pick-false, met-not, or-false}
 use Rattle.format.specs.Chips.{chips}
-use Rattle.header.specs.declared.Arguments.{Arguments}
-use Rattle.header.specs.Header.{headerCauses}
-use Rattle.header.proofs.Headers.{header-numbered}
+use Rattle.image.specs.declared.Arguments.{Arguments}
+use Rattle.image.specs.Arguments.{headerCauses}
+use Rattle.image.proofs.Causes.{header-numbered}
 use Rattle.leaf.proofs.Cuts.{leaf-numbered}
 use Rattle.reader.specs.Reading.{leafCausesFor, judgeCauses}
 use Rattle.sheet.specs.Lists.{over}
@@ -31,12 +31,12 @@ use Rattle.sheet.specs.Sheet.{plainFrom, sheetOf, chipIn, sheetFrom, isS
 use Rattle.sheet.specs.Image.{leafStart, leafOf, boardOf, imageOf, newestIn, imageFrom, isTidy}
 use Rattle.sheet.specs.Write.{cannotHold, tooManyBlocks, wrongOutput, recordCauses, writeCauses, writeNumber, written}
 use Rattle.sheet.specs.Make.{sheetFor, makeCauses, makeNumber, makeLength, made}
-use Rattle.sheet.specs.Convert.{convertCauses, convertNumber, convertLength, convertedIn}
+use Rattle.sheet.specs.Convert.{converted, convertCauses, convertNumber, convertLength, convertedIn}
 use Rattle.sheet.specs.Claims.{SheetReturns, sheetMade, SameBlock, ImageReturns, WrittenIsTidy, WriterKeepsBlock, SheetFits}
-use Rattle.sheet.specs.Claims.{ExactRefusals, WriterOrder, RefusalsChangeNothing}
-use Rattle.sheet.proofs.Sheets.{Sized, at-count, whole, sheet-means, sheet-is, from-sized, sheet-back}
-use Rattle.sheet.proofs.Images.{room, board-length, image-means, image-tidy, accepted, tidy, means-sized, means-holds, means-fits}
-use Rattle.sheet.proofs.Images.{means-few, image-back}
+use Rattle.sheet.specs.Claims.{ExactRefusals, WriterOrder, PastUnchanged, RefusalsChangeNothing}
+use Rattle.sheet.proofs.Sheets.{SizedFields, at-count, whole-sheet, sheet-means, sheet-is, from-sized, sheet-back}
+use Rattle.sheet.proofs.Images.{leafRoom, board-length, image-means, image-tidy, accepted-image, tidy, means-sized, means-holds}
+use Rattle.sheet.proofs.Images.{means-fits, means-few, image-back}
 use Rattle.sheet.proofs.Longest.{longest}
 
 -- ## The order of the writer's causes
@@ -112,7 +112,7 @@ pub right-output : (form : Form) (l : Layout) (n : ℕ) → isBeyond form (l .si
 unfolding wrongOutput
 right-output form l n e f = rw (e, f)
 
-pub record Writable (form : Form) (l : Layout) (edition : Bool) (s out : List ℕ) : Type 0 where
+pub record WritableSheet (form : Form) (l : Layout) (edition : Bool) (s out : List ℕ) : Type 0 where
   pub is : isSheet form s ≡ true
   pub few : tooManyBlocks form s ≡ false
   pub room : wrongOutput form l (length out) ≡ false
@@ -122,7 +122,7 @@ pub record Writable (form : Form) (l : Layout) (edition : Bool) (s out : List �
   pub reads : firstMet (judgeCauses (imageOf l (sheetFrom form s) out) (newestIn l edition (sheetFrom form s .chip))) ≡ 0
 
 pub writable : (form : Form) (l : Layout) (edition : Bool) (s out : List ℕ) → writeNumber form l edition s out ≡ 0
-    → Writable form l edition s out
+    → WritableSheet form l edition s out
 unfolding writeNumber writeCauses recordCauses
 writable form l edition s out h =
     let a = none-here _ _ (lit< tt) h in
@@ -147,7 +147,7 @@ pub record-accepted : (l : Layout) (p : Plain) → isIn (p .chip) chips ≡ true
 unfolding recordCauses
 record-accepted l p c h f = sym (reached (skip (met-not _ c) (skip h (skip (le-ltb _ _ f) end))))
 
-pub writes : (form : Form) (l : Layout) (edition : Bool) (s out : List ℕ) → Writable form l edition s out
+pub writes : (form : Form) (l : Layout) (edition : Bool) (s out : List ℕ) → WritableSheet form l edition s out
     → writeNumber form l edition s out ≡ 0
 unfolding writeNumber writeCauses firstMet pick
 writes form l edition s out w =
@@ -210,14 +210,28 @@ refusals-change-nothing form = (
   λ sheet buffer h. (pick-false _ _ _ (ne-eqb _ _ h), pick-false _ _ _ (ne-eqb _ _ h)),
 )
 
+past-over : (t : Bool) (buffer bytes : List ℕ)
+    → drop (pick t (length bytes) 0) (pick t (over buffer bytes) buffer) ≡ drop (pick t (length bytes) 0) buffer
+unfolding pick over
+past-over true buffer bytes = drop-at bytes (drop (length bytes) buffer) (length bytes) refl
+past-over false buffer bytes = refl
+
+pub past-unchanged : PastUnchanged
+unfolding makeLength made convertLength convertedIn
+past-unchanged form = (
+  λ l edition image buffer chip. past-over (eqb (makeNumber form l edition image chip (length buffer)) 0) buffer
+      (sheetFor form l image chip),
+  λ sheet buffer. past-over (eqb (convertNumber form sheet (length buffer)) 0) buffer (converted form sheet),
+)
+
 -- ## The returns
 
 -- the record that a writable sheet means, through its image
-module _ (form : Form) (l : Layout) (edition : Bool) (s out : List ℕ) (w : Writable form l edition s out) where
-  pub meant-sized : Sized (sheetFrom form s)
-  meant-sized = from-sized _ _ _ (whole form s (w .is))
+module _ (form : Form) (l : Layout) (edition : Bool) (s out : List ℕ) (w : WritableSheet form l edition s out) where
+  pub meant-sized : SizedFields (sheetFrom form s)
+  meant-sized = from-sized _ _ _ (whole-sheet form s (w .is))
 
-  short : length (leafOf (sheetFrom form s)) ≤ room l
+  short : length (leafOf (sheetFrom form s)) ≤ leafRoom l
   short = omega (arith, w .fits)
 
   image-neat : isTidy l (sheetFrom form s .chip) (imageOf l (sheetFrom form s) out) ≡ true
@@ -265,15 +279,15 @@ behind-board l s t ls lt same = go (l .magic) refl
         drop-of-length-le s {i = boardLength l} (omega arith) ∙ sym (drop-of-length-le t {i = boardLength l} (omega arith))
 
 -- a sheet that is made has no more blocks than a byte counts
-few-blocks : (form : Form) (p : Plain) → length (p .entries) ≤ 255 → tooManyBlocks form (sheetOf form p) ≡ false
+few-entries : (form : Form) (p : Plain) → length (p .entries) ≤ 255 → tooManyBlocks form (sheetOf form p) ≡ false
 unfolding tooManyBlocks
-few-blocks Narrow p h = refl
-few-blocks Wide p h = le-ltb 255 (countIn Wide (sheetOf Wide p)) (omega (arith, at-count Wide p))
+few-entries Narrow p h = refl
+few-entries Wide p h = le-ltb 255 (countIn Wide (sheetOf Wide p)) (omega (arith, at-count Wide p))
 
 pub image-returns : ImageReturns
 image-returns form l edition s out buffer chip served by reads neat enough room same =
     let h = makes form l edition s chip (length buffer) (record { served = served; reads = reads; neat = neat; fits = enough }) in
-    let a = accepted l edition chip s reads in
+    let a = accepted-image l edition chip s reads in
     let t = tidy l chip s neat in
     let z = means-sized l chip s by a t in
     let is = made-front form l edition s chip buffer h in
@@ -281,10 +295,10 @@ image-returns form l edition s out buffer chip served by reads neat enough room 
     let back = ap (λ (p : Plain). imageOf l p out) means
     ∙ image-back l chip s by a t out (behind-board l out s room (a .long) same) in
     let of : imageFrom l chip s .chip ≡ chip = unfold imageFrom in refl in
-    let w : Writable form l edition (sheetFor form l s chip) out
+    let w : WritableSheet form l edition (sheetFor form l s chip) out
     = record {
       is = sheet-is form (imageFrom l chip s) z;
-      few = few-blocks form (imageFrom l chip s) (means-few l chip s by a t);
+      few = few-entries form (imageFrom l chip s) (means-few l chip s by a t);
       room = rw (room ∙ sym (a .long)) (right-output form l (length s) served (a .right));
       chip = rw (means, of) (a .known-chip);
       holds = rw means (means-holds l chip s by a t);
@@ -296,7 +310,7 @@ image-returns form l edition s out buffer chip served by reads neat enough room 
 
 pub sheet-fits : SheetFits
 sheet-fits form l edition s chip served by reads neat =
-    let a = accepted l edition chip s reads in
+    let a = accepted-image l edition chip s reads in
     let t = tidy l chip s neat in
     longest form l (imageFrom l chip s) (means-sized l chip s by a t) (means-holds l chip s by a t) (means-fits l chip s by a t)
     (means-few l chip s by a t)

@@ -24,7 +24,7 @@ use Rattle.rom.proofs.Lists.{word-of, word-back, bytes-drop, spell, spelled, sp
 
 -- ## Records whose parts have their lengths
 
-pub record Sized (p : Plain) : Type 0 where
+pub record SizedFields (p : Plain) : Type 0 where
   pub id : length (p .id) ≡ 16
   pub address : length (p .address) ≡ 6
   pub maker : length (p .maker) ≡ 2
@@ -44,7 +44,7 @@ spelledOut p = record {
   entries = p .entries;
 }
 
-pub spelled-out : (p : Plain) → Sized p → p ≡ spelledOut p
+pub spelled-out : (p : Plain) → SizedFields p → p ≡ spelledOut p
 unfolding spelledOut
 spelled-out p z = λ i. record {
   id = spelled-whole 16 (p .id) (z .id) i;
@@ -101,12 +101,13 @@ two-kinds n (x ∷ []) h = absurd (omega arith)
 two-kinds n (x ∷ y ∷ ks) h =
     let m : suc (suc (2 * n)) ≡ 2 * suc n = omega arith in ap (λ (k : ℕ). take k (x ∷ y ∷ ks)) m
 
-pub read : (n : ℕ) (ks ss bs : List ℕ) → Bytes ks → 2 * n ≤ length ks → n ≤ length ss → sum (take n ss) ≤ length bs → Read n ks ss bs
+pub entries-read : (n : ℕ) (ks ss bs : List ℕ) → Bytes ks → 2 * n ≤ length ks → n ≤ length ss → sum (take n ss) ≤ length bs
+    → Read n ks ss bs
 unfolding entriesFrom kindBytes sizeBytes bodyBytes sum wordAt
-read zero ks ss bs by k s b = record { count = refl; kinds = refl; sizes = refl; bodies = refl }
-read (suc n) ks [] bs by k s b = absurd (omega arith)
-read (suc n) ks (x ∷ ss) bs by k s b =
-    let ih = read n (drop 2 ks) ss (drop x bs) (bytes-drop 2 ks by) (omega (arith, length-drop 2 ks)) (omega arith)
+entries-read zero ks ss bs by k s b = record { count = refl; kinds = refl; sizes = refl; bodies = refl }
+entries-read (suc n) ks [] bs by k s b = absurd (omega arith)
+entries-read (suc n) ks (x ∷ ss) bs by k s b =
+    let ih = entries-read n (drop 2 ks) ss (drop x bs) (bytes-drop 2 ks by) (omega (arith, length-drop 2 ks)) (omega arith)
     (omega (arith, length-drop x bs)) in
     record {
       count = ap suc (ih .count);
@@ -117,53 +118,54 @@ read (suc n) ks (x ∷ ss) bs by k s b =
 
 -- ## The sheet of a record
 
-pub head-length : (p : Plain) → Sized p → length (headOf p) ≡ 32
+pub head-length : (p : Plain) → SizedFields p → length (headOf p) ≡ 32
 unfolding headOf wordBytes
 head-length p z = simp length-append (omega (arith, z .id, z .address, z .maker))
 
 -- behind any two bytes
-abbrev behind : ℕ → ℕ → Plain → List ℕ
-behind x y p = x ∷ y ∷ (headOf p ++ partsOf (p .entries))
+abbrev behindCounts : ℕ → ℕ → Plain → List ℕ
+behindCounts x y p = x ∷ y ∷ (headOf p ++ partsOf (p .entries))
 
-module _ (p : Plain) (z : Sized p) (x y : ℕ) where
-  behind-length : length (behind x y p) ≡ headLength + 3 * length (p .entries) + length (bodyBytes (p .entries))
+module _ (p : Plain) (z : SizedFields p) (x y : ℕ) where
+  behind-length : length (behindCounts x y p) ≡ headLength + 3 * length (p .entries) + length (bodyBytes (p .entries))
   unfolding partsOf
   behind-length = simp length-append (omega (arith, head-length p z, kind-length (p .entries), size-length (p .entries)))
 
-  at-parts : kindsIn (behind x y p) ≡ partsOf (p .entries)
+  at-parts : kindsIn (behindCounts x y p) ≡ partsOf (p .entries)
   at-parts = drop-at (headOf p) _ 32 (head-length p z)
 
-  at-sizes : sizesIn (length (p .entries)) (behind x y p) ≡ sizeBytes (p .entries) ++ bodyBytes (p .entries)
+  at-sizes : sizesIn (length (p .entries)) (behindCounts x y p) ≡ sizeBytes (p .entries) ++ bodyBytes (p .entries)
   unfolding partsOf
   at-sizes =
-      sym (drop-drop (2 * length (p .entries)) headLength (behind x y p)) ∙ ap (drop (2 * length (p .entries))) at-parts
+      sym (drop-drop (2 * length (p .entries)) headLength (behindCounts x y p)) ∙ ap (drop (2 * length (p .entries))) at-parts
       ∙ drop-at (kindBytes (p .entries)) _ _ (kind-length (p .entries))
 
-  at-bodies : bodiesIn (length (p .entries)) (behind x y p) ≡ bodyBytes (p .entries)
+  at-bodies : bodiesIn (length (p .entries)) (behindCounts x y p) ≡ bodyBytes (p .entries)
   at-bodies =
       let n = length (p .entries) in
       let m : headLength + 3 * length (p .entries) ≡ headLength + 2 * length (p .entries) + length (p .entries) = omega arith in
-      ap (λ (k : ℕ). drop k (behind x y p)) m
-      ∙ sym (drop-drop (length (p .entries)) (headLength + 2 * length (p .entries)) (behind x y p)) ∙ ap
+      ap (λ (k : ℕ). drop k (behindCounts x y p)) m
+      ∙ sym (drop-drop (length (p .entries)) (headLength + 2 * length (p .entries)) (behindCounts x y p)) ∙ ap
       (drop (length (p .entries))) at-sizes
       ∙ drop-at (sizeBytes (p .entries)) _ _ (size-length (p .entries))
 
-  at-entries : entriesFrom (length (p .entries)) (kindsIn (behind x y p)) (sizesIn (length (p .entries)) (behind x y p))
-      (bodiesIn (length (p .entries)) (behind x y p)) ≡ p .entries
+  at-entries : entriesFrom (length (p .entries)) (kindsIn (behindCounts x y p)) (sizesIn (length (p .entries)) (behindCounts x y p))
+      (bodiesIn (length (p .entries)) (behindCounts x y p)) ≡ p .entries
   unfolding partsOf
   at-entries =
       (λ i. entriesFrom (length (p .entries)) (at-parts i) (at-sizes i) ((at-bodies ∙ sym (append-nil (bodyBytes (p .entries)))) i))
       ∙ entries-of (p .entries) _ _ []
 
-  at-sum : length (bodyBytes (p .entries)) ≡ sum (take (length (p .entries)) (sizesIn (length (p .entries)) (behind x y p)))
+  at-sum : length (bodyBytes (p .entries)) ≡ sum (take (length (p .entries)) (sizesIn (length (p .entries)) (behindCounts x y p)))
   at-sum =
       sym (size-sum (p .entries))
       ∙ ap sum (sym (ap (take (length (p .entries))) at-sizes ∙ take-at (sizeBytes (p .entries)) _ _ (size-length (p .entries))))
 
 -- the head of a sheet whose record is spelled out computes
-head-means : (p : Plain) (x y : ℕ) → entriesFrom (length (p .entries)) (kindsIn (behind x y (spelledOut p)))
-    (sizesIn (length (p .entries)) (behind x y (spelledOut p))) (bodiesIn (length (p .entries)) (behind x y (spelledOut p))) ≡ p .entries
-    → plainFrom (length (p .entries)) (behind x y (spelledOut p)) ≡ spelledOut p
+head-means : (p : Plain) (x y : ℕ) → entriesFrom (length (p .entries)) (kindsIn (behindCounts x y (spelledOut p)))
+    (sizesIn (length (p .entries)) (behindCounts x y (spelledOut p)))
+    (bodiesIn (length (p .entries)) (behindCounts x y (spelledOut p))) ≡ p .entries
+    → plainFrom (length (p .entries)) (behindCounts x y (spelledOut p)) ≡ spelledOut p
 unfolding plainFrom spelledOut headOf wordBytes wordAt spell
 head-means p x y e =
     let c = word-of (p .chip) in
@@ -181,12 +183,12 @@ head-means p x y e =
       entries = e i;
     }
 
-behind-means : (p : Plain) (x y : ℕ) → Sized p → plainFrom (length (p .entries)) (behind x y p) ≡ p
+behind-means : (p : Plain) (x y : ℕ) → SizedFields p → plainFrom (length (p .entries)) (behindCounts x y p) ≡ p
 unfolding spelledOut
 behind-means p x y z =
     let e = spelled-out p z in
-    let w : Sized (spelledOut p) = rw (← e) z in
-    ap (λ (q : Plain). plainFrom (length (q .entries)) (behind x y q)) e ∙ head-means p x y (at-entries (spelledOut p) w x y) ∙ sym e
+    let w : SizedFields (spelledOut p) = rw (← e) z in
+    ap (λ (q : Plain). plainFrom (length (q .entries)) (behindCounts x y q)) e ∙ head-means p x y (at-entries (spelledOut p) w x y) ∙ sym e
 
 -- ## In each form
 
@@ -214,12 +216,12 @@ abbrev second : Form → Plain → ℕ
 second Narrow p = length (bodyBytes (p .entries))
 second Wide p = length (bodyBytes (p .entries)) / 256
 
-at-shifted : (form : Form) (p : Plain) → shifted form (sheetOf form p) ≡ behind (lowest form p) (second form p) p
+at-shifted : (form : Form) (p : Plain) → shifted form (sheetOf form p) ≡ behindCounts (lowest form p) (second form p) p
 unfolding sheetOf wordBytes
 at-shifted Narrow p = refl
 at-shifted Wide p = refl
 
-module _ (form : Form) (p : Plain) (z : Sized p) where
+module _ (form : Form) (p : Plain) (z : SizedFields p) where
   pub sheet-length : length (sheetOf form p) ≡ shift form + (headLength + 3 * length (p .entries) + length (bodyBytes (p .entries)))
   unfolding sheetOf
   sheet-length =
@@ -244,24 +246,24 @@ module _ (form : Form) (p : Plain) (z : Sized p) where
 -- ## A sheet
 
 -- as its further places count: N blocks, and T bytes of bodies
-pub record Whole (n t : ℕ) (s : List ℕ) : Type 0 where
+pub record WholeSheet (n t : ℕ) (s : List ℕ) : Type 0 where
   pub long : length s ≡ headLength + 3 * n + t
   pub total : t ≡ sum (take n (sizesIn n s))
 
-pub whole : (form : Form) (s : List ℕ) → isSheet form s ≡ true → Whole (countIn form s) (totalIn form s) (shifted form s)
+pub whole-sheet : (form : Form) (s : List ℕ) → isSheet form s ≡ true → WholeSheet (countIn form s) (totalIn form s) (shifted form s)
 unfolding isSheet
-whole form s is =
+whole-sheet form s is =
     let b = and-true (eqb (length s) (shift form + (headLength + 3 * countIn form s + totalIn form s))) _ is in
     record {
       long = length-drop (shift form) s ∙ omega (arith, eqb-true (length s) _ (b .0));
       total = eqb-true (totalIn form s) _ (b .1);
     }
 
-module _ (n t : ℕ) (s : List ℕ) (w : Whole n t s) where
+module _ (n t : ℕ) (s : List ℕ) (w : WholeSheet n t s) where
   bodies-all : take (sum (take n (sizesIn n s))) (bodiesIn n s) ≡ bodiesIn n s
   bodies-all = take-all (sum (take n (sizesIn n s))) (bodiesIn n s) (omega (arith, length-drop (headLength + 3 * n) s, w .long, w .total))
 
-  pub from-sized : Sized (plainFrom n s)
+  pub from-sized : SizedFields (plainFrom n s)
   unfolding plainFrom
   from-sized = record {
     id = length-take-le 16 (drop 2 s) (omega (arith, length-drop 2 s, w .long));
@@ -272,7 +274,7 @@ module _ (n t : ℕ) (s : List ℕ) (w : Whole n t s) where
   module _ (by : Bytes s) where
     pub parts : Read n (kindsIn s) (sizesIn n s) (bodiesIn n s)
     parts =
-        read n (kindsIn s) (sizesIn n s) (bodiesIn n s) (bytes-drop headLength s by)
+        entries-read n (kindsIn s) (sizesIn n s) (bodiesIn n s) (bytes-drop headLength s by)
         (omega (arith, length-drop headLength s, w .long)) (omega (arith, length-drop (headLength + 2 * n) s, w .long))
         (omega (arith, length-drop (headLength + 3 * n) s, w .long, w .total))
 
@@ -328,7 +330,7 @@ sheet-long form s is =
 pub sheet-back : (form : Form) (s : List ℕ) → isSheet form s ≡ true → Bytes s → sheetOf form (sheetFrom form s) ≡ s
 unfolding sheetOf
 sheet-back form s is by =
-    let w = whole form s is in
+    let w = whole-sheet form s is in
     let b = bytes-drop (shift form) s by in
     (λ i. countsOf form (count-back _ _ _ w b i) (total-back _ _ _ w b i) ++ content-back _ _ _ w b i)
     ∙ counts-back form s by (omega (arith, sheet-long form s is))

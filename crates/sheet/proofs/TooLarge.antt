@@ -14,9 +14,9 @@ use Rattle.rom.specs.Refusal.{Cause, _⇒_, firstMet}
 use Rattle.rom.proofs.Truth.{true-false}
 use Rattle.rom.proofs.Reached.{reached, stop}
 use Rattle.format.specs.Block.{causes}
-use Rattle.header.specs.declared.Arguments.{Arguments}
-use Rattle.header.specs.Image.{magicCauses, imageCauses, argumentCauses, leafHeaderCauses}
-use Rattle.header.specs.Header.{rowFor, leafFor, editionFor, headerCauses}
+use Rattle.image.specs.declared.Arguments.{Arguments}
+use Rattle.image.specs.Image.{magicCauses, imageCauses, argumentCauses, leafHeaderCauses}
+use Rattle.image.specs.Arguments.{rowFor, leafFor, editionFor, headerCauses}
 use Rattle.leaf.specs.Leaf.{blockCauses, leafCauses, wholeCauses, clashCause, modeCause}
 use Rattle.reader.specs.Reading.{leafCausesFor, judgeCauses}
 use Rattle.sheet.specs.declared.Form.{Form}

@@ -187,6 +187,17 @@ NarrowKeeps =
     → ((sheet out : List ℕ) → isSheet Narrow sheet ≡ true → writeNumber Narrow l edition sheet out ≡ 1)
     × ((image : List ℕ) (chip room : ℕ) → makeNumber Narrow l edition image chip room ≡ 1)
 
+-- the bytes of a buffer past the sheet that is made, or converted, are unchanged
+abbrev pub PastUnchanged : Type 0
+PastUnchanged =
+    (form : Form)
+    → ((l : Layout) (edition : Bool) (image buffer : List ℕ) (chip : ℕ)
+    → drop (makeLength form l edition image chip (length buffer)) (made form l edition image chip buffer)
+    ≡ drop (makeLength form l edition image chip (length buffer)) buffer)
+    × ((sheet buffer : List ℕ)
+    → drop (convertLength form sheet (length buffer)) (convertedIn form sheet buffer) ≡ drop
+    (convertLength form sheet (length buffer)) buffer)
+
 -- a refusal leaves what was lent as it was, and answers no length
 abbrev pub RefusalsChangeNothing : Type 0
 RefusalsChangeNothing =

@@ -9,12 +9,12 @@ use Rattle.rom.specs.declared.Layout.{Layout}
 use Rattle.rom.specs.Geometry.{boardLength, leavesEnd, versionAt, addressAt, controllersAt}
 use Rattle.rom.specs.Bytes.{pick, byteAt, wordAt, allZero}
 use Rattle.rom.specs.Store.{wordBytes}
-use Rattle.crc.specs.Crc.{sromCrc, idCrc}
+use Rattle.checksum.specs.Crc.{sromCrc, idCrc}
 use Rattle.format.specs.Chips.{rowOf, row21140, kindCompact, kind21041, newestLevel, laterEdition}
 use Rattle.format.specs.Block.{isExtended, sizeOf, kindOf}
-use Rattle.header.specs.declared.Arguments.{Arguments}
-use Rattle.header.specs.Image.{controllerCount, leafAt, controlByte}
-use Rattle.header.specs.Header.{leafFor, startFor}
+use Rattle.image.specs.declared.Arguments.{Arguments}
+use Rattle.image.specs.Image.{controllerCount, leafAt, controlByte, upToLeavesEnd}
+use Rattle.image.specs.Arguments.{leafFor, startFor}
 use Rattle.reader.specs.Reading.{blocksFor}
 use Rattle.sheet.specs.Lists.{padded}
 use Rattle.sheet.specs.Record.{Entry, Plain}
@@ -117,11 +117,7 @@ sizes row (s ∷ bs) = sizeOf row s + sizes row bs
 unfoldable pub leafEnd : Layout → ℕ → List ℕ → ℕ
 leafEnd l chip image = startFor image (newest l chip) + sizes (rowOf chip) (blocksFor image (newest l chip))
 
--- the bytes from a place up to where leaves end
-unfoldable pub upToLeavesEnd : Layout → ℕ → List ℕ → List ℕ
-upToLeavesEnd l at image = take (leavesEnd l - at) (drop at image)
-
 -- n = 1, leaf at 30, zeros after the leaf's last byte up to where leaves end
 unfoldable pub isTidy : Layout → ℕ → List ℕ → Bool
 isTidy l chip image =
-    eqb (controllerCount image) 1 && (eqb (leafAt image 0) leafStart && allZero (upToLeavesEnd l (leafEnd l chip image) image))
+    eqb (controllerCount image) 1 && (eqb (leafAt image 0) leafStart && allZero (upToLeavesEnd l image (leafEnd l chip image)))

@@ -22,11 +22,11 @@ pub struct Made {
 // ID bytes 0 to 15, then ID byte 17.
 pub const ID_AT: usize = 2;
 
-pub const LAST_ID_AT: usize = 18;
+pub const SHEET_LAST_ID_AT: usize = 18;
 
-pub const VERSION_AT: usize = 19;
+pub const SHEET_VERSION_AT: usize = 19;
 
-pub const ADDRESS_AT: usize = 20;
+pub const SHEET_ADDRESS_AT: usize = 20;
 
 pub const DEVICE_AT: usize = 26;
 
@@ -46,3 +46,6 @@ pub const LONGEST_BODY: usize = 126;
 
 // Where the writer puts the leaf in an image, and a tidy image has it.
 pub const LEAF_START: usize = 30;
+
+// Where the only controller's leaf offset stands in an image, behind its device number.
+pub const LEAF_OFFSET_AT: usize = 27;

@@ -7,10 +7,11 @@ use borrow.Author.Tests.{ne-eqb, lt-ltb, le-ltb}
 use Rattle.rom.specs.Geometry.{none}
 use Rattle.rom.specs.Bytes.{pick}
 use Rattle.rom.specs.Refusal.{firstMet}
-use Rattle.header.specs.declared.Arguments.{Arguments}
+use Rattle.image.specs.declared.Arguments.{Arguments}
 use Rattle.header.specs.declared.Header.{Header}
-use Rattle.header.specs.Image.{isFirstVersion, restFrom}
-use Rattle.header.specs.Header.{rowFor, startFor, countFor, headerCauses, foundHeader, headerFor}
+use Rattle.image.specs.Image.{isFirstVersion, upToLeavesEnd}
+use Rattle.image.specs.Arguments.{rowFor, startFor, countFor, headerCauses}
+use Rattle.header.specs.Header.{foundHeader, headerFor}
 use Rattle.header.proofs.Headers.{read-number, no-refusal, read-found, read-count}
 use Rattle.leaf.specs.Leaf.{cut, firstFrom, placeByStepping}
 use Rattle.leaf.proofs.Stepping.{placed-stepping}
@@ -47,15 +48,15 @@ module _ (image : List ℕ) (a : Arguments) (h : Header) (eh : h ≡ headerFor i
     unfolding placeFor pick
     no-block-place k l = simp (accepted, le-ltb k (countFor image a) (rw count at l))
 
-    pub block-stands : (rest : List ℕ) → rest ≡ restFrom (a .layout) image (h .start) → (k : ℕ) → k < h .blocks
+    pub block-stands : (rest : List ℕ) → rest ≡ upToLeavesEnd (a .layout) image (h .start) → (k : ℕ) → k < h .blocks
         → placeAt (h .row) (placeByStepping (h .row) (h .start) k rest) ≡ placeFor image a k
     unfolding placeFor foundHeader pick
     block-stands rest e k l =
-        let s = restFrom (a .layout) image (startFor image a) in
+        let s = upToLeavesEnd (a .layout) image (startFor image a) in
         let placed = placed-stepping (rowFor a) (startFor image a) (countFor image a) k s _ (rw count at l) in
         simp (accepted, lt-ltb k (countFor image a) (rw count at l)) (rw (e, found) (ap (placeAt (rowFor a)) (sym placed)))
 
-    pub leaf-refused : (rest : List ℕ) → rest ≡ restFrom (a .layout) image (h .start) → {first : Bool} → first ≡ isFirstVersion image
+    pub leaf-refused : (rest : List ℕ) → rest ≡ upToLeavesEnd (a .layout) image (h .start) → {first : Bool} → first ≡ isFirstVersion image
         → firstFrom (isRefused first (h .row) (a .level)) 0 (cut (h .row) (h .blocks) rest) ≡ refusedFor image a
     unfolding refusedFor foundHeader pick
     leaf-refused rest e ef = rw (e, ef, found, accepted)

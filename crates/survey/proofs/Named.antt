@@ -11,10 +11,10 @@ use Rattle.rom.specs.Refusal.{firstMet}
 use Rattle.rom.proofs.First.{after-accepted, after-refused}
 use Rattle.format.specs.Block.{sizeOf, causes, refusalIn}
 use Rattle.format.proofs.Exact.{causes-numbered}
-use Rattle.header.specs.Image.{isFirstVersion}
-use Rattle.header.specs.Header.{rowFor, startFor, headerCauses}
-use Rattle.header.proofs.Headers.{header-numbered}
-use Rattle.leaf.specs.Leaf.{firstFrom, blockCauses, leafCauses, placed, Place as Standing}
+use Rattle.image.specs.Image.{isFirstVersion}
+use Rattle.image.specs.Arguments.{rowFor, startFor, headerCauses}
+use Rattle.image.proofs.Causes.{header-numbered}
+use Rattle.leaf.specs.Leaf.{firstFrom, blockCauses, leafCauses, placed, PlacedBlock}
 use Rattle.reader.specs.Reading.{blocksFor, leafCausesFor, judgeCauses, judgeAnswer}
 use Rattle.reader.proofs.Readings.{answer-number}
 use Rattle.survey.specs.Survey.{isRefused, refusedFor}
@@ -31,11 +31,12 @@ module _ (first : Bool) (row level : ℕ) (s : List ℕ) (bs : List (List ℕ)) 
   by-others = after-accepted (causes first row level s) _ (causes-numbered first row level s)
 
 -- n is the number of a block whose refusal is that of them all, where the first has number k
-Names : Bool → ℕ → ℕ → Standing → ℕ → ℕ → List (List ℕ) → ℕ → Type 0
+Names : Bool → ℕ → ℕ → PlacedBlock → ℕ → ℕ → List (List ℕ) → ℕ → Type 0
 Names first row level d at k bs n =
     (k ≤ n) × (firstMet (blockCauses first row level bs) ≡ refusalIn first row level (getD (placed row at bs) (n - k) d .rest))
 
-names : (first : Bool) (row level : ℕ) (d : Standing) (at k : ℕ) (bs : List (List ℕ)) → (firstMet (blockCauses first row level bs) ≡ 0 → ⊥)
+names : (first : Bool) (row level : ℕ) (d : PlacedBlock) (at k : ℕ) (bs : List (List ℕ))
+    → (firstMet (blockCauses first row level bs) ≡ 0 → ⊥)
     → Names first row level d at k bs (firstFrom (isRefused first row level) k bs)
 unfolding Names blockCauses firstMet placed
 names first row level d at k [] r = absurd (r refl)

@@ -13,7 +13,7 @@ use Rattle.rom.specs.Bytes.{pick}
 use Rattle.block.specs.declared.Block.{Block}
 use Rattle.format.specs.Block.{sizeOf, kindOf, refusalIn}
 use Rattle.block.specs.Answer.{blockIn, numberOf, sizeIn}
-use Rattle.block.proofs.Seen.{Seen, seen, seen-size}
+use Rattle.block.proofs.Seen.{SeenAs, seen-as, seen-size}
 use Rattle.block.proofs.Versions.{answers-first, found-later}
 use Rattle.leaf.specs.Leaf.{cut, firstFrom, placeByStepping}
 use Rattle.leaf.proofs.Cuts.{cut-more, cut-none, rest-part, size-fits}
@@ -63,7 +63,7 @@ module _ (first : Bool) (row level count : ℕ) (s : List ℕ) {k whole : ℕ}
   pub refused-later : {b : Block} {n z : ℕ} → k < count → b ≡ blockIn first row level s → n ≡ numberOf b → n ≡ 0 → z ≡ sizeIn b
       → firstFrom (isRefused first row level) (k + 1) (cut row (count - (k + 1)) (take (length s - z) (drop z s))) ≡ whole
   refused-later {b} {n} {z} h eb en e ez =
-      let v : Seen row level s b = rw (found-later first row level s eb en e) (seen row level s) in
+      let v : SeenAs row level s b = rw (found-later first row level s eb en e) (seen-as row level s) in
       let number = ap numberOf eb ∙ answers-first first row level s .0 in
       let f = first-later first row level s _ k (sym number ∙ sym en ∙ e) in
       rw (rest-part, ez, seen-size v (sym en ∙ e)) (sym f ∙ (rw cut-more at inv))

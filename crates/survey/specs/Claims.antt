@@ -4,9 +4,9 @@ use mathlib.Core.Path.{_≡_}
 use mathlib.Core.List.{List}
 use Rattle.rom.specs.Refusal.{firstMet}
 use Rattle.format.specs.Block.{refusalIn}
-use Rattle.header.specs.declared.Arguments.{Arguments}
-use Rattle.header.specs.Image.{isFirstVersion}
-use Rattle.header.specs.Header.{rowFor, headerCauses}
+use Rattle.image.specs.declared.Arguments.{Arguments}
+use Rattle.image.specs.Image.{isFirstVersion}
+use Rattle.image.specs.Arguments.{rowFor, headerCauses}
 use Rattle.leaf.specs.Leaf.{blockCauses}
 use Rattle.reader.specs.Reading.{blocksFor, judgeAnswer}
 use Rattle.survey.specs.Survey.{refusedFor, standingFor}

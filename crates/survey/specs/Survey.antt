@@ -9,10 +9,10 @@ use Rattle.rom.specs.Geometry.{none}
 use Rattle.rom.specs.Bytes.{pick}
 use Rattle.rom.specs.Refusal.{firstMet}
 use Rattle.format.specs.Block.{sizeOf, kindOf, refusalIn}
-use Rattle.header.specs.declared.Arguments.{Arguments}
-use Rattle.header.specs.Image.{isFirstVersion}
-use Rattle.header.specs.Header.{rowFor, startFor, countFor, headerCauses}
-use Rattle.leaf.specs.Leaf.{firstFrom, placed, Place as Standing}
+use Rattle.image.specs.declared.Arguments.{Arguments}
+use Rattle.image.specs.Image.{isFirstVersion}
+use Rattle.image.specs.Arguments.{rowFor, startFor, countFor, headerCauses}
+use Rattle.leaf.specs.Leaf.{firstFrom, placed, PlacedBlock}
 use Rattle.reader.specs.Reading.{blocksFor}
 use Rattle.survey.specs.declared.Place.{Place}
 
@@ -25,11 +25,11 @@ hasLeaf image a = eqb (firstMet (headerCauses image a)) 0
 abbrev pub noPlace : Place
 noPlace = record { start = 0; size = 0; kind = 0 }
 
-abbrev pub placeAt : ℕ → Standing → Place
+abbrev pub placeAt : ℕ → PlacedBlock → Place
 placeAt row p = record { start = p .start; size = sizeOf row (p .rest); kind = kindOf row (p .rest) }
 
 -- block k of the leaf that the arguments name, which no level changes
-abbrev pub standingFor : List ℕ → Arguments → ℕ → Standing
+abbrev pub standingFor : List ℕ → Arguments → ℕ → PlacedBlock
 standingFor image a k = getD (placed (rowFor a) (startFor image a) (blocksFor image a)) k (record { start = 0; rest = [] })
 
 unfoldable pub placeFor : List ℕ → Arguments → ℕ → Place

@@ -40,7 +40,7 @@ fn behind(rest: &[u8], size: usize) -> &[u8]
 
 // The place of a block of a leaf, of which the first stands at an offset. Where that is below 1024 every block's offset has 16
 // bits, since at most 255 blocks of at most 128 bytes stand before it.
-fn find(blocks: &[u8], start: usize, row: usize, number: u8) -> Place
+fn find_place(blocks: &[u8], start: usize, row: usize, number: u8) -> Place
     requires { ⌜ start < 1024 ⌝ }
     ensures { λ r. ⌜ r ≡ placeAt row (placeByStepping row start number (now (blocks .entry))) ⌝ }
 {
@@ -73,8 +73,8 @@ pub fn block_place(image: &[u8], arguments: Arguments, number: u8) -> Place
         return nowhere();
     }
     let start = h.start;
-    let rest = header::rest_from(image, arguments.layout, start);
-    find(rest, start, h.row, number)
+    let rest = header::up_to_leaves_end(image, arguments.layout, start);
+    find_place(rest, start, h.row, number)
 }
 
 // The number of the first block of a leaf that a reader of a level refuses.
@@ -104,7 +104,7 @@ pub fn refused_block(image: &[u8], arguments: Arguments) -> u8
     if h.number != refusal::ACCEPTED {
         return NONE;
     }
-    let rest = header::rest_from(image, arguments.layout, h.start);
+    let rest = header::up_to_leaves_end(image, arguments.layout, h.start);
     first_refused(
         rest,
         h.blocks,

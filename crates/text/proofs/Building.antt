@@ -45,19 +45,19 @@ fitted-front s t = go (leb (length s) lineRoom) refl
 -- ## One byte
 
 -- every line has its room, as its type says it
-abbrev pub Roomy : Line → Type 0
-Roomy l = length (map (λ (v : ℕ). v) (l .bytes)) ≡ lineRoom
+abbrev pub RoomyLine : Line → Type 0
+RoomyLine l = length (map (λ (v : ℕ). v) (l .bytes)) ≡ lineRoom
 
-pub room : (l : Line) → Roomy l → length (l .bytes) ≡ lineRoom
-room l r = sym (length-map (l .bytes) (λ (v : ℕ). v)) ∙ r
+pub line-room : (l : Line) → RoomyLine l → length (l .bytes) ≡ lineRoom
+line-room l r = sym (length-map (l .bytes) (λ (v : ℕ). v)) ∙ r
 
-module _ (l : Line) (byte : ℕ) (r : Roomy l) where
+module _ (l : Line) (byte : ℕ) (r : RoomyLine l) where
   pub byte-full : lineRoom ≤ l .length → textOf l ≡ fitted (textOf l ++ (byte ∷ []))
-  byte-full h = let n = room l r in sym (fitted-full (textOf l) (byte ∷ []) (simp length-take (omega arith)))
+  byte-full h = let n = line-room l r in sym (fitted-full (textOf l) (byte ∷ []) (simp length-take (omega arith)))
 
   pub byte-more : l .length < lineRoom → take (l .length + 1) (set (l .bytes) (l .length) byte) ≡ fitted (textOf l ++ (byte ∷ []))
   byte-more h =
-      let n = room l r in
+      let n = line-room l r in
       let w : l .length < length (l .bytes) = omega arith in
       rw (add-one, take-suc-set (l .bytes) (l .length) byte w)
       (sym (fitted-short (textOf l ++ (byte ∷ [])) (simp (length-append, length-take) (omega arith))))
@@ -69,8 +69,8 @@ pub record Building (whole : List ℕ) (l : Line) (left : List ℕ) : Type 0 whe
   pub same : fitted (textOf l ++ left) ≡ fitted whole
   pub short : length (textOf l) ≤ lineRoom
 
-pub begun : (l : Line) (left : List ℕ) → Roomy l → Building (textOf l ++ left) l left
-begun l left r = let n = room l r in record { same = refl; short = simp length-take (omega arith) }
+pub begun : (l : Line) (left : List ℕ) → RoomyLine l → Building (textOf l ++ left) l left
+begun l left r = let n = line-room l r in record { same = refl; short = simp length-take (omega arith) }
 
 pub built : (whole left piece : List ℕ) {l m : Line} → Building whole l (piece ++ left)
     → textOf m ≡ fitted (textOf l ++ piece) → Building whole m left
@@ -79,14 +79,14 @@ built whole left piece {l} {m} b e = record {
   short = rw e (fitted-length (textOf l ++ piece));
 }
 
-pub finished : {whole : List ℕ} {l : Line} (left : List ℕ) → left ≡ [] → Building whole l left → textOf l ≡ fitted whole
-finished {whole} {l} left e b =
+pub line-finished : {whole : List ℕ} {l : Line} (left : List ℕ) → left ≡ [] → Building whole l left → textOf l ≡ fitted whole
+line-finished {whole} {l} left e b =
     sym (fitted-short (textOf l) (b .short)) ∙ ap fitted (sym (append-nil (textOf l)))
     ∙ (rw e at (b .same))
 
 -- two pieces, one after the other
-pub after : (s t : List ℕ) {u w : List ℕ} → u ≡ fitted s → w ≡ fitted (u ++ t) → w ≡ fitted (s ++ t)
-after s t e f = f ∙ ap (λ (u : List ℕ). fitted (u ++ t)) e ∙ fitted-front s t
+pub fitted-after : (s t : List ℕ) {u w : List ℕ} → u ≡ fitted s → w ≡ fitted (u ++ t) → w ≡ fitted (s ++ t)
+fitted-after s t e f = f ∙ ap (λ (u : List ℕ). fitted (u ++ t)) e ∙ fitted-front s t
 
 -- ## A text, byte by byte
 
@@ -95,15 +95,15 @@ module _ (s : List ℕ) (i : ℕ) {whole : List ℕ} {l : Line} (b : Building wh
   text-next h e = rw add-one (built whole (drop (suc i) s) (getD s i 0 ∷ []) (rw (drop-cons s i 0 h) at b) e)
 
   pub text-done : length s ≤ i → textOf l ≡ fitted whole
-  text-done h = finished (drop i s) (drop-of-length-le s h) b
+  text-done h = line-finished (drop i s) (drop-of-length-le s h) b
 
 -- ## Blanks up to a column
 
 -- a line whose count is past its room is full
-pub blanks-begun : (l : Line) (column : ℕ) → Roomy l
+pub blanks-begun : (l : Line) (column : ℕ) → RoomyLine l
     → Building (blanksTo column (textOf l)) l (replicate (column - l .length) blank)
 unfolding blanksTo
-blanks-begun l column r = go (room l r) (leb (l .length) lineRoom) refl
+blanks-begun l column r = go (line-room l r) (leb (l .length) lineRoom) refl
   where
     go : length (l .bytes) ≡ lineRoom → (b : Bool) → leb (l .length) lineRoom ≡ b
         → Building (blanksTo column (textOf l)) l (replicate (column - l .length) blank)
@@ -127,4 +127,4 @@ module _ (i column : ℕ) {whole : List ℕ} {l : Line} (b : Building whole l (r
       built whole (replicate (column - (i + 1)) blank) (blank ∷ []) (rw n at b) e
 
   pub blanks-done : column ≤ i → textOf l ≡ fitted whole
-  blanks-done h = let n : column - i ≡ 0 = omega arith in finished (replicate (column - i) blank) (rw n) b
+  blanks-done h = let n : column - i ≡ 0 = omega arith in line-finished (replicate (column - i) blank) (rw n) b

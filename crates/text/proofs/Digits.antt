@@ -1,7 +1,7 @@
 -- What a character is as a digit, from where it stands. Assumes nothing.
 use Prim.Native.Nat.{ℕ, suc, _+_, _-_, _*_, _^_, _≤_, _<_}
-use mathlib.Core.Path.{_≡_, refl, sym, _∙_}
-use mathlib.Core.Bool.{Bool, true, false, _||_}
+use mathlib.Core.Path.{_≡_, sym, _∙_}
+use mathlib.Core.Bool.{true, false}
 use mathlib.Core.List.{List}
 use native.Mathlib.Omega.{arith}
 use native.Mathlib.Numerals.{add-one}
@@ -11,7 +11,7 @@ use lib.ListN.{length, drop, getD, drop-of-length-le}
 use lib.Seq.{drop-cons}
 use borrow.Author.Tests.{le-leb, lt-leb, le-ltb, lt-ltb, eq-eqb, ne-eqb}
 use Rattle.rom.specs.Bytes.{pick}
-use Rattle.rom.proofs.Truth.{pick-true, pick-false, and-false}
+use Rattle.rom.proofs.Truth.{pick-true, pick-false, and-false, or-true}
 use Rattle.text.specs.Numbers.{isAmong, digitOf, noNumber, readOn, decimalNumber}
 
 module _ (low high c : ℕ) where
@@ -46,10 +46,6 @@ module _ (c : ℕ) where
           sym (pick-false (isAmong 48 57 c) _ _ p ∙ pick-false (isAmong 65 70 c) _ _ q ∙ pick-false (isAmong 97 102 c) _ _ r)
 
 -- ## Numbers that are read
-
-or-true : (t : Bool) → (t || true) ≡ true
-or-true true = refl
-or-true false = refl
 
 module _ (s : List ℕ) where
   pub number-none : length s ≡ 0 → noNumber ≡ decimalNumber s

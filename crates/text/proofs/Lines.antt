@@ -11,7 +11,7 @@ use lib.ListN.{length, take, drop, getD, length-drop, drop-of-length-le}
 use lib.Seq.{take-suc, take-all, drop-cons, append-snoc}
 use borrow.Author.Tests.{eq-eqb, ne-eqb}
 use Rattle.rom.specs.Bytes.{pick}
-use Rattle.text.proofs.Parts.{none-left}
+use Rattle.text.proofs.Parts.{nothing-left}
 use Rattle.text.specs.Lines.{newline, lineOf, behindLine, inFront, linesOf}
 
 -- ## The lines of a text
@@ -56,16 +56,16 @@ module _ (s : List ℕ) (number line : ℕ) {whole : List ℕ} (inv : getD (line
 
   pub line-none : length s ≡ 0 → s ≡ whole
   unfolding linesOf
-  line-none h = none-left s h ∙ (rw (none-left s h) at inv)
+  line-none h = nothing-left s h ∙ (rw (nothing-left s h) at inv)
 
 -- ## The first line, byte by byte
 
 -- so many bytes of the first line are passed
-abbrev pub Passed : List ℕ → ℕ → Type 0
-Passed s i = take i s ++ lineOf (drop i s) ≡ lineOf s
+abbrev pub PassedLines : List ℕ → ℕ → Type 0
+PassedLines s i = take i s ++ lineOf (drop i s) ≡ lineOf s
 
-module _ (s : List ℕ) (i : ℕ) (h : i < length s) (p : Passed s i) where
-  pub passed-more : (getD s i 0 ≡ newline → ⊥) → Passed s (i + 1)
+module _ (s : List ℕ) (i : ℕ) (h : i < length s) (p : PassedLines s i) where
+  pub passed-more : (getD s i 0 ≡ newline → ⊥) → PassedLines s (i + 1)
   unfolding lineOf pick
   passed-more n =
       let one : lineOf (drop i s) ≡ getD s i 0 ∷ lineOf (drop (suc i) s)
@@ -78,7 +78,7 @@ module _ (s : List ℕ) (i : ℕ) (h : i < length s) (p : Passed s i) where
       let none : lineOf (drop i s) ≡ [] = rw (drop-cons s i 0 h, eq-eqb (getD s i 0) newline e) in
       sym (append-nil (take i s)) ∙ ap (λ (l : List ℕ). take i s ++ l) (sym none) ∙ p
 
-pub passed-all : (s : List ℕ) (i : ℕ) → length s ≤ i → Passed s i → s ≡ lineOf s
+pub passed-all : (s : List ℕ) (i : ℕ) → length s ≤ i → PassedLines s i → s ≡ lineOf s
 unfolding lineOf
 passed-all s i h p =
     sym (append-nil s) ∙ rw (take-all i s h, drop-of-length-le s h) at p

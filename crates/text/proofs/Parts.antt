@@ -34,9 +34,9 @@ pub part-all : (start : ℕ) (s : List ℕ) → take (length s) (drop start s) �
 part-all start s = take-all (length s) (drop start s) (simp length-drop (omega arith))
 
 -- a rest of no bytes
-pub none-left : (s : List ℕ) → length s ≡ 0 → s ≡ []
-none-left [] h = refl
-none-left (c ∷ cs) h = absurd (omega arith)
+pub nothing-left : (s : List ℕ) → length s ≡ 0 → s ≡ []
+nothing-left [] h = refl
+nothing-left (c ∷ cs) h = absurd (omega arith)
 
 -- ## The same bytes
 

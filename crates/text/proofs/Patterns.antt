@@ -14,7 +14,7 @@ use Rattle.rom.proofs.Truth.{pick-true, pick-false}
 use Rattle.text.specs.declared.line.Line.{Line}
 use Rattle.text.specs.Numbers.{digitOf, decimalOf, hexOf}
 use Rattle.text.specs.Written.{textOf, fitted, isMark, spelledAs, pieceOf, withValues, valueIn, fieldsFrom}
-use Rattle.text.proofs.Building.{Building, built, finished}
+use Rattle.text.proofs.Building.{Building, built, line-finished}
 
 -- ## One byte
 
@@ -63,7 +63,7 @@ module _ (values pattern : List ℕ) (k i : ℕ) {whole : List ℕ} {l : Line}
 
   pub with-done : length pattern ≤ i → textOf l ≡ fitted whole
   unfolding withValues
-  with-done h = finished (withValues (drop k values) (drop i pattern)) (rw (drop-of-length-le pattern h)) b
+  with-done h = line-finished (withValues (drop k values) (drop i pattern)) (rw (drop-of-length-le pattern h)) b
 
 -- ## Bytes by their places
 
@@ -93,4 +93,4 @@ module _ (bytes pattern : List ℕ) (i : ℕ) (t : Bool) {whole : List ℕ} {l :
       (rw (f, drop-cons pattern i 0 h, q, ← eu) at b) e)
 
   pub field-done : length pattern ≤ i → textOf l ≡ fitted whole
-  field-done h = finished (fieldsFrom t bytes (drop i pattern)) (rw (drop-of-length-le pattern h) (none-said t bytes)) b
+  field-done h = line-finished (fieldsFrom t bytes (drop i pattern)) (rw (drop-of-length-le pattern h) (none-said t bytes)) b

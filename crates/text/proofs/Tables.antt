@@ -11,7 +11,7 @@ use Rattle.rom.proofs.Truth.{pick-true, pick-false}
 use Rattle.text.specs.Slices.{sameBytes}
 use Rattle.text.specs.Lines.{lineOf, behindLine, linesOf}
 use Rattle.text.specs.Tables.{blank, hasKey, wordsIn}
-use Rattle.text.proofs.Parts.{none-left}
+use Rattle.text.proofs.Parts.{nothing-left}
 use Rattle.text.proofs.Lines.{lines-behind, behind-shorter}
 
 -- The steps of `has_key` in its own terms: b is the byte behind so many as the key has, p these.
@@ -45,4 +45,4 @@ words-shorter s h et = rw et (behind-shorter s h)
 
 pub words-none : (key s : List ℕ) {whole : List ℕ} → length s ≤ 0 → wordsIn key (linesOf s) ≡ whole → s ≡ whole
 unfolding wordsIn linesOf
-words-none key s h inv = let e : s ≡ [] = none-left s (omega arith) in e ∙ (rw e at inv)
+words-none key s h inv = let e : s ≡ [] = nothing-left s (omega arith) in e ∙ (rw e at inv)

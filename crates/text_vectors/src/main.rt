@@ -1,11 +1,11 @@
 // What is decoded of each text on standard input, one line a text: the problem or 0, the number of lines read, and the bytes.
 // A text is filled up to 1,024 bytes with blanks.
-use hexadecimal::Reading;
+use hexadecimal::DecodedText;
 use libc::STDIN_FILENO;
 use libc::STDOUT_FILENO;
 use text::slice::part;
 
-fn print_reading(reading: Reading) {
+fn print_reading(reading: DecodedText) {
     let held = reading.held;
     let bytes = held.bytes;
     io::print_decimal(STDOUT_FILENO, held.problem as u64);

@@ -7,9 +7,9 @@ use borrow.Author.Tests.{ne-eqb}
 use Rattle.rom.specs.Geometry.{none}
 use Rattle.rom.specs.Bytes.{pick, Bytes}
 use Rattle.rom.specs.Refusal.{firstMet}
-use Rattle.header.specs.declared.Arguments.{Arguments}
-use Rattle.header.specs.Image.{blockCount}
-use Rattle.header.specs.Header.{countFor}
+use Rattle.image.specs.declared.Arguments.{Arguments}
+use Rattle.image.specs.Image.{blockCount}
+use Rattle.image.specs.Arguments.{countFor}
 use Rattle.leaf.specs.Leaf.{cut}
 use Rattle.reader.specs.declared.Reading.{Reading}
 use Rattle.reader.specs.Reading.{judgeCauses, acceptedReading, judgedReading, acceptedAnswer}

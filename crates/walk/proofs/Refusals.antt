@@ -7,10 +7,10 @@ use borrow.Author.Tests.{ne-eqb}
 use Rattle.rom.specs.Bytes.{pick}
 use Rattle.rom.specs.Refusal.{firstMet, Numbered}
 use Rattle.rom.proofs.First.{exact, numbered-append}
-use Rattle.header.specs.declared.Arguments.{Arguments}
-use Rattle.header.specs.Image.{isFirstVersion}
-use Rattle.header.specs.Header.{rowFor, headerCauses}
-use Rattle.header.proofs.Headers.{header-numbered}
+use Rattle.image.specs.declared.Arguments.{Arguments}
+use Rattle.image.specs.Image.{isFirstVersion}
+use Rattle.image.specs.Arguments.{rowFor, headerCauses}
+use Rattle.image.proofs.Causes.{header-numbered}
 use Rattle.leaf.proofs.Cuts.{leaf-numbered}
 use Rattle.reader.specs.Reading.{blocksFor, leafCausesFor, judgeCauses}
 use Rattle.walk.specs.declared.Walk.{Walk}

@@ -7,7 +7,7 @@ use lib.ListN.{replicate}
 use mathlib.Core.Bool.{true}
 use Rattle.rom.specs.Refusal.{firstMet, Exact}
 use Rattle.format.specs.Chips.{connectionRows, takenAs}
-use Rattle.header.specs.declared.Arguments.{Arguments}
+use Rattle.image.specs.declared.Arguments.{Arguments}
 use Rattle.reader.specs.Reading.{judgeCauses}
 use Rattle.walk.specs.declared.Walk.{Walk}
 use Rattle.walk.specs.Walk.{flags, wayOf, isFixed, rowsOf, fixedBlock, mostLooks, lookCauses, loadCauses, loadFor, lookFor, clearFor}

@@ -11,8 +11,8 @@ use Rattle.rom.specs.Bytes.{pick, byteAt, bit, isIn, one, anyBelow}
 use Rattle.rom.specs.Refusal.{Cause, _⇒_, firstMet}
 use Rattle.format.specs.Chips.{takenAs}
 use Rattle.format.specs.Block.{kindOf, factsOf, isListed}
-use Rattle.header.specs.declared.Arguments.{Arguments}
-use Rattle.header.specs.Header.{rowFor}
+use Rattle.image.specs.declared.Arguments.{Arguments}
+use Rattle.image.specs.Arguments.{rowFor}
 use Rattle.reader.specs.Reading.{blocksFor, judgeCauses, acceptedAnswer}
 use Rattle.walk.specs.declared.Walk.{Walk}
 use Rattle.walk.specs.declared.Walked.{Walked}
@@ -56,14 +56,30 @@ lowByte connection = connection % 256
 abbrev pub mediaCodes : ℕ
 mediaCodes = 9
 
+-- the bits of a capability word
+abbrev pub capability10BaseT : ℕ
+capability10BaseT = 11
+
+abbrev pub capability10BaseTFullDuplex : ℕ
+capability10BaseTFullDuplex = 12
+
+abbrev pub capability100BaseTx : ℕ
+capability100BaseTx = 13
+
+abbrev pub capability100BaseTxFullDuplex : ℕ
+capability100BaseTxFullDuplex = 14
+
+abbrev pub capability100BaseT4 : ℕ
+capability100BaseT4 = 15
+
 -- the other types name a capability bit of a PHY, but for 0x0010 and 0x0211, which name none
 unfoldable pub isCapable : ℕ → ℕ → Bool
 isCapable connection capabilities =
-    pick (eqb connection 0x0009) (bit 11 capabilities)
-    (pick (eqb connection 0x020A) (bit 12 capabilities)
-    (pick (eqb connection 0x000D) (bit 13 capabilities)
-    (pick (eqb connection 0x020E) (bit 14 capabilities)
-    (pick (eqb connection 0x000F) (bit 15 capabilities) false))))
+    pick (eqb connection 0x0009) (bit capability10BaseT capabilities)
+    (pick (eqb connection 0x020A) (bit capability10BaseTFullDuplex capabilities)
+    (pick (eqb connection 0x000D) (bit capability100BaseTx capabilities)
+    (pick (eqb connection 0x020E) (bit capability100BaseTxFullDuplex capabilities)
+    (pick (eqb connection 0x000F) (bit capability100BaseT4 capabilities) false))))
 
 -- whether a block with this media code and these capabilities has the medium: a PHY has no media code, and no other block
 -- has capabilities

@@ -1,12 +1,15 @@
 // The autosense walk: its record, and what a call answers (document 01, 'The walk'; document 02, requests 4 and 5).
 
+// The length of a row: a leaf has at most 255 blocks (document 02, request 6).
+pub const ROW_LENGTH: usize = 256;
+
 // A flag for each block, by its number: whether it is listed, whether it is and has Active_Invalid, and whether it is and has
 // the medium that the connection type is fixed to.
 #[repr(C)]
 pub struct Rows {
-    pub listed: [u8; 256],
-    pub active_invalid: [u8; 256],
-    pub fixed: [u8; 256],
+    pub listed: [u8; ROW_LENGTH],
+    pub active_invalid: [u8; ROW_LENGTH],
+    pub fixed: [u8; ROW_LENGTH],
 }
 
 // A walk, fresh or loaded. No block is selected before the first look.

@@ -1,53 +1,44 @@
--- The definitions of readings, walks and sheets, opened together for what computes: `unfolding reading-computes` and so on.
-use Rattle.crc.specs.Crc.{sromCrc, idCrc}
-use Rattle.magic.proofs.Computes.{magic-computes}
-use Rattle.format.specs.Chips.{connections21041, connections21140, connections21142, connectionRows, isConnection}
-use Rattle.format.specs.Chips.{firstChips, laterCodes, takenAs, isRead}
-use Rattle.header.specs.Image.{versions, isFirstVersion, controllerCount, reservedAt, baseAddress, addressOf, leafAt, headerLength}
-use Rattle.header.specs.Image.{controlByte, blocksAt}
-use Rattle.header.specs.Image.{blockCount}
-use Rattle.header.specs.Image.{restFrom, badCount, magicCauses, imageCauses, argumentCauses, leafHeaderCauses}
-use Rattle.header.specs.Header.{headerCauses}
+-- The definitions of readings, walks and sheets, opened together for what computes: `unfolding reading-computes` and so on. The
+-- CRCs of an image stay shut: its causes are computed without them (Sealed.antt), and a theorem that asks for their values names them.
+use Rattle.rom.specs.Store.{wordBytes}
+use Rattle.image.proofs.Computes.{header-computes}
 use Rattle.leaf.proofs.Computes.{leaf-computes}
 use Rattle.reader.specs.Table.{tabled}
-use Rattle.reader.specs.Reading.{leafCausesFor, judgeCauses, refusedAnswer, acceptedAnswer, answerFor, judgeAnswer, readCauses, readAnswer}
-use Rattle.reader.specs.Reading.{readInto}
-use Rattle.reader.specs.Reading.{readKinds, readOffsets}
-use Rattle.walk.specs.Walk.{noFlags, blockIs, noRows, freshWalk, loadedWalk, loadCauses, loadFor}
+use Rattle.reader.specs.Reading.{leafCausesFor, judgeCauses, readCauses, refusedAnswer, acceptedAnswer, answerFor, readInto}
+use Rattle.walk.specs.Walk.{noFlags, blockIs, noRows, freshWalk, loadedWalk}
 use Rattle.walk.proofs.Computes.{look-computes, rows-compute}
-use Rattle.older.specs.Calls.{call, seen, after, run}
-use Rattle.older.specs.Written.{answerOf, entries, tableIn}
-use Rattle.rom.specs.Store.{wordBytes}
+use Rattle.older.specs.Calls.{seen, after}
+use Rattle.older.specs.Written.{entries}
 use Rattle.sheet.specs.Lists.{sum, padded, over}
 use Rattle.sheet.specs.Form.{isBeyond}
 use Rattle.sheet.specs.Sheet.{headOf, kindBytes, sizeBytes, bodyBytes, partsOf, sheetOf, entriesFrom, plainFrom, isSheet}
 use Rattle.sheet.specs.Image.{frontWith, frontOf, isWhole, openingOf, encodes, controlBytes, leafHeadOf, leafOf}
 use Rattle.sheet.specs.Image.{coveredOf, boardOf, imageOf, newestIn}
-use Rattle.sheet.specs.Image.{openingLength, bodyOf, imageFrom, sizes, leafEnd, upToLeavesEnd, isTidy}
+use Rattle.sheet.specs.Image.{openingLength, bodyOf, imageFrom, sizes, leafEnd, isTidy}
 use Rattle.sheet.specs.Write.{isOtherFamily, isBadBody, isBad, anyBad, strayControl, cannotHold, recordCauses, tooManyBlocks}
-use Rattle.sheet.specs.Write.{wrongOutput, writeCauses, writeNumber, written}
+use Rattle.sheet.specs.Write.{wrongOutput, writeCauses, written}
 use Rattle.sheet.specs.Make.{makeCauses, makeNumber, makeLength, made}
-use Rattle.worked.specs.Cases.{sharing, unsealedAt, unsealed, sealed, behindBoard, imageWith}
+use Rattle.worked.specs.Cases.{sharing, unsealedAt, unsealed, sealed, behindBoard, imageWith, argumentsOf}
+use Rattle.worked.proofs.Unmet.{leftOut}
+use Rattle.worked.proofs.Sealed.{crcsApart}
+use Rattle.worked.proofs.Once.{readNumber, judgeNumber, readWith, callWith, runWith, workedOnce, orderOnce}
+use Rattle.worked.proofs.SheetsApart.{writeApart, makeApart}
 
 -- a whole image, and why it is refused
 unfoldable pub image-computes : Unit {0}
-unfolding leaf-computes magic-computes sromCrc idCrc
-    connections21041 connections21140 connections21142 connectionRows isConnection firstChips laterCodes takenAs isRead
-    versions isFirstVersion controllerCount reservedAt baseAddress addressOf leafAt headerLength controlByte blocksAt blockCount
-    restFrom badCount magicCauses imageCauses argumentCauses leafHeaderCauses headerCauses leafCausesFor judgeCauses
-    sharing unsealedAt unsealed sealed behindBoard imageWith
+unfolding leaf-computes header-computes leafCausesFor judgeCauses
+    sharing unsealedAt unsealed sealed behindBoard imageWith leftOut crcsApart
 image-computes = tt
 
 -- what is read of it
 unfoldable pub reading-computes : Unit {0}
-unfolding image-computes refusedAnswer acceptedAnswer answerFor judgeAnswer readCauses readAnswer tabled readInto readKinds readOffsets
-    answerOf entries tableIn
+unfolding image-computes refusedAnswer acceptedAnswer answerFor readCauses tabled readInto entries readNumber readWith
 reading-computes = tt
 
 -- and walks of it
 unfoldable pub walk-computes : Unit {0}
-unfolding reading-computes look-computes rows-compute noFlags blockIs noRows freshWalk loadedWalk loadCauses loadFor
-    call seen after run
+unfolding reading-computes look-computes rows-compute noFlags blockIs noRows freshWalk loadedWalk seen after judgeNumber callWith runWith
+    argumentsOf workedOnce orderOnce
 walk-computes = tt
 
 -- sheets and their images
@@ -55,7 +46,7 @@ unfoldable pub sheet-computes : Unit {0}
 unfolding image-computes wordBytes sum padded over
     headOf kindBytes sizeBytes bodyBytes partsOf sheetOf entriesFrom plainFrom isSheet
     frontWith frontOf isWhole openingOf encodes controlBytes leafHeadOf leafOf isBeyond coveredOf boardOf imageOf
-    newestIn openingLength bodyOf imageFrom sizes leafEnd upToLeavesEnd isTidy
-    isOtherFamily isBadBody isBad anyBad strayControl cannotHold recordCauses tooManyBlocks wrongOutput writeCauses writeNumber written
-    makeCauses makeNumber makeLength made
+    newestIn openingLength bodyOf imageFrom sizes leafEnd isTidy
+    isOtherFamily isBadBody isBad anyBad strayControl cannotHold recordCauses tooManyBlocks wrongOutput writeCauses written
+    makeCauses makeNumber makeLength made writeApart makeApart
 sheet-computes = tt

@@ -8,16 +8,17 @@ use Rattle.rom.specs.declared.Layout.{Layout}
 use Rattle.rom.specs.Geometry.{withoutMagic, withMagic, imageLength, checkedLength, controllersAt, none}
 use Rattle.rom.specs.Bytes.{pick}
 use Rattle.rom.specs.Refusal.{firstMet}
-use Rattle.crc.specs.Crc.{sromCrc, idCrc}
-use Rattle.magic.specs.Cases.{wholeBlock, otherCrc, strayLast}
+use Rattle.checksum.specs.Crc.{sromCrc, idCrc}
+use Rattle.packet.specs.Cases.{wholeBlock, otherCrc, strayLast}
 use Rattle.format.specs.Chips.{laterEdition}
-use Rattle.header.specs.declared.Arguments.{Arguments}
+use Rattle.image.specs.declared.Arguments.{Arguments}
 use Rattle.leaf.specs.Cases as leaves
+use Rattle.reader.specs.declared.Answer.{Answer}
 use Rattle.reader.specs.Reading.{judgeCauses}
 use Rattle.sheet.specs.Image.{newest}
 use Rattle.walk.specs.Walk.{freshWalk}
 use Rattle.older.specs.Calls.{Call, load, look, loaded, After, run}
-use Rattle.older.specs.Written.{Arrays, answerOf, tableIn}
+use Rattle.older.specs.Written.{Arrays, TableEntry, answerOf, tableIn}
 
 -- ## A whole image
 
@@ -62,13 +63,12 @@ unfoldable pub argumentsOf : Layout → leaves.LeafCase → Arguments
 argumentsOf l c = record { chip = c .chip; controller = 0; level = c .level; layout = l; «first_edition» = laterEdition }
 
 -- lent arrays, longer than any case needs
-abbrev room : Arrays
+abbrev pub room : Arrays
 room = record { kinds = replicate 8 0; offsets = replicate 8 0 }
 
-unfoldable pub readWhole : List ℕ → Arguments → Arrays → leaves.LeafCase → leaves.LeafCase
-readWhole image a room c =
-    let answer = answerOf image a room in
-    let table = tableIn image a room in
+-- a case's chip, level and leaf, with what is answered and the table
+abbrev pub answeredWith : Answer → List TableEntry → leaves.LeafCase → leaves.LeafCase
+answeredWith answer table c =
     record {
       chip = c .chip;
       level = c .level;
@@ -81,6 +81,11 @@ readWhole image a room c =
       kinds = map (λ e. e .kind) table;
       starts = map (λ e. e .start) table;
     }
+
+unfoldable pub readWhole : List ℕ → Arguments → Arrays → leaves.LeafCase → leaves.LeafCase
+readWhole image a room c = let answer = answerOf image a room in
+    let table = tableIn image a room in
+    answeredWith answer table c
 
 unfoldable pub worked : ImageCase → ImageCase
 worked c =
@@ -183,7 +188,7 @@ pub record OrderCase : Type 0 where
   pub block : List ℕ
   pub number : ℕ
 
-abbrev leafA : List ℕ
+abbrev pub leafA : List ℕ
 leafA = 0x00 ∷ 0x08 ∷ 0x01 ∷ 0x86 ∷ 0x02 ∷ 0x00 ∷ 0x01 ∷ 0x00 ∷ 0x02 ∷ 0x00 ∷ []
 
 unfoldable pub order : OrderCase → OrderCase

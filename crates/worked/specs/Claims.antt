@@ -8,8 +8,8 @@ use Rattle.rom.specs.Geometry.{withoutMagic, withMagic}
 use Rattle.rom.specs.Refusal.{firstMet}
 use Rattle.format.specs.Chips.{newestLevel, laterEdition}
 use Rattle.format.specs.Block.{isListed}
-use Rattle.header.specs.declared.Arguments.{Arguments}
-use Rattle.header.specs.Header.{rowFor, atLevel}
+use Rattle.image.specs.declared.Arguments.{Arguments}
+use Rattle.image.specs.Arguments.{rowFor, atLevel}
 use Rattle.reader.specs.Reading.{blocksFor, judgeCauses, judgeAnswer}
 use Rattle.walk.specs.Walk.{isFixed, blockIs, freshWalk}
 use Rattle.older.specs.Calls.{Call, Down, run}
@@ -38,7 +38,7 @@ PowerImagesWorked = map whole.worked whole.powerImageCases ≡ whole.powerImageC
 abbrev pub FixedImagesWorked : Type 0
 FixedImagesWorked = map whole.worked whole.fixedImageCases ≡ whole.fixedImageCases
 
--- 29 and 30 stand behind 4 and before 5
+-- 29 and 30 stand after 4 and before 5
 abbrev pub OrderWorked : Type 0
 OrderWorked = map whole.order whole.orderCases ≡ whole.orderCases
 

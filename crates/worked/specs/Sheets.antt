@@ -4,7 +4,7 @@ use Prim.Native.Nat.{ℕ, _*_}
 use mathlib.Core.List.{List, [], _∷_, _++_}
 use lib.ListN.{length, take, drop, replicate, set}
 use Rattle.rom.specs.Geometry.{smallSize, withoutMagic}
-use Rattle.magic.specs.Cases.{wholeBlock}
+use Rattle.packet.specs.Cases.{wholeBlock}
 use Rattle.format.specs.Chips.{laterEdition}
 use Rattle.sheet.specs.declared.Form.the-variants.{Narrow}
 use Rattle.sheet.specs.Write.{writeNumber, written}

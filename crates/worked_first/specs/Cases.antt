@@ -4,9 +4,9 @@ use mathlib.Core.List.{List, [], _∷_}
 use mathlib.Core.Bool.{Bool, true, false}
 use lib.ListN.{set}
 use Rattle.rom.specs.Geometry.{withoutMagic, versionAt, none}
-use Rattle.crc.specs.Crc.{idCrc}
+use Rattle.checksum.specs.Crc.{idCrc}
 use Rattle.format.specs.Chips.{firstEdition, laterEdition}
-use Rattle.header.specs.declared.Arguments.{Arguments}
+use Rattle.image.specs.declared.Arguments.{Arguments}
 use Rattle.walk.specs.Walk.{freshWalk}
 use Rattle.older.specs.Calls.{load, look, fresh, After, run}
 use Rattle.worked.specs.Cases.{unsealed, sealed, then}

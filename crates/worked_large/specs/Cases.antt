@@ -7,11 +7,11 @@ use Rattle.rom.specs.declared.Layout.{Layout}
 use Rattle.rom.specs.Geometry.{withoutMagic, withMagic, large, none}
 use Rattle.rom.specs.Bytes.{valuesFrom}
 use Rattle.rom.specs.Refusal.{firstMet}
-use Rattle.crc.specs.Crc.{idCrc}
-use Rattle.crc.specs.Answer.{sromAnswer, idAnswer, magicAnswer}
-use Rattle.magic.specs.Answer.{magicReadNumber, magicWriteNumber}
+use Rattle.checksum.specs.Crc.{idCrc}
+use Rattle.checksum.specs.Answer.{sromAnswer, idAnswer, magicAnswer}
+use Rattle.packet.specs.Answer.{magicReadNumber, magicWriteNumber}
 use Rattle.format.specs.Chips.{laterEdition}
-use Rattle.header.specs.declared.Arguments.{Arguments}
+use Rattle.image.specs.declared.Arguments.{Arguments}
 use Rattle.leaf.specs.Cases as leaves
 use Rattle.reader.specs.Reading.{judgeCauses}
 use Rattle.walk.specs.Walk.{freshWalk}
@@ -36,7 +36,7 @@ cardWith l controllers start leaf =
     sealed l (unsealedAt l (idCrc (unsealedAt l 0 controllers start leaf)) controllers start leaf) ++ behindBoard l
 
 -- lent arrays, as long as any leaf needs
-abbrev everyBlock : Arrays
+abbrev pub everyBlock : Arrays
 everyBlock = record { kinds = replicate 255 0; offsets = replicate 255 0 }
 
 unfoldable pub readCard : CardCase → CardCase

@@ -11,7 +11,7 @@ use Rattle.worked.specs.Sheets.{case21143}
 use Rattle.worked_large.specs.Cases.{readCard, plainCards, magicCards, twentyOneCards, longestCards, refusals, wholeCard}
 
 -- each card is read and walked as it says; an image of another length than its stated size, and one of another size than the
--- two, is refused with 1 by every call; and narrow sheets keep to the smaller size, behind 24
+-- two, is refused with 1 by every call; and narrow sheets keep to the smaller size, after 24
 abbrev pub LargeImagesWorked : Type 0
 LargeImagesWorked =
     (map readCard plainCards ≡ plainCards)

@@ -15,17 +15,17 @@ use Rattle.rom.proofs.Lists.{spell, spelled}
 use Rattle.rom.proofs.Put.{laid-put, laid-end, laid-behind}
 use Rattle.rom.specs.Bytes.{pick}
 use Rattle.rom.specs.Store.{wordBytes, put, laid}
-use Rattle.crc.specs.Crc.{sromCrc, idCrc}
+use Rattle.checksum.specs.Crc.{sromCrc, idCrc}
 use Rattle.sheet.specs.Lists.{padded}
 use Rattle.sheet.specs.Layout.{headLength}
 use Rattle.sheet.specs.Record.{Plain}
 use Rattle.sheet.specs.Sheet.{plainFrom}
 use Rattle.sheet.specs.Image.{leafStart, frontWith, frontOf, leafOf, coveredOf, boardOf, imageOf}
 use Rattle.sheet.proofs.Crcs.{srom-front}
-use Rattle.sheet.proofs.Sheets.{Sized, from-sized}
+use Rattle.sheet.proofs.Sheets.{SizedFields, from-sized}
 use Rattle.sheet.proofs.Images.{front-length, covered-length, board-length}
 use Rattle.writer.specs.Inside.{headIn, zeros, frameOf, withIdCrc, withSromCrc, Writable}
-use Rattle.writer.proofs.Checksums.{id-front}
+use Rattle.writer.proofs.Checksums.{id-covers-front}
 use Rattle.writer.proofs.Sheets.{is-whole, has-head, leaf-fits}
 
 -- ## Zeros
@@ -54,13 +54,13 @@ put-zeros n k m h = ap₂ (λ (a b : List ℕ). a ++ (m ++ b)) (take-zeros k n (
 -- ## The frame
 
 -- what stands before the leaf, part by part
-pub front-is : (s : List ℕ) → headLength ≤ length s → {none id last address front : List ℕ} → none ≡ zeros leafStart
+pub front-laid : (s : List ℕ) → headLength ≤ length s → {none id last address front : List ℕ} → none ≡ zeros leafStart
     → id ≡ laid none 0 (take 16 (drop 2 s)) → last ≡ laid id 17 (take 2 (drop 18 s))
     → address ≡ laid (set last 19 1) 20 (take 7 (drop 20 s))
     → front ≡ laid address 27 (wordBytes leafStart)
     → front ≡ frontWith 0 (headIn s)
 unfolding pick put laid zeros frontWith plainFrom spell wordBytes
-front-is s h e₀ e₁ e₂ e₃ e₄ =
+front-laid s h e₀ e₁ e₂ e₃ e₄ =
     rw (e₄, e₃, e₂, e₁, e₀)
     (rw (
       spelled 2 16 s (omega arith),
@@ -115,7 +115,7 @@ module _ (s : List ℕ) (h : headLength ≤ length s) where
   with-id-crc l =
       let p = headIn s in
       let rest = zeros (leavesEnd l - leafStart) ++ (p .maker ++ zeros (imageLength (l .size) - checkedLength l)) in
-      ap (λ (v : ℕ). set (frontWith 0 p ++ rest) idCrcAt v) (id-front (frontWith 0 p) rest (omega (arith, front-start 0)))
+      ap (λ (v : ℕ). set (frontWith 0 p ++ rest) idCrcAt v) (id-covers-front (frontWith 0 p) rest (omega (arith, front-start 0)))
       ∙ ap (λ (x : List ℕ). set x idCrcAt (idCrc (frontWith 0 p))) (append-assoc (p .id) _ rest)
       ∙ set-at (p .id) 0 _ (idCrc (frontWith 0 p)) 16 sixteen
       ∙ sym (append-assoc (p .id) _ rest)
@@ -167,7 +167,7 @@ with-srom-crc l c z h more =
     ∙ ap (λ (n : ℕ). (c ++ wordBytes n) ++ zeros (z - 2)) (srom-front l c (zeros z) (omega arith))
 
 module _ (l : Layout) (n : ℕ) (s out : List ℕ) (w : Writable l n s out) where
-  size : Sized (plainFrom n s)
+  size : SizedFields (plainFrom n s)
   size = from-sized _ _ _ (is-whole (w .is))
 
   pub output-length : length out ≡ imageLength (l .size)

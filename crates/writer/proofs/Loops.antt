@@ -25,18 +25,19 @@ use Rattle.writer.proofs.Parts.{entries-none, next, next-body, rests, f
 -- ## The leaf measured
 
 -- where the leaf ends so far, and what is left of its entries
-pub record Sized (row start : ℕ) (all : List Entry) (n : ℕ) (ks ss bs : List ℕ) (end : ℕ) : Type 0 where
+pub record SizedBodies (row start : ℕ) (all : List Entry) (n : ℕ) (ks ss bs : List ℕ) (end : ℕ) : Type 0 where
   pub parts : Parts n ks ss bs
   pub bad : anyBad row (entriesFrom n ks ss bs) ≡ anyBad row all
   pub size : end + length (encodes (entriesFrom n ks ss bs)) ≡ start + length (encodes all)
   pub few : end + 258 * n ≤ 66048
 
 pub sized-start : (row start n : ℕ) (ks ss bs : List ℕ) → n < 256 → start < 256 → Parts n ks ss bs
-    → Sized row start (entriesFrom n ks ss bs) n ks ss bs start
+    → SizedBodies row start (entriesFrom n ks ss bs) n ks ss bs start
 sized-start row start n ks ss bs h g p = record { parts = p; bad = refl; size = refl; few = omega arith }
 
 -- with no entry left the leaf's end is found, and decides
-module _ {row start : ℕ} {all : List Entry} {n : ℕ} {ks ss bs : List ℕ} {at : ℕ} (i : Sized row start all n ks ss bs at) (h : n ≤ 0) where
+module _ {row start : ℕ} {all : List Entry} {n : ℕ} {ks ss bs : List ℕ} {at : ℕ} (i : SizedBodies row start all n ks ss bs at)
+    (h : n ≤ 0) where
   none-bad : anyBad row all ≡ false
   unfolding anyBad
   none-bad = sym (i .bad) ∙ ap (anyBad row) (entries-none n ks ss bs h)
@@ -56,7 +57,7 @@ module _ {row start : ℕ} {all : List Entry} {n : ℕ} {ks ss bs : List ℕ} {a
 -- ## The leaf written
 
 -- the room so far, and what is left of the entries
-pub record Filled (room₀ : List ℕ) (start : ℕ) (all : List Entry) (room : List ℕ) (n : ℕ) (ks ss bs : List ℕ) (to : ℕ) : Type 0 where
+pub record FilledRoom (room₀ : List ℕ) (start : ℕ) (all : List Entry) (room : List ℕ) (n : ℕ) (ks ss bs : List ℕ) (to : ℕ) : Type 0 where
   pub parts : Parts n ks ss bs
   pub row : ℕ
   pub good : anyBad row (entriesFrom n ks ss bs) ≡ false
@@ -66,12 +67,12 @@ pub record Filled (room₀ : List ℕ) (start : ℕ) (all : List Entry) (room : 
   pub same : length room ≡ length room₀
 
 pub filled-start : (room : List ℕ) (start n : ℕ) (ks ss bs : List ℕ) → Holds room start n ks ss bs
-    → Filled room start (entriesFrom n ks ss bs) room n ks ss bs start
+    → FilledRoom room start (entriesFrom n ks ss bs) room n ks ss bs start
 filled-start room start n ks ss bs h =
     record { parts = h .parts; row = h .row; good = h .good; fits = h .fits; front = refl; back = refl; same = refl }
 
 pub filled-end : {room₀ : List ℕ} {start : ℕ} {all : List Entry} {room : List ℕ} {n : ℕ} {ks ss bs : List ℕ} {to : ℕ}
-    → Filled room₀ start all room n ks ss bs to → n ≤ 0 → start ≤ length room₀ → room ≡ put room₀ start (encodes all)
+    → FilledRoom room₀ start all room n ks ss bs to → n ≤ 0 → start ≤ length room₀ → room ≡ put room₀ start (encodes all)
 unfolding encodes put
 filled-end {room₀} {start} {all} {room} {n} {ks} {ss} {bs} {to} i h low =
     let e = entries-none n ks ss bs h in
@@ -103,7 +104,7 @@ module _ (n : ℕ) (ks ss bs : List ℕ) (kind size : ℕ) (h : 0 < n) (p : Part
   unfolding anyBad
   rest-bad row = ap (anyBad row) (first n ks ss bs kind size h p ek es)
 
-  module _ {row start : ℕ} {all : List Entry} {at : ℕ} (i : Sized row start all n ks ss bs at) where
+  module _ {row start : ℕ} {all : List Entry} {at : ℕ} (i : SizedBodies row start all n ks ss bs at) where
     pub sized-bad : (limit : ℕ) → true ≡ isBad row (entry kind (take size bs)) → 25 ≡ firstMet (entryCauses limit row start all)
     unfolding entryCauses
     sized-bad limit b =
@@ -114,10 +115,10 @@ module _ (n : ℕ) (ks ss bs : List ℕ) (kind size : ℕ) (h : 0 < n) (p : Part
     sized-room m em low = omega (arith, i .few, size-small kind)
 
     pub sized-more : (m : ℕ) → m ≡ openingSize kind → size < 256 → false ≡ isBad row (entry kind (take size bs))
-        → Sized row start all (n - 1) (take (length ks - 2) (drop 2 ks)) (take (length ss - 1) (drop 1 ss))
+        → SizedBodies row start all (n - 1) (take (length ks - 2) (drop 2 ks)) (take (length ss - 1) (drop 1 ss))
         (take (length bs - size) (drop size bs)) (at + (m + size))
     sized-more m em low b =
-        rests n ks ss bs kind size h p ek es (λ (x y z : List ℕ). Sized row start all (n - 1) x y z (at + (m + size)))
+        rests n ks ss bs kind size h p ek es (λ (x y z : List ℕ). SizedBodies row start all (n - 1) x y z (at + (m + size)))
         (record {
           parts = next n ks ss bs kind size h p ek es .rest;
           bad =
@@ -127,7 +128,8 @@ module _ (n : ℕ) (ks ss bs : List ℕ) (kind size : ℕ) (h : 0 < n) (p : Part
           few = omega (arith, i .few, size-small kind);
         })
 
-  module _ {room₀ : List ℕ} {start : ℕ} {all : List Entry} {room : List ℕ} {to : ℕ} (i : Filled room₀ start all room n ks ss bs to) where
+  module _ {room₀ : List ℕ} {start : ℕ} {all : List Entry} {room : List ℕ} {to : ℕ}
+      (i : FilledRoom room₀ start all room n ks ss bs to) where
     both : (isBad (i .row) (entry kind (take size bs)) ≡ false)
         × (anyBad (i .row) (entriesFrom (n - 1) (drop 2 ks) (drop 1 ss) (drop (byteAt ss 0) bs)) ≡ false)
     both = or-false _ _ (sym (rest-bad (i .row)) ∙ i .good)
@@ -137,7 +139,7 @@ module _ (n : ℕ) (ks ss bs : List ℕ) (kind size : ℕ) (h : 0 < n) (p : Part
 
     pub filled-more : (to₁ : ℕ) (room₁ : List ℕ) → to₁ ≡ to + length (encode (entry kind (take size bs)))
         → room₁ ≡ put room to (encode (entry kind (take size bs)))
-        → Filled room₀ start all room₁ (n - 1) (take (length ks - 2) (drop 2 ks)) (take (length ss - 1) (drop 1 ss))
+        → FilledRoom room₀ start all room₁ (n - 1) (take (length ks - 2) (drop 2 ks)) (take (length ss - 1) (drop 1 ss))
         (take (length bs - size) (drop size bs)) to₁
     unfolding encodes
     filled-more to₁ room₁ et er =
@@ -145,7 +147,7 @@ module _ (n : ℕ) (ks ss bs : List ℕ) (kind size : ℕ) (h : 0 < n) (p : Part
         let left = entriesFrom (n - 1) (drop 2 ks) (drop 1 ss) (drop (byteAt ss 0) bs) in
         let f = filled-fits .fits in
         let same : length room₁ ≡ length room = ap length er ∙ put-length room to l f in
-        rests n ks ss bs kind size h p ek es (λ (x y z : List ℕ). Filled room₀ start all room₁ (n - 1) x y z to₁)
+        rests n ks ss bs kind size h p ek es (λ (x y z : List ℕ). FilledRoom room₀ start all room₁ (n - 1) x y z to₁)
         (record {
           parts = next n ks ss bs kind size h p ek es .rest;
           row = i .row;

@@ -16,7 +16,7 @@ use Rattle.rom.proofs.Reached.{reached, stop, skip}
 use Rattle.rom.proofs.Truth.{pick-true, pick-false, or-false}
 use Rattle.format.specs.Chips.{chips, rowOf}
 use Rattle.format.proofs.Lists.{in-place}
-use Rattle.header.specs.Image.{headerLength}
+use Rattle.image.specs.Image.{headerLength}
 use Rattle.reader.specs.declared.Answer.{Answer}
 use Rattle.reader.specs.Reading.{judgeCauses, judgeAnswer}
 use Rattle.reader.proofs.Readings.{answer-number}
@@ -31,7 +31,8 @@ use Rattle.sheet.specs.Write.{anyBad, strayControl, cannotHold, tooManyBlocks, 
 use Rattle.sheet.proofs.Returns.{writer-order, record-numbered}
 use Rattle.writer.specs.Inside.{entryCauses, Counted, Writable, issueNumber, issued}
 use Rattle.writer.proofs.Tests.{or-second}
-use Rattle.writer.proofs.Sheets.{few, handed-on, leaf-length}
+use Rattle.sheet.proofs.Images.{leaf-length}
+use Rattle.writer.proofs.Sheets.{few, handed-on}
 
 -- ## 7, 25 and 26
 
@@ -78,10 +79,10 @@ module _ (l : Layout) (p : Plain) (row : ℕ) (er : row ≡ rowOf (p .chip)) whe
 
 -- ## What a refusal leaves
 
-pub kept : (form : Form) (l : Layout) (edition : Bool) (s out : List ℕ) (n : ℕ) → n ≡ writeNumber form l edition s out → (n ≡ 0 → ⊥)
+pub output-kept : (form : Form) (l : Layout) (edition : Bool) (s out : List ℕ) (n : ℕ) → n ≡ writeNumber form l edition s out → (n ≡ 0 → ⊥)
     → (n ≡ writeNumber form l edition s out) × (out ≡ written form l edition s out)
 unfolding written
-kept form l edition s out n e z = (e, sym (pick-false _ _ _ (ne-eqb (writeNumber form l edition s out) 0 (λ h. z (e ∙ h)))))
+output-kept form l edition s out n e z = (e, sym (pick-false _ _ _ (ne-eqb (writeNumber form l edition s out) 0 (λ h. z (e ∙ h)))))
 
 -- ## The whole list
 
@@ -139,7 +140,7 @@ module _ {form : Form} {l : Layout} {s out : List ℕ} {n : ℕ} {t : List ℕ} 
   pub write-record : (edition : Bool) (m : ℕ) → m ≡ firstMet (recordCauses l (plainFrom n t)) → (m ≡ 0 → ⊥)
       → (m ≡ writeNumber form l edition s out) × (out ≡ written form l edition s out)
   write-record edition m em z =
-      kept form l edition s out m
+      output-kept form l edition s out m
       (sym (behind edition ∙ after-refused (recordCauses l (sheetFrom form s)) _ m z
       (sym (em ∙ ap (λ (q : Plain). firstMet (recordCauses l q)) same)))) z
 

@@ -14,12 +14,12 @@ use Rattle.format.specs.Chips.{kindCompact, kind21041}
 use Rattle.sheet.specs.Image.{isWhole, openingOf, encode}
 use Rattle.sheet.specs.Write.{isOtherFamily, isBadBody, isBad}
 use Rattle.writer.specs.Inside.{entry, openingSize, Fits}
-use Rattle.writer.proofs.Tests.{or-true, or-second}
+use Rattle.writer.proofs.Tests.{or-first, or-second}
 
 module _ (k : ℕ) where
   pub whole-compact : k ≡ kindCompact → isWhole k ≡ true
   unfolding isWhole
-  whole-compact e = or-true (eqb k kindCompact) (eqb k kind21041) (eq-eqb k kindCompact e)
+  whole-compact e = or-first (eqb k kindCompact) (eqb k kind21041) (eq-eqb k kindCompact e)
 
   pub whole-21041 : k ≡ kind21041 → isWhole k ≡ true
   unfolding isWhole

@@ -24,10 +24,10 @@ unfolding entriesFrom
 entries-none zero ks ss bs h = refl
 entries-none (suc n) ks ss bs h = absurd (omega arith)
 
-pub entries-length : (n : ℕ) (ks ss bs : List ℕ) → length (entriesFrom n ks ss bs) ≡ n
+pub entries-from-length : (n : ℕ) (ks ss bs : List ℕ) → length (entriesFrom n ks ss bs) ≡ n
 unfolding entriesFrom
-entries-length zero ks ss bs = refl
-entries-length (suc n) ks ss bs = ap suc (entries-length n (drop 2 ks) (drop 1 ss) (drop (byteAt ss 0) bs))
+entries-from-length zero ks ss bs = refl
+entries-from-length (suc n) ks ss bs = ap suc (entries-from-length n (drop 2 ks) (drop 1 ss) (drop (byteAt ss 0) bs))
 
 -- three parts that hold an entry, and what is left of them
 pub record Next (n : ℕ) (ks ss bs : List ℕ) : Type 0 where

@@ -1,23 +1,24 @@
 -- What a sheet's length and sum give, and the leaf of what it means. Assumes nothing.
 use Prim.Native.Nat.{ℕ, _+_, _*_, _-_, _≤_, _<_}
 use mathlib.Core.Path.{_≡_, refl, sym, ap, ap₂, _∙_}
-use mathlib.Core.Bool.{Bool, true, false}
+use mathlib.Core.Bool.{true, false}
 use mathlib.Core.List.{List, [], _∷_, _++_}
 use native.Mathlib.Omega.{arith}
-use lib.ListN.{length, take, drop, set, length-append, length-drop}
+use lib.ListN.{length, take, drop, set, length-drop}
 use lib.Dec.{eqb, lit<}
 use borrow.Author.Tests.{eq-eqb, ne-eqb, ltb-false, lt-ltb, le-ltb}
 use Rattle.rom.specs.declared.Layout.{Layout}
 use Rattle.rom.specs.Geometry.{leavesEnd}
 use Rattle.rom.proofs.Layouts.{geometry}
-use Rattle.rom.specs.Bytes.{pick, byteAt, wordAt}
+use Rattle.rom.specs.Bytes.{byteAt, wordAt}
 use Rattle.rom.specs.Store.{wordBytes, put, laid}
 use Rattle.rom.proofs.First.{none-here}
 use Rattle.rom.proofs.Truth.{or-false, pick-true, pick-false}
 use Rattle.rom.proofs.Put.{put-one, put-two, put-put, put-length, laid-word}
 use Rattle.format.specs.Chips.{rowOf, row21140}
-use Rattle.header.specs.Image.{headerLength}
+use Rattle.image.specs.Image.{headerLength}
 use Rattle.leaf.proofs.Cuts.{rest-part}
+use Rattle.sheet.proofs.Images.{leaf-head-length, leaf-length}
 use Rattle.sheet.specs.Layout.{headLength}
 use Rattle.sheet.specs.Record.{Entry, Plain}
 use Rattle.sheet.specs.declared.Form.{Form}
@@ -26,18 +27,18 @@ use Rattle.sheet.specs.Form.{shifted, largest, countIn, totalIn}
 use Rattle.sheet.specs.Sheet.{kindsIn, sizesIn, bodiesIn, entriesFrom, plainFrom, isSheet}
 use Rattle.sheet.specs.Image.{leafStart, encodes, controlBytes, leafHeadOf, leafOf}
 use Rattle.sheet.specs.Write.{anyBad, cannotHold, tooManyBlocks, recordCauses}
-use Rattle.sheet.proofs.Sheets.{Whole, whole}
+use Rattle.sheet.proofs.Sheets.{WholeSheet, whole-sheet}
 use Rattle.writer.specs.Inside.{Parts, Holds, Counted, Writable, Roomy}
-use Rattle.writer.proofs.Parts.{entries-length}
+use Rattle.writer.proofs.Parts.{entries-from-length}
 
 -- ## Length and sum
 
 pub counted : (form : Form) (s : List ℕ) → isSheet form s ≡ true → Counted (countIn form s) (shifted form s)
 counted form s is =
-    let w = whole form s is in
+    let w = whole-sheet form s is in
     record { total = totalIn form s; long = w .long; sums = w .total }
 
-pub is-whole : {n : ℕ} {s : List ℕ} (w : Counted n s) → Whole n (w .total) s
+pub is-whole : {n : ℕ} {s : List ℕ} (w : Counted n s) → WholeSheet n (w .total) s
 is-whole w = record { long = w .long; total = w .sums }
 
 pub handed-on : (form : Form) (s : List ℕ) → isSheet form s ≡ true → {n : ℕ} {t : List ℕ} → n ≡ countIn form s → t ≡ shifted form s
@@ -87,18 +88,6 @@ module _ (n : ℕ) (s : List ℕ) (w : Counted n s) where
 
 -- ## The leaf
 
-pub head-length : (p : Plain) → length (leafHeadOf p) ≡ headerLength (rowOf (p .chip))
-unfolding leafHeadOf wordBytes controlBytes headerLength pick
-head-length p = go (eqb (rowOf (p .chip)) row21140)
-  where
-    go : (t : Bool) → length (wordBytes (p .connection) ++ (pick t (p .control ∷ []) [] ++ length (p .entries) ∷ [])) ≡ pick t 4 3
-    go true = refl
-    go false = refl
-
-pub leaf-length : (p : Plain) → length (leafOf p) ≡ headerLength (rowOf (p .chip)) + length (encodes (p .entries))
-unfolding leafOf
-leaf-length p = length-append (leafHeadOf p) (encodes (p .entries)) ∙ ap (λ (n : ℕ). n + length (encodes (p .entries))) (head-length p)
-
 -- the head as it is written
 module _ (n : ℕ) (s : List ℕ) (row c : ℕ) (room room₁ : List ℕ) (er : row ≡ rowOf (plainFrom n s .chip)) (ec : c ≡ wordAt s 29)
     (fits : 4 ≤ length room) (is : room₁ ≡ laid room 0 (wordBytes c)) where
@@ -107,7 +96,7 @@ module _ (n : ℕ) (s : List ℕ) (row c : ℕ) (room room₁ : List ℕ) (er : 
 
   numbered : length (plainFrom n s .entries) ≡ n
   unfolding plainFrom
-  numbered = entries-length n (kindsIn s) (sizesIn n s) (bodiesIn n s)
+  numbered = entries-from-length n (kindsIn s) (sizesIn n s) (bodiesIn n s)
 
   same : length room₁ ≡ length room
   unfolding wordBytes
@@ -169,10 +158,10 @@ module _ (n : ℕ) (s room : List ℕ) (w : Roomy n s room) where
   module _ (row m : ℕ) (er : row ≡ rowOf (plainFrom n s .chip)) (em : m ≡ headerLength row)
       (room₁ : List ℕ) (is : room₁ ≡ put room 0 (leafHeadOf (plainFrom n s))) where
     at-head : m ≡ length (leafHeadOf (plainFrom n s))
-    at-head = em ∙ ap headerLength er ∙ sym (head-length (plainFrom n s))
+    at-head = em ∙ ap headerLength er ∙ sym (leaf-head-length (plainFrom n s))
 
     leaf-room : m + length (encodes (plainFrom n s .entries)) ≤ length room
-    leaf-room = omega (arith, w .fits, at-head, head-length (plainFrom n s), leaf-length (plainFrom n s))
+    leaf-room = omega (arith, w .fits, at-head, leaf-head-length (plainFrom n s), leaf-length (plainFrom n s))
 
     pub leaf-holds : Holds room₁ m n (take (length s - headLength) (drop headLength s))
         (take (length s - (headLength + 2 * n)) (drop (headLength + 2 * n) s))

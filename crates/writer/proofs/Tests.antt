@@ -2,8 +2,8 @@
 use mathlib.Core.Path.{_≡_, refl}
 use mathlib.Core.Bool.{Bool, true, false, _||_}
 
-pub or-true : (a b : Bool) → a ≡ true → (a || b) ≡ true
-or-true a b e = rw e
+pub or-first : (a b : Bool) → a ≡ true → (a || b) ≡ true
+or-first a b e = rw e
 
 pub or-second : (a b : Bool) → b ≡ true → (a || b) ≡ true
 or-second true b e = refl

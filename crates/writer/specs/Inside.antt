@@ -11,7 +11,7 @@ use Rattle.rom.specs.Bytes.{pick}
 use Rattle.rom.specs.Store.{wordBytes, put}
 use Rattle.rom.specs.Refusal.{Cause, _⇒_, firstMet}
 use Rattle.format.specs.Chips.{rowOf}
-use Rattle.crc.specs.Crc.{sromCrc, idCrc}
+use Rattle.checksum.specs.Crc.{sromCrc, idCrc}
 use Rattle.reader.specs.Reading.{judgeCauses}
 use Rattle.sheet.specs.Lists.{sum}
 use Rattle.sheet.specs.Layout.{headLength}

@@ -2,7 +2,6 @@
 use block::KIND_21041;
 use block::KIND_COMPACT;
 use block::chip;
-use forms::count_at;
 use rom::ByteOffset;
 use rom::refusal;
 ghost use mathlib.Core.Path.{_≡_};
@@ -89,7 +88,7 @@ pub(crate) fn refusal_of(
     let mut end = start;
     while 0 < left {
         let kind = rom::word_at(kind_rest, ByteOffset(0));
-        let size = count_at(size_rest, 0);
+        let size = rom::count_at(size_rest, 0);
         let bad = is_bad(row, kind, &body_rest[..size]);
         if bad {
             return refusal::SHEET_ENTRY;

@@ -1,7 +1,6 @@
 // The leaf writer (document 01, 'Leaf and blocks'): it is lent the image from byte 30 on.
 use super::entries::opening_size;
 use block::chip;
-use forms::count_at;
 use rom::ByteOffset;
 use rom::store::put_bytes;
 use rom::store::put_word;
@@ -31,7 +30,7 @@ fn put_opening(room: &mut [u8], to: usize, kind: u16, body: &[u8])
 }
 
 // Writes one block, and answers where the next one starts.
-fn put_entry(room: &mut [u8], to: usize, kind: u16, body: &[u8]) -> usize
+fn put_block(room: &mut [u8], to: usize, kind: u16, body: &[u8]) -> usize
     requires { ⌜ Fits (now room) to (entry kind (now body)) (encode (entry kind (now body))) ⌝ }
     ensures { λ r. ⌜ r ≡ to + length (encode (entry kind (now (body .entry)))) ⌝ }
     ensures { λ r. ⌜ now (room .exit) ≡ put (now (room .entry)) to (encode (entry kind (now (body .entry)))) ⌝ }
@@ -62,8 +61,8 @@ fn put_entries(
     let mut to = start;
     while 0 < left {
         let kind = rom::word_at(kind_rest, ByteOffset(0));
-        let size = count_at(size_rest, 0);
-        to = put_entry(room, to, kind, &body_rest[..size]);
+        let size = rom::count_at(size_rest, 0);
+        to = put_block(room, to, kind, &body_rest[..size]);
         kind_rest = &kind_rest[2..];
         size_rest = &size_rest[1..];
         body_rest = &body_rest[size..];

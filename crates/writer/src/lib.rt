@@ -22,13 +22,8 @@ ghost use Rattle.sheet.specs.Image.{frontWith, imageOf};
 ghost use Rattle.sheet.specs.Write.{strayControl, wrongOutput, recordCauses, writeNumber, written};
 ghost use Rattle.writer.specs.Inside.{headIn, Counted, Writable, zeros, frameOf, withIdCrc, withSromCrc, issueNumber, issued};
 
-// Where ID byte 17 stands in an image, before the version.
-const LAST_ID_AT: usize = rom::ID_CRC_AT + 1;
-
-// One controller: its device number stands behind the address, and then the offset of its leaf.
+// The writer makes one controller.
 const CONTROLLERS: u8 = 1;
-
-const LEAF_OFFSET_AT: usize = rom::CONTROLLERS_AT + 1;
 
 // A control byte not 0 on a chip but the 21140.
 fn stray_control(row: usize, control: u8) -> bool
@@ -78,22 +73,22 @@ fn front(shifted: &[u8]) -> [u8; sheet::LEAF_START]
     put_bytes(
         &mut bytes,
         ByteOffset(0),
-        &shifted[sheet::ID_AT..sheet::LAST_ID_AT],
+        &shifted[sheet::ID_AT..sheet::SHEET_LAST_ID_AT],
     );
     put_bytes(
         &mut bytes,
-        ByteOffset(LAST_ID_AT),
-        &shifted[sheet::LAST_ID_AT..sheet::ADDRESS_AT],
+        ByteOffset(rom::LAST_ID_AT),
+        &shifted[sheet::SHEET_LAST_ID_AT..sheet::SHEET_ADDRESS_AT],
     );
     bytes[rom::CONTROLLER_COUNT_AT] = CONTROLLERS;
     put_bytes(
         &mut bytes,
         ByteOffset(rom::ADDRESS_AT),
-        &shifted[sheet::ADDRESS_AT..sheet::CHIP_AT],
+        &shifted[sheet::SHEET_ADDRESS_AT..sheet::CHIP_AT],
     );
     put_word(
         &mut bytes,
-        ByteOffset(LEAF_OFFSET_AT),
+        ByteOffset(sheet::LEAF_OFFSET_AT),
         sheet::LEAF_START as u16,
     );
     bytes

@@ -10,6 +10,7 @@ use std::fs;
 use std::ops::Range;
 use std::path::{Path, PathBuf};
 use std::process::Command;
+use std::sync::Once;
 
 /// What a command wrote to standard output and standard error together, and its exit status.
 #[derive(Debug, PartialEq, Eq)]
@@ -122,9 +123,17 @@ pub fn asked(arguments: Arguments, image: &[u8]) -> String {
     format!("chip {chip}, controller {controller}, level {level}{size}{magic}")
 }
 
-/// Runs `./card` with words that need no quotes.
+/// Runs the tool with words that need no quotes.
 pub fn card(words: &str) -> Run {
-    shell(&format!("./card {words}"), Path::new("/nowhere"))
+    card_in(Path::new("/nowhere"), words)
+}
+
+/// The same, where `$TMP` is a folder. The tool is run as its launcher runs it, which sees first, and once, that it is built.
+pub fn card_in(temporary: &Path, words: &str) -> Run {
+    static BUILT: Once = Once::new();
+    BUILT.call_once(|| assert_eq!(shell("./card help", temporary).status, 0));
+    let run = format!("status=$(target/bin/card {words} 3>&1 >&4 4>&-)");
+    shell(&format!("exec 4>&1; {run}; exit ${{status:-2}}"), temporary)
 }
 
 /// What is shown of a refusal that the layout has a say in, and of the CRC and the reserved bytes of the

@@ -1,7 +1,7 @@
 //! Hexadecimal text: an image laid out in each form decodes to itself, and so does what the
 //! programs print that the forms are named after.
 
-use card::{root, samples, shell, temporary};
+use card::{card_in, root, samples, shell, temporary};
 use second::forms::{FORMS, Form};
 use second::layout::{Layout, SMALL};
 use second::random::Random;
@@ -98,7 +98,7 @@ fn a_large_image_is_read_in_each_form() {
     let mut count = 0;
     for (name, arguments, image) in samples() {
         let arguments = card::words(arguments, &image);
-        let read = |file: &str| shell(&format!("./card read {file} {arguments}"), &folder);
+        let read = |file: &str| card_in(&folder, &format!("read {file} {arguments}"));
         let fits = |form: &&Form| is_large(&image) && (!form.is_words() || image.len() % 2 == 0);
         for form in FORMS.iter().filter(fits) {
             fs::write(folder.join("text"), form.text(&image)).unwrap();
@@ -118,8 +118,8 @@ fn a_long_sheet_is_read_in_each_form() {
     assert_eq!(longest.len(), LONGEST_WIDE_SHEET);
     fs::write(folder.join("raw"), &longest).unwrap();
     let written = |file: &str, out: &str| {
-        let line = format!("./card write $TMP/{file} $TMP/{out} --wide --size 512 --force");
-        let run = shell(&line, &folder);
+        let words = format!("write $TMP/{file} $TMP/{out} --wide --size 512 --force");
+        let run = card_in(&folder, &words);
         assert_eq!(run.status, 0, "{}", run.written);
         fs::read(folder.join(out)).unwrap()
     };
@@ -163,7 +163,7 @@ fn what_programs_print() {
             assert_eq!(printed.written, form.text(&image), "{words} {name}");
             fs::write(folder.join("printed"), printed.written).unwrap();
             let arguments = card::words(arguments, &image);
-            let read = |file: &str| shell(&format!("./card read {file} {arguments}"), &folder);
+            let read = |file: &str| card_in(&folder, &format!("read {file} {arguments}"));
             let raw = read(&format!("samples/{name}"));
             assert_eq!(read("$TMP/printed"), raw, "{words} {name}");
         }

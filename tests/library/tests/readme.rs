@@ -1,4 +1,5 @@
-//! The commands of README.md that build, link and run from C and from Rust, run as they stand there.
+//! The commands of README.md that build, link and run from C and from Rust, run as they stand there; but for the one that makes the
+//! archive, which has run before these tests: they are linked with it.
 
 use std::path::Path;
 use std::process::Command;
@@ -10,6 +11,7 @@ fn commands(readme: &str, from: &str, to: &str) -> Vec<String> {
         .skip_while(|line| !line.starts_with(from))
         .take_while(|line| !line.starts_with(to))
         .filter_map(|line| line.strip_prefix("    $ "))
+        .filter(|line| *line != "rt staticlib srom")
         .map(str::to_owned)
         .collect()
 }
@@ -24,7 +26,6 @@ fn run(from: &str, to: &str) -> String {
         let output = Command::new("sh")
             .args(["-e", "-c", &command])
             .current_dir(&root)
-            .env("CARGO_TARGET_DIR", env!("CARGO_TARGET_TMPDIR"))
             .output()
             .unwrap();
         assert!(

@@ -77,7 +77,7 @@ fn theorems_stand_in_claims() {
     assert!(theorems > 30, "only {theorems} theorems were found");
 }
 
-/// The name that a line of a specification declares.
+/// The name that a line of a specification, or of laws, declares at its top level.
 fn declared(line: &str) -> Option<&str> {
     let (before, _) = line.split_once(" : ")?;
     let marks = ["unfoldable ", "abbrev ", "pub ", "record ", "data "];
@@ -85,31 +85,102 @@ fn declared(line: &str) -> Option<&str> {
     while let Some(mark) = marks.iter().find(|&&mark| rest.starts_with(mark)) {
         rest = &rest[mark.len()..];
     }
-    let is_name = line.starts_with(|it: char| it.is_alphabetic()) && !line.starts_with("use ");
+    let is_name = line.starts_with(|it: char| it.is_alphabetic())
+        && !line.starts_with("use ")
+        && !line.starts_with("module ");
     is_name.then(|| rest.split(' ').next()).flatten()
 }
 
-/// One name has one meaning in the specifications of all crates (CONTRIBUTING.md).
-#[test]
-fn a_name_is_declared_once() {
+/// The item that a line of code declares: what it is, and its name.
+fn item(line: &str) -> Option<(&str, &str)> {
+    let mut rest = line.trim_start();
+    for mark in ["pub(crate) ", "pub ", "extern \"C\" "] {
+        rest = rest.strip_prefix(mark).unwrap_or(rest);
+    }
+    let (sort, rest) = rest.split_once(' ')?;
+    let is_item = ["fn", "struct", "enum", "const"].contains(&sort);
+    let name = rest.split(|it: char| !it.is_alphanumeric() && it != '_');
+    is_item.then_some((sort, name.into_iter().next()?))
+}
+
+/// The type that a line of code declares.
+fn type_of(line: &str) -> Option<&str> {
+    let (sort, name) = item(line)?;
+    ["struct", "enum"].contains(&sort).then_some(name)
+}
+
+/// Where each name is declared, in the files with an ending, as `named` finds them in a line.
+fn declarations(
+    ending: &str,
+    named: impl Fn(&Path, &str) -> Option<String>,
+) -> BTreeMap<String, BTreeSet<PathBuf>> {
+    let crates = root().join("crates");
     let mut places: BTreeMap<String, BTreeSet<PathBuf>> = BTreeMap::new();
-    for path in files(&root().join("crates"), &["antt"]) {
-        if path.parent().unwrap().ends_with("specs") {
-            for name in fs::read_to_string(&path)
-                .unwrap()
-                .lines()
-                .filter_map(declared)
-            {
-                places
-                    .entry(name.to_owned())
-                    .or_default()
-                    .insert(path.clone());
-            }
+    for path in files(&crates, &[ending]) {
+        let file = path.strip_prefix(&crates).unwrap();
+        let text = fs::read_to_string(&path).unwrap();
+        for name in text.lines().filter_map(|line| named(file, line)) {
+            places.entry(name).or_default().insert(file.to_owned());
         }
     }
-    assert!(places.len() > 300, "only {} names were found", places.len());
+    places
+}
+
+/// Whether a file's crate is one of the library's, which stand first in crates.txt.
+fn is_of_library(file: &Path) -> bool {
+    let listed = fs::read_to_string(root().join("crates.txt")).unwrap();
+    let (library, _) = listed.split_once("\n# The bench tool.").unwrap();
+    let owner = file.iter().next().unwrap().to_str().unwrap();
+    library.contains(&format!("\n{owner}: "))
+}
+
+/// Words that several modules have for what is theirs: they are written behind the module's name, as `magic::read`.
+const BEHIND_THEIR_MODULE: [(&str, &str); 7] = [
+    (
+        "judge",
+        "of a leaf's blocks, of a Magic Packet block, of an image",
+    ),
+    ("read", "the Magic Packet block; the media table"),
+    ("write", "the Magic Packet block; a sheet's image"),
+    ("of", "the CRC that the module is about"),
+    ("table", "its table"),
+    ("TABLE", "its table"),
+    ("srom_crc", "the library's call, and the same exported"),
+];
+
+/// The refusal numbers are a list by themselves, whose names are written behind its own, as `refusal::ADDRESS`.
+const REFUSALS: &str = "rom/src/refusal.rt";
+
+/// One name has one meaning in the specifications and the laws of all crates, to which the code's types belong (CONTRIBUTING.md).
+/// A function's Proof.antt has the checker's names.
+#[test]
+fn a_name_is_declared_once() {
+    let mut places = declarations("antt", |file, line| {
+        let name = declared(line).filter(|_| !file.ends_with("Proof.antt"));
+        name.map(str::to_owned)
+    });
+    for (name, paths) in declarations("rt", |_, line| Some(type_of(line)?.to_owned())) {
+        places.entry(name).or_default().extend(paths);
+    }
+    assert!(places.len() > 1500, "only {} names", places.len());
     places.retain(|_, paths| paths.len() > 1);
-    assert!(places.is_empty(), "declared more than once: {places:?}");
+    assert!(places.is_empty(), "declared more than once: {places:#?}");
+}
+
+/// And so has one of the library's functions and constants.
+#[test]
+fn an_item_is_declared_once() {
+    let mut places = declarations("rt", |file, line| {
+        let counts = file != Path::new(REFUSALS) && is_of_library(file);
+        Some(item(line).filter(|_| counts)?.1.to_owned())
+    });
+    assert!(places.len() > 200, "only {} items", places.len());
+    places.retain(|_, paths| paths.len() > 1);
+    for (word, meaning) in BEHIND_THEIR_MODULE {
+        let paths = places.remove(word);
+        assert!(paths.is_some(), "{word}, {meaning}: no longer twice");
+    }
+    assert!(places.is_empty(), "declared more than once: {places:#?}");
 }
 
 /// Each row of docs/PROMISES.md names what would fail without it, and each edit stands in a row.

@@ -1,9 +1,9 @@
-//! What crates/worked, crates/worked_large, crates/magic and crates/leaf compute with is the second
-//! implementation's: each sheet of specs/Sheets.antt is written to its image, and made of it again;
+//! What crates/worked, crates/worked_large, crates/packet, crates/image and crates/leaf compute with is
+//! the second implementation's: each sheet of specs/Sheets.antt is written to its image, and made of it again;
 //! each Magic Packet block of specs/Cases.antt is read as it says, at either size, boards before one
 //! are refused as they say, case k, cards under fixed types, cards of 512 bytes and cards of version 1
-//! are read and walked as they say, the blocks of leaves start where they say, and leaves, with power
-//! blocks and in version 1 too, are read as they say.
+//! are read and walked as they say, the blocks of leaves start where they say, and headers and leaves,
+//! with power blocks and in version 1 too, are read as they say.
 
 use second::cases::{REPORTS_K, card_b, cases};
 use second::crc::{id_crc, lay_crcs, lay_srom_crc, magic_crc, srom_crc};
@@ -20,7 +20,7 @@ use std::collections::BTreeSet;
 use std::fs;
 use std::path::Path;
 
-/// The names of crates/magic/specs/Cases.antt that lists use, each before those that it is made of.
+/// The names of crates/packet/specs/Cases.antt that lists use, each before those that it is made of.
 const BLOCKS: [&str; 4] = ["wholeBlock", "otherCrc", "strayLast", "fields"];
 
 /// The same of crates/leaf/specs/Cases.antt.
@@ -48,7 +48,7 @@ const LEAF_LISTS: [(&str, bool); 4] = [
 
 /// The bytes of a list that may name blocks.
 fn block(list: &str) -> Vec<u8> {
-    bytes(&opened(list, &text("magic/specs/Cases.antt"), &BLOCKS))
+    bytes(&opened(list, &text("packet/specs/Cases.antt"), &BLOCKS))
 }
 
 /// A field of a case's record: what stands behind its name, up to the semicolon.
@@ -107,7 +107,7 @@ fn both_ways(
 
 #[test]
 fn blocks_are_as_second_has_them() {
-    let text = text("magic/specs/Cases.antt");
+    let text = text("packet/specs/Cases.antt");
     let cases = specification::cases(&text, "magicCases");
     assert_eq!(cases.len(), 10, "accepted blocks, and 29, 30 and 1");
     for ((kind, words), size) in cases.iter().flat_map(|case| SIZES.map(|size| (case, size))) {
@@ -370,6 +370,42 @@ fn with_leaf(chip: u16, leaf: &[u8]) -> Image {
     image
 }
 
+/// The names of crates/image/specs/Cases.antt that its headers use.
+const HEADERS: [&str; 4] = ["twoControllers", "lastAddress", "leafStarting", "ofType"];
+
+/// Where the version stands, from which on an image's bytes are given.
+const VERSION_OFFSET: usize = 18;
+
+#[test]
+fn headers_are_read_as_second_reads_them() {
+    let text = text("image/specs/Cases.antt");
+    let cases = specification::cases(&text, "headerCases");
+    let mut numbers = BTreeSet::new();
+    for (made_by, words) in cases {
+        let [chip, controller, level] = [0, 1, 2].map(|place| number(words[place]));
+        let (first_edition, header, answer) = match made_by {
+            "headerIn" => (is_first_edition(words[3]), words[4], words[5]),
+            _ => (false, words[3], words[4]),
+        };
+        let header = bytes(&opened(header, &text, &HEADERS));
+        let mut image = vec![0; SMALL.into()];
+        image[VERSION_OFFSET..][..header.len()].copy_from_slice(&header);
+        lay_crcs(&mut image, Layout::PLAIN);
+        let arguments = Arguments {
+            chip: chip as u16,
+            controller: controller as u8,
+            level: level as u8,
+            layout: Layout::PLAIN,
+            first_edition,
+        };
+        let (read, _) = read_all(&image, arguments);
+        assert_eq!(usize::from(read.number), number(answer), "{words:?}");
+        numbers.insert(read.number);
+    }
+    let told = [0, 2, 5, 6, 7, 8, 9, 10, 11, 38];
+    assert_eq!(numbers, told.into(), "what a header tells without a CRC");
+}
+
 #[test]
 fn blocks_start_where_second_finds_them() {
     let text = text("leaf/specs/Cases.antt");
@@ -534,7 +570,8 @@ fn every_list_is_named() {
         "format",
         "leaf",
         "walk",
-        "magic",
+        "packet",
+        "image",
         "worked",
         "worked_large",
         "worked_wide",
@@ -559,7 +596,8 @@ fn every_list_is_named() {
 
 /// The other lists, which tests of their own read; but for the Magic Packet block before cases a and j and for the walk with a power
 /// block, of which only the leaves are read.
-const OTHER_LISTS: [&str; 15] = [
+const OTHER_LISTS: [&str; 16] = [
+    "headerCases",
     "blockCases",
     "startsCases",
     "lookCases",

@@ -78,7 +78,7 @@ fn case(name: &str, field: &str) -> Value {
     let (_, case) = text.split_once(&format!("\n{name} = record {{\n")).unwrap();
     let (_, list) = case.split_once(&format!("\n  {field} =\n")).unwrap();
     let (list, _) = list.split_once(';').unwrap();
-    let blocks = specification::text("magic/specs/Cases.antt");
+    let blocks = specification::text("packet/specs/Cases.antt");
     Value::of_bytes(&bytes(&opened(list, &blocks, &["wholeBlock", "fields"])))
 }
 

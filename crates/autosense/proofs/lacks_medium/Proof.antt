@@ -1,28 +1,13 @@
--- Each return is one part of the cause, as the tests found it. Assumes nothing.
+-- Each return is one part of the cause, as the test found it. Assumes nothing.
 use borrow.Author.Needs.{needs}
 use Rattle.autosense.proofs.lacks_medium.Statement.{statement}
 use Rattle.autosense.proofs.lacks_medium.Tie as tie
 
-way-of-requires : tie.Need-way-of-requires
-way-of-requires c κs = search needs
-
-is-fixed-requires : tie.Need-is-fixed-requires
-is-fixed-requires c κs = search needs
-
-fixed-block-requires : tie.Need-fixed-block-requires
-fixed-block-requires c κs = search needs
-
 returns : tie.Need-returns
-returns c =
-    simp (
-      ← c .before .before .before .way-of .ensures,
-      ← c .before .before .is-fixed .ensures,
-      c .before .if1 .taken,
-      ← c .fixed-block .ensures,
-    )
+returns c = simp (c .before .if1 .taken)
 
 returns-2 : tie.Need-returns-2
-returns-2 c = simp (← c .before .before .way-of .ensures, ← c .before .is-fixed .ensures, c .if1 .left)
+returns-2 c = search needs
 
 pub lacks-medium-spec : {M : Type 1} → statement M
-lacks-medium-spec = tie.close (tie.spec way-of-requires is-fixed-requires fixed-block-requires returns returns-2)
+lacks-medium-spec = tie.close (tie.spec returns returns-2)

@@ -16,24 +16,24 @@ returns-2 c =
     let read = c .before .before .assess in
     load-refused _ _ _ (c .before .before .before .if1 .left) (read .result) (read .ensures) (c .if2 .taken)
 
-rest-from-requires : tie.Need-rest-from-requires
-rest-from-requires c κs = search needs
+up-to-leaves-end-requires : tie.Need-up-to-leaves-end-requires
+up-to-leaves-end-requires c κs = search needs
 
 rows-of-requires : tie.Need-rows-of-requires
 rows-of-requires c κs =
     let read = c .before .before .before .assess in
     let a = c .before .before .before .before .before .before .args in
     let k = accepted-judged (a .image .now) (a .arguments) (read .result) (read .ensures) (c .before .if2 .left) in
-    rw (c .rest-from .ensures) (reading-blocks k)
+    rw (c .up-to-leaves-end .ensures .0) (reading-blocks k)
 
 returns-3 : tie.Need-returns-3
 returns-3 c =
     let tested = c .before .before in
     let read = tested .before .before .assess in
     load-done _ _ _ (tested .before .before .before .if1 .left) (read .result) (read .ensures) (tested .if2 .left) _
-    (c .before .rest-from .ensures) (c .rows-of .result) (c .rows-of .ensures)
+    (c .before .up-to-leaves-end .ensures .0) (c .rows-of .result) (c .rows-of .ensures)
 
 pub load-spec : {M : Type 1} → statement M
 load-spec =
     tie.close
-    (tie.spec returns assess-requires returns-2 rest-from-requires rows-of-requires returns-3)
+    (tie.spec returns assess-requires returns-2 up-to-leaves-end-requires rows-of-requires returns-3)

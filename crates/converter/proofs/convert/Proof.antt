@@ -6,7 +6,7 @@ use borrow.Author.Tests.{not-true, not-false}
 use Rattle.sheet.specs.Form.{shift}
 use Rattle.forms.proofs.Places.{shift-small}
 use Rattle.converter.proofs.Converting.{start-fits, length-fits, convert-24, convert-33, convert-12, convert-room, convert-done}
-use Rattle.converter.proofs.Converting.{refused-done}
+use Rattle.converter.proofs.Converting.{refused-conversion}
 use borrow.Author.Needs.{needs}
 use Rattle.converter.proofs.convert.Statement.{statement}
 use Rattle.converter.proofs.convert.Tie as tie
@@ -19,7 +19,7 @@ refused-requires c κs = search needs
 
 returns : tie.Need-returns
 returns c =
-    refused-done _ _ _ (c .refused .ensures) (λ e. omega arith)
+    refused-conversion _ _ _ (c .refused .ensures) (λ e. omega arith)
     (convert-24 _ _ _ (sym (c .before .before .is-sheet .ensures) ∙ not-true _ (c .before .if1 .taken)))
 
 is-too-large-requires : tie.Need-is-too-large-requires
@@ -30,7 +30,7 @@ refused-requires-2 c κs = search needs
 
 returns-2 : tie.Need-returns-2
 returns-2 c =
-    refused-done _ _ _ (c .refused2 .ensures) (λ e. omega arith)
+    refused-conversion _ _ _ (c .refused2 .ensures) (λ e. omega arith)
     (convert-33 _ _ _ (sym (c .before .before .before .before .is-sheet .ensures) ∙ not-false _ (c .before .before .before .if1 .left))
     (sym (c .before .before .is-too-large .ensures) ∙ c .before .if2 .taken))
 
@@ -74,7 +74,7 @@ returns-3 c =
     let is-too-large = shift-of .before .before in
     let is-sheet = is-too-large .before .before in
     let start = is-sheet .before .before .before in
-    refused-done _ _ _ (c .refused3 .ensures) (λ e. omega arith)
+    refused-conversion _ _ _ (c .refused3 .ensures) (λ e. omega arith)
     (convert-12 _ _ (sym (is-sheet .is-sheet .ensures) ∙ not-false _ (is-too-large .before .if1 .left)) _ _ (shift-of .shift-of .ensures)
     (c .before .before .shift-of2 .ensures ∙ ap shift (other-form .other-form .ensures)) (start .args .buffer .now)
     (sym (is-too-large .is-too-large .ensures) ∙ shift-of .before .if2 .left) (c .before .if3 .taken))

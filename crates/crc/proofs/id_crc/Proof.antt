@@ -3,9 +3,9 @@ use native.Mathlib.Omega.{arith}
 use borrow.Author.Needs.{needs}
 use mathlib.Core.Path.{sym, _∙_}
 use Rattle.rom.proofs.Layouts.{sized, right-length}
-use Rattle.crc.specs.Crc.{idCrc}
-use Rattle.crc.specs.Answer.{idAnswer}
-use Rattle.crc.proofs.Answers.{refused, accepted}
+use Rattle.checksum.specs.Crc.{idCrc}
+use Rattle.checksum.specs.Answer.{idAnswer}
+use Rattle.checksum.proofs.Answers.{refused, accepted}
 use Rattle.crc.proofs.id_crc.Statement.{statement}
 use Rattle.crc.proofs.id_crc.Tie as tie
 

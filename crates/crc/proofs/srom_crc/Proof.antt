@@ -3,9 +3,9 @@ use native.Mathlib.Omega.{arith}
 use mathlib.Core.Path.{sym, _∙_}
 use borrow.Author.Needs.{needs}
 use Rattle.rom.proofs.Layouts.{geometry, right-length}
-use Rattle.crc.specs.Crc.{sromCrc}
-use Rattle.crc.specs.Answer.{sromAnswer}
-use Rattle.crc.proofs.Answers.{refused, accepted}
+use Rattle.checksum.specs.Crc.{sromCrc}
+use Rattle.checksum.specs.Answer.{sromAnswer}
+use Rattle.checksum.proofs.Answers.{refused, accepted}
 use Rattle.crc.proofs.srom_crc.Statement.{statement}
 use Rattle.crc.proofs.srom_crc.Tie as tie
 

@@ -1,6 +1,6 @@
 -- The causes in their order, each as its test found it. Assumes nothing.
 use Rattle.rom.proofs.Reached.{reached, stop, skip, end}
-use Rattle.header.specs.Image.{controllerCount, addressOf, argumentCauses}
+use Rattle.image.specs.Image.{controllerCount, addressOf, argumentCauses}
 use Rattle.header.proofs.Headers.{no-chip, a-chip}
 use borrow.Author.Tests.{le-leb, lt-leb, lt-ltb, le-ltb}
 use native.Mathlib.Omega.{arith}

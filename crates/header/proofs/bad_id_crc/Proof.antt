@@ -1,7 +1,7 @@
 -- The CRC call answers the CRC, since the length is right. Assumes nothing.
-use Rattle.crc.specs.Crc.{idCrc}
-use Rattle.crc.specs.Answer.{idAnswer}
-use Rattle.crc.proofs.Answers.{answered}
+use Rattle.checksum.specs.Crc.{idCrc}
+use Rattle.checksum.specs.Answer.{idAnswer}
+use Rattle.checksum.proofs.Answers.{answered-value}
 use borrow.Author.Needs.{needs}
 use Rattle.header.proofs.bad_id_crc.Statement.{statement}
 use Rattle.header.proofs.bad_id_crc.Tie as tie
@@ -22,7 +22,7 @@ returns c =
     let image = e .args .image .now in
     rw (
       c .before .before .byte-at .ensures,
-      answered (e .args .size) image (idCrc image) (c .before .id-crc .result) (e .pre) (c .before .id-crc .ensures),
+      answered-value (e .args .size) image (idCrc image) (c .before .id-crc .result) (e .pre) (c .before .id-crc .ensures),
     )
 
 pub bad-id-crc-spec : {M : Type 1} → statement M

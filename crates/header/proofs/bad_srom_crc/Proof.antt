@@ -1,7 +1,7 @@
 -- The CRC call answers the CRC, since the length is right. Assumes nothing.
-use Rattle.crc.specs.Crc.{sromCrc}
-use Rattle.crc.specs.Answer.{sromAnswer}
-use Rattle.crc.proofs.Answers.{answered}
+use Rattle.checksum.specs.Crc.{sromCrc}
+use Rattle.checksum.specs.Answer.{sromAnswer}
+use Rattle.checksum.proofs.Answers.{answered-value}
 use borrow.Author.Needs.{needs}
 use Rattle.header.proofs.bad_srom_crc.Statement.{statement}
 use Rattle.header.proofs.bad_srom_crc.Tie as tie
@@ -24,7 +24,7 @@ returns c =
     rw (
       c .before .before .word-at .ensures,
       c .before .before .before .checked-length .ensures,
-      answered (layout .size) image (sromCrc layout image) (c .before .srom-crc .result) (e .pre) (c .before .srom-crc .ensures),
+      answered-value (layout .size) image (sromCrc layout image) (c .before .srom-crc .result) (e .pre) (c .before .srom-crc .ensures),
     )
 
 pub bad-srom-crc-spec : {M : Type 1} → statement M

@@ -1,5 +1,5 @@
 -- Six bytes, each below 256. Assumes nothing.
-use Rattle.header.specs.Image.{baseAddress}
+use Rattle.image.specs.Image.{baseAddress}
 use native.Mathlib.Omega.{arith}
 use borrow.Author.Needs.{needs}
 use Rattle.header.proofs.base_address.Statement.{statement}

@@ -1,6 +1,6 @@
 -- The 21140 has one. Assumes nothing.
 use Rattle.rom.specs.Bytes.{pick}
-use Rattle.header.specs.Image.{controlByte}
+use Rattle.image.specs.Image.{controlByte}
 use borrow.Author.Tests.{eq-eqb, ne-eqb}
 use borrow.Author.Needs.{needs}
 use Rattle.header.proofs.control_byte.Statement.{statement}

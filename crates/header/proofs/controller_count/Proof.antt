@@ -1,5 +1,5 @@
 -- The byte that is read. Assumes nothing.
-use Rattle.header.specs.Image.{controllerCount}
+use Rattle.image.specs.Image.{controllerCount}
 use borrow.Author.Needs.{needs}
 use Rattle.header.proofs.controller_count.Statement.{statement}
 use Rattle.header.proofs.controller_count.Tie as tie

@@ -1,5 +1,5 @@
 -- Each field is read where the definition has it. Assumes nothing.
-use Rattle.header.proofs.Headers.{fields}
+use Rattle.header.proofs.Headers.{fields-read}
 use borrow.Author.Needs.{needs}
 use Rattle.header.proofs.header_at.Statement.{statement}
 use Rattle.header.proofs.header_at.Tie as tie
@@ -35,7 +35,7 @@ returns : tie.Need-returns
 returns c = let s = c .before .before .before .before .before .before .before in
     let a = s .args in
     let length = c .before .before .before .before .before .header-length in
-    fields (a .image .now) (a .arguments) (a .row) (a .leaf) (length .result) (c .before .before .before .before .word-at .result)
+    fields-read (a .image .now) (a .arguments) (a .row) (a .leaf) (length .result) (c .before .before .before .before .word-at .result)
     (c .before .before .before .control-byte .result) (c .before .before .base-address .result) (c .byte-at .result)
     (s .pre .0) (s .pre .1) (length .ensures .0) (c .before .before .before .before .word-at .ensures)
     (c .before .before .before .control-byte .ensures) (c .before .before .base-address .ensures .0) (c .byte-at .ensures)

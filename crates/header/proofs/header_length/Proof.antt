@@ -1,6 +1,6 @@
 -- The 21140 has a byte more. Assumes nothing.
 use Rattle.rom.specs.Bytes.{pick}
-use Rattle.header.specs.Image.{headerLength}
+use Rattle.image.specs.Image.{headerLength}
 use borrow.Author.Tests.{eq-eqb, ne-eqb}
 use lib.Dec.{lit≤}
 use Rattle.header.proofs.header_length.Statement.{statement}

@@ -1,8 +1,8 @@
 -- The causes in their order, each as its test found it. Assumes nothing.
 use mathlib.Core.Path.{sym, _∙_}
 use Rattle.rom.proofs.Reached.{reached, stop, skip, among, past, end}
-use Rattle.header.specs.Image.{magicCauses, imageCauses}
-use Rattle.header.proofs.Headers.{magic-numbered}
+use Rattle.image.specs.Image.{magicCauses, imageCauses}
+use Rattle.image.proofs.Causes.{magic-numbered}
 use borrow.Author.Needs.{needs}
 use Rattle.header.proofs.image_refusal.Statement.{statement}
 use Rattle.header.proofs.image_refusal.Tie as tie

@@ -2,7 +2,7 @@
 use mathlib.Core.Path.{ap}
 use Prim.Native.Nat.{ℕ}
 use lib.Dec.{eqb}
-use Rattle.header.specs.Image.{isFirstVersion}
+use Rattle.image.specs.Image.{isFirstVersion}
 use borrow.Author.Needs.{needs}
 use Rattle.header.proofs.is_first_version.Statement.{statement}
 use Rattle.header.proofs.is_first_version.Tie as tie

@@ -1,7 +1,7 @@
 -- The causes in their order, each as its test found it. Assumes nothing.
 use Rattle.rom.proofs.Reached.{reached, stop, skip, end}
 use Rattle.rom.specs.Geometry.{leavesEnd}
-use Rattle.header.specs.Image.{reservedAt, blocksAt, leafHeaderCauses}
+use Rattle.image.specs.Image.{reservedAt, blocksAt, leafHeaderCauses}
 use Rattle.header.proofs.Headers.{too-early, too-late, in-bounds}
 use native.Mathlib.Omega.{arith}
 use mathlib.Core.Path.{ap, sym, _∙_}

@@ -1,6 +1,7 @@
 -- The block's reader judges it, for an image of the right length. Assumes nothing.
-use mathlib.Core.Path.{_∙_}
-use Rattle.header.proofs.Headers.{no-magic, magic-judged}
+use mathlib.Core.Path.{sym, _∙_}
+use Rattle.image.proofs.Causes.{untold-unjudged}
+use Rattle.header.proofs.Headers.{magic-judged}
 use borrow.Author.Needs.{needs}
 use Rattle.header.proofs.magic_refusal.Statement.{statement}
 use Rattle.header.proofs.magic_refusal.Tie as tie
@@ -15,7 +16,7 @@ returns c =
 
 returns-2 : tie.Need-returns-2
 returns-2 c =
-    let e = c .before .before in no-magic (e .args .layout) (e .args .image .now) (c .if1 .left)
+    let e = c .before .before in sym (untold-unjudged (e .args .layout) (e .args .image .now) (c .if1 .left))
 
 pub magic-refusal-spec : {M : Type 1} → statement M
 magic-refusal-spec = tie.close (tie.spec judge-requires returns returns-2)

@@ -1,6 +1,6 @@
 -- The first refusal of the image, of the arguments or of the leaf, or the header. Assumes nothing.
 use mathlib.Core.Path.{sym, _∙_}
-use Rattle.header.specs.Image.{leafAt}
+use Rattle.image.specs.Image.{leafAt}
 use Rattle.header.proofs.Headers.{by-image, by-arguments, by-leaf, leaf-met, header-found}
 use native.Mathlib.Omega.{arith}
 use borrow.Author.Needs.{needs}
@@ -10,26 +10,27 @@ use Rattle.header.proofs.read_header.Tie as tie
 image-refusal-requires : tie.Need-image-refusal-requires
 image-refusal-requires c κs = search needs
 
-refused-requires : tie.Need-refused-requires
-refused-requires c κs = search needs
+refused-header-requires : tie.Need-refused-header-requires
+refused-header-requires c κs = search needs
 
 returns : tie.Need-returns
 returns c =
     let a = c .before .before .before .before .before .args in
-    c .refused .ensures ∙ by-image (a .image .now) (a .arguments) _ (c .before .if1 .taken) (c .before .before .image-refusal .ensures)
+    c .refused-header .ensures ∙ by-image (a .image .now) (a .arguments) _ (c .before .if1 .taken)
+    (c .before .before .image-refusal .ensures)
 
 argument-refusal-requires : tie.Need-argument-refusal-requires
 argument-refusal-requires c κs = search needs
 
-refused-requires-2 : tie.Need-refused-requires-2
-refused-requires-2 c κs = search needs
+refused-header-requires-2 : tie.Need-refused-header-requires-2
+refused-header-requires-2 c κs = search needs
 
 returns-2 : tie.Need-returns-2
 returns-2 c =
     let image-refusal = c .before .before .before .before in
     let start = image-refusal .before .before .before in
     let a = start .args in
-    c .refused2 .ensures
+    c .refused-header2 .ensures
     ∙ by-arguments (a .image .now) (a .arguments) (sym (c .before .before .before .if1 .left) ∙ image-refusal .image-refusal .ensures) _
     (c .before .if2 .taken)
     (c .before .before .argument-refusal .ensures)
@@ -61,8 +62,8 @@ is-first-edition-requires c κs = search needs
 leaf-refusal-requires : tie.Need-leaf-refusal-requires
 leaf-refusal-requires c κs = search needs
 
-refused-requires-3 : tie.Need-refused-requires-3
-refused-requires-3 c κs = search needs
+refused-header-requires-3 : tie.Need-refused-header-requires-3
+refused-header-requires-3 c κs = search needs
 
 returns-3 : tie.Need-returns-3
 unfolding leafAt
@@ -74,7 +75,7 @@ returns-3 c =
     let image-refusal = argument-refusal .before .before in
     let start = image-refusal .before .before .before in
     let a = start .args in
-    c .refused3 .ensures
+    c .refused-header3 .ensures
     ∙ by-leaf (a .image .now) (a .arguments) (sym (argument-refusal .before .if1 .left) ∙ image-refusal .image-refusal .ensures)
     (sym (row-of .before .if2 .left) ∙ argument-refusal .argument-refusal .ensures) _ (c .before .if3 .taken)
     (leaf-met (a .image .now) (a .arguments) (row-of .row-of .ensures) (word-at .word-at .ensures) (edition .ensures)
@@ -107,10 +108,10 @@ read-header-spec =
     tie.close
     (tie.spec
     image-refusal-requires
-    refused-requires
+    refused-header-requires
     returns
     argument-refusal-requires
-    refused-requires-2
+    refused-header-requires-2
     returns-2
     row-of-requires
     cast-controller
@@ -121,7 +122,7 @@ read-header-spec =
     cast-leaf
     is-first-edition-requires
     leaf-refusal-requires
-    refused-requires-3
+    refused-header-requires-3
     returns-3
     header-at-requires
     returns-4)

@@ -1,5 +1,5 @@
 -- A count is below 256. Assumes nothing.
-use Rattle.header.specs.Image.{reservedAt}
+use Rattle.image.specs.Image.{reservedAt}
 use native.Mathlib.Omega.{arith}
 use borrow.Author.Needs.{needs}
 use Rattle.header.proofs.reserved_at.Statement.{statement}

@@ -1,10 +1,10 @@
 -- The CRC call answers the CRC, since the length is right. Assumes nothing.
 use lib.Dec.{lit<}
-use Rattle.crc.specs.Crc.{magicCrc}
-use Rattle.crc.specs.Answer.{magicAnswer}
-use Rattle.crc.proofs.Answers.{answered}
-use Rattle.magic.specs.Block.{badCrc, blockCrcAt}
-use Rattle.magic.proofs.Reading.{long-enough, placed, inside}
+use Rattle.checksum.specs.Crc.{magicCrc}
+use Rattle.checksum.specs.Answer.{magicAnswer}
+use Rattle.checksum.proofs.Answers.{answered-value}
+use Rattle.packet.specs.Block.{badCrc, blockCrcAt}
+use Rattle.packet.proofs.Reading.{long-enough, placed, inside}
 use borrow.Author.Needs.{needs}
 use Rattle.magic.proofs.bad_crc.Statement.{statement}
 use Rattle.magic.proofs.bad_crc.Tie as tie
@@ -32,7 +32,7 @@ returns c =
     rw (
       c .before .before .byte-in .ensures,
       placed size image (e .pre) blockCrcAt (c .before .before .before .place-in .ensures),
-      answered size image (magicCrc size image) (c .before .magic-crc .result) (e .pre) (c .before .magic-crc .ensures),
+      answered-value size image (magicCrc size image) (c .before .magic-crc .result) (e .pre) (c .before .magic-crc .ensures),
     )
 
 pub bad-crc-spec : {M : Type 1} → statement M

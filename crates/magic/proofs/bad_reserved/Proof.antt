@@ -1,8 +1,8 @@
 -- Sixteen bytes, and then the last. Assumes nothing.
 use native.Mathlib.Omega.{arith}
 use lib.Dec.{lit<}
-use Rattle.magic.specs.Block.{zerosAt, blockCrcAt, lastAt}
-use Rattle.magic.proofs.Reading.{long-enough, placed, inside, stray-zeros, stray-last}
+use Rattle.packet.specs.Block.{zerosAt, blockCrcAt, lastAt}
+use Rattle.packet.proofs.Reading.{long-enough, placed, inside, stray-zeros, stray-last}
 use borrow.Author.Needs.{needs}
 use Rattle.magic.proofs.bad_reserved.Statement.{statement}
 use Rattle.magic.proofs.bad_reserved.Tie as tie

@@ -3,13 +3,13 @@ use mathlib.Core.Path.{ap, _∙_}
 use mathlib.Core.List.{List}
 use Prim.Native.Nat.{ℕ}
 use Rattle.rom.specs.Store.{wordBytes, laid}
-use Rattle.magic.proofs.Writing.{whole, fields-laid}
+use Rattle.packet.proofs.Writing.{six-each, fields-laid}
 use borrow.Author.Needs.{needs}
 use Rattle.magic.proofs.block_of.Statement.{statement}
 use Rattle.magic.proofs.block_of.Tie as tie
 
-blank-requires : tie.Need-blank-requires
-blank-requires c κs = search needs
+blank-block-requires : tie.Need-blank-block-requires
+blank-block-requires c κs = search needs
 
 slice-aggregate-put-bytes : tie.Need-slice-aggregate-put-bytes
 slice-aggregate-put-bytes c = search needs
@@ -55,14 +55,14 @@ returns c =
     ∙ ap (λ (l : List ℕ). laid l 12 (wordBytes (m .command)))
     (put-bytes .put-bytes2 .ensures
     ∙ ap (λ (l : List ℕ). laid l 6 (m .address))
-    (put-bytes′ .put-bytes .ensures ∙ ap (λ (l : List ℕ). laid l 0 (m .password)) (blank .blank .ensures)))
-    ∙ fields-laid m (whole m (e .good .0 .1 .1 .0 .1 .0 .1) (e .good .0 .1 .1 .1 .0 .1 .0 .1))
+    (put-bytes′ .put-bytes .ensures ∙ ap (λ (l : List ℕ). laid l 0 (m .password)) (blank .blank-block .ensures)))
+    ∙ fields-laid m (six-each m (e .good .0 .1 .1 .0 .1 .0 .1) (e .good .0 .1 .1 .1 .0 .1 .0 .1))
 
 pub block-of-spec : {M : Type 1} → statement M
 block-of-spec =
     tie.close
     (tie.spec
-    blank-requires
+    blank-block-requires
     slice-aggregate-put-bytes
     cast-t9
     slice-aggregate-put-bytes-2

@@ -1,7 +1,7 @@
 -- The causes in their order, each as its test found it. Assumes nothing.
 use mathlib.Core.Path.{sym, _∙_}
 use Rattle.rom.proofs.Reached.{reached, stop, skip, end}
-use Rattle.magic.specs.Answer.{magicLengthCause, magicBlockCauses, magicReadCauses, magicReadNumber}
+use Rattle.packet.specs.Answer.{magicLengthCause, magicBlockCauses, magicReadCauses, magicReadNumber}
 use borrow.Author.Needs.{needs}
 use Rattle.magic.proofs.judge.Statement.{statement}
 use Rattle.magic.proofs.judge.Tie as tie

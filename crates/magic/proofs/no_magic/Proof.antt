@@ -1,6 +1,6 @@
 -- Zeros. Assumes nothing.
 use mathlib.Core.Path.{refl}
-use Rattle.magic.specs.Answer.{noMagic}
+use Rattle.packet.specs.Answer.{noMagic}
 use Rattle.magic.proofs.no_magic.Statement.{statement}
 use Rattle.magic.proofs.no_magic.Tie as tie
 

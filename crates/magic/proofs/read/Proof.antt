@@ -1,8 +1,8 @@
 -- The first refusal, or the fields of a whole image. Assumes nothing.
 use native.Mathlib.Omega.{arith}
 use mathlib.Core.Path.{sym, _∙_}
-use Rattle.magic.specs.Block.{magicIn, passwordAt, wakeAddressAt, commandAt}
-use Rattle.magic.proofs.Reading.{read-right, long-enough, placed, answer-refused, answer-read}
+use Rattle.packet.specs.Block.{magicIn, passwordAt, wakeAddressAt, commandAt}
+use Rattle.packet.proofs.Reading.{read-right, long-enough, placed, answer-refused, answer-read}
 use borrow.Author.Needs.{needs}
 use Rattle.magic.proofs.read.Statement.{statement}
 use Rattle.magic.proofs.read.Tie as tie

@@ -1,6 +1,6 @@
 -- Six bytes laid into six. Assumes nothing.
 use mathlib.Core.Path.{refl, _∙_}
-use Rattle.magic.proofs.Reading.{six-laid}
+use Rattle.packet.proofs.Reading.{six-laid}
 use borrow.Author.Needs.{needs}
 use Rattle.magic.proofs.six_at.Statement.{statement}
 use Rattle.magic.proofs.six_at.Tie as tie

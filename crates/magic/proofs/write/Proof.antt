@@ -7,13 +7,13 @@ use lib.ListN.{length}
 use Rattle.rom.specs.Geometry.{wrongLength, magicWord}
 use Rattle.rom.proofs.Layouts.{right-length}
 use Rattle.rom.specs.Store.{laid}
-use Rattle.crc.specs.Crc.{magicCrc}
-use Rattle.crc.specs.Answer.{magicAnswer}
-use Rattle.crc.proofs.Answers.{answered}
-use Rattle.crc.proofs.Eight.{crc8-lt}
-use Rattle.magic.specs.Block.{passwordAt, blockCrcAt}
-use Rattle.magic.proofs.Reading.{long-enough, placed}
-use Rattle.magic.proofs.Writing.{whole, laid-long, block-laid, crc-laid, write-refused, write-accepted, kept, changed}
+use Rattle.checksum.specs.Crc.{magicCrc}
+use Rattle.checksum.specs.Answer.{magicAnswer}
+use Rattle.checksum.proofs.Answers.{answered-value}
+use Rattle.checksum.proofs.Eight.{crc8-lt}
+use Rattle.packet.specs.Block.{passwordAt, blockCrcAt}
+use Rattle.packet.proofs.Reading.{long-enough, placed}
+use Rattle.packet.proofs.Writing.{six-each, laid-long, block-laid, crc-laid, write-refused, write-accepted, kept, changed}
 use borrow.Author.Needs.{needs}
 use Rattle.magic.proofs.write.Statement.{statement}
 use Rattle.magic.proofs.write.Tie as tie
@@ -60,14 +60,14 @@ cast-put-byte c =
     let test = start .before .before in
     let e = test .before .before .before in
     let m = e .args .magic in
-    let w = whole m (e .good .0 .1 .1 .0 .1 .0 .1) (e .good .0 .1 .1 .1 .0 .1 .0 .1) in
+    let w = six-each m (e .good .0 .1 .1 .0 .1 .0 .1) (e .good .0 .1 .1 .1 .0 .1 .0 .1) in
     let size = e .args .size in
     let n = sym (test .before .is-wrong-length .ensures) ∙ test .if1 .left in
     let l = right-length size _ n in
     let laid-down = done .put-bytes .ensures
     ∙ block-laid size m w (e .args .image .now) l _ _ (block-of .block-of .ensures)
     (placed size (e .args .image .now) n passwordAt (start .place-in .ensures)) in
-    let v = answered size (done .put-bytes .last .0) (magicCrc size (done .put-bytes .last .0)) (c .before .magic-crc .result)
+    let v = answered-value size (done .put-bytes .last .0) (magicCrc size (done .put-bytes .last .0)) (c .before .magic-crc .result)
     (ap (λ (s : List ℕ). wrongLength size (length s)) laid-down
     ∙ ap (wrongLength size) (laid-long size m w (e .args .image .now) l 0 ∙ sym l) ∙ n) (c .before .magic-crc .ensures) in
     let b = crc8-lt 15 (magicWord size) (done .put-bytes .last .0) in
@@ -91,13 +91,13 @@ returns-2 c =
     let e = test .before .before .before in
     let m = e .args .magic in
     let image = e .args .image .now in
-    let w = whole m (e .good .0 .1 .1 .0 .1 .0 .1) (e .good .0 .1 .1 .1 .0 .1 .0 .1) in
+    let w = six-each m (e .good .0 .1 .1 .0 .1 .0 .1) (e .good .0 .1 .1 .1 .0 .1 .0 .1) in
     let size = e .args .size in
     let n = sym (test .before .is-wrong-length .ensures) ∙ test .if1 .left in
     let l = right-length size _ n in
     let laid-down = done .put-bytes .ensures
     ∙ block-laid size m w image l _ _ (block-of .block-of .ensures) (placed size image n passwordAt (start .place-in .ensures)) in
-    let v = answered size (done .put-bytes .last .0) (magicCrc size (done .put-bytes .last .0)) (magic-crc .magic-crc .result)
+    let v = answered-value size (done .put-bytes .last .0) (magicCrc size (done .put-bytes .last .0)) (magic-crc .magic-crc .result)
     (ap (λ (s : List ℕ). wrongLength size (length s)) laid-down ∙ ap (wrongLength size) (laid-long size m w image l 0 ∙ sym l) ∙ n)
     (magic-crc .magic-crc .ensures) in (
       write-accepted size m image n,

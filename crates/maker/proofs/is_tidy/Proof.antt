@@ -23,8 +23,8 @@ returns-2 c =
     tidy-leaf _ _ _ (c .before .before .before .byte-at .ensures) (c .before .before .if1 .left) (c .before .word-at .ensures)
     (c .if2 .taken)
 
-rest-from-requires : tie.Need-rest-from-requires
-rest-from-requires c κs = search needs
+up-to-leaves-end-requires : tie.Need-up-to-leaves-end-requires
+up-to-leaves-end-requires c κs = search needs
 
 all-zero-requires : tie.Need-all-zero-requires
 all-zero-requires c κs = search needs
@@ -33,7 +33,7 @@ returns-3 : tie.Need-returns-3
 returns-3 c =
     tidy-zeros _ _ _ (c .before .before .before .before .before .byte-at .ensures) (c .before .before .before .before .if1 .left)
     (c .before .before .before .word-at .ensures) (c .before .before .if2 .left)
-    (c .all-zero .ensures ∙ ap allZero (c .before .rest-from .ensures))
+    (c .all-zero .ensures ∙ ap allZero (c .before .up-to-leaves-end .ensures .0))
 
 pub is-tidy-spec : {M : Type 1} → statement M
 is-tidy-spec =
@@ -44,6 +44,6 @@ is-tidy-spec =
     word-at-requires
     cast-if2
     returns-2
-    rest-from-requires
+    up-to-leaves-end-requires
     all-zero-requires
     returns-3)

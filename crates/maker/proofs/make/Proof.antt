@@ -40,17 +40,17 @@ returns-2 c =
     (sym (assess .before .before .is-beyond .ensures) ∙ assess .before .if1 .left) _ _ _
     (assess .assess .ensures) _ (c .before .if2 .taken))
 
-rest-from-requires : tie.Need-rest-from-requires
-rest-from-requires c κs = search needs
+up-to-leaves-end-requires : tie.Need-up-to-leaves-end-requires
+up-to-leaves-end-requires c κs = search needs
 
 measure-requires : tie.Need-measure-requires
 unfolding newestIn
 measure-requires c κs =
-    let rest-from = c in
-    let assess = rest-from .before .before .before .before in
+    let up-to-leaves-end = c in
+    let assess = up-to-leaves-end .before .before .before .before in
     let form = assess .before .before .before .before .before .args .form in
     let served = sym (assess .before .before .is-beyond .ensures) ∙ assess .before .if1 .left in
-    read-blocks _ _ _ (is-read form _ _ served _ _ _ (assess .assess .ensures) (c .before .if2 .left)) _ (c .rest-from .ensures)
+    read-blocks _ _ _ (is-read form _ _ served _ _ _ (assess .assess .ensures) (c .before .if2 .left)) _ (c .up-to-leaves-end .ensures .0)
 
 is-tidy-requires : tie.Need-is-tidy-requires
 is-tidy-requires c κs = search needs
@@ -63,12 +63,13 @@ unfolding newestIn
 returns-3 c =
     let is-tidy = c .before .before in
     let measure = is-tidy .before in
-    let rest-from = measure .before in
-    let assess = rest-from .before .before .before .before in
+    let up-to-leaves-end = measure .before in
+    let assess = up-to-leaves-end .before .before .before .before in
     let form = assess .before .before .before .before .before .args .form in
     let served = sym (assess .before .before .is-beyond .ensures) ∙ assess .before .if1 .left in
     refused-done _ _ _ _ _ _ (c .refused3 .ensures) (λ e. omega arith)
-    (make-untidy form _ _ served _ _ _ (assess .assess .ensures) (rest-from .before .if2 .left) _ (rest-from .rest-from .ensures) _
+    (make-untidy form _ _ served _ _ _ (assess .assess .ensures) (up-to-leaves-end .before .if2 .left) _
+    (up-to-leaves-end .up-to-leaves-end .ensures .0) _
     (measure .measure .ensures .0) _ (is-tidy .is-tidy .ensures) (not-true _ (c .before .if3 .taken)))
 
 shift-of-requires : tie.Need-shift-of-requires
@@ -97,12 +98,13 @@ add-length-2 c =
     let small : c .before .before .before .before .before .measure .result .bodies ≤ largeSize
     = let is-tidy = c .before .before .before .before in
     let measure = is-tidy .before in
-    let rest-from = measure .before in
-    let assess = rest-from .before .before .before .before in
+    let up-to-leaves-end = measure .before in
+    let assess = up-to-leaves-end .before .before .before .before in
     let a = assess .before .before .before .before .before .args in
     let served = sym (assess .before .before .is-beyond .ensures) ∙ assess .before .if1 .left in
     let g = geometry (a .layout) in
-    let h = end-fits (a .form) _ _ served _ _ _ (assess .assess .ensures) (rest-from .before .if2 .left) _ (rest-from .rest-from .ensures) _
+    let h = end-fits (a .form) _ _ served _ _ _ (assess .assess .ensures) (up-to-leaves-end .before .if2 .left) _
+    (up-to-leaves-end .up-to-leaves-end .ensures .0) _
     (measure .measure .ensures .0) (measure .measure .ensures .1 .0) in
     omega (arith, measure .measure .ensures .1 .1) in
     let short : c .before .before .shift-of .result ≤ 2
@@ -120,12 +122,13 @@ returns-4 c =
     let shift-of = c .before .before .before .before in
     let is-tidy = shift-of .before .before in
     let measure = is-tidy .before in
-    let rest-from = measure .before in
-    let assess = rest-from .before .before .before .before in
+    let up-to-leaves-end = measure .before in
+    let assess = up-to-leaves-end .before .before .before .before in
     let form = assess .before .before .before .before .before .args .form in
     let served = sym (assess .before .before .is-beyond .ensures) ∙ assess .before .if1 .left in
     refused-done _ _ _ _ _ _ (c .refused4 .ensures) (λ e. omega arith)
-    (make-short form _ _ served _ _ _ (assess .assess .ensures) (rest-from .before .if2 .left) _ (rest-from .rest-from .ensures) _
+    (make-short form _ _ served _ _ _ (assess .assess .ensures) (up-to-leaves-end .before .if2 .left) _
+    (up-to-leaves-end .up-to-leaves-end .ensures .0) _
     (measure .measure .ensures .0) _ (is-tidy .is-tidy .ensures) (not-false _ (shift-of .before .if3 .left)) (shift-of .shift-of .ensures)
     (c .before .if4 .taken))
 
@@ -134,12 +137,13 @@ unfolding newestIn
 cast-put-sheet c =
     let is-tidy = c .before .before .before .before .before .before .before in
     let measure = is-tidy .before in
-    let rest-from = measure .before in
-    let assess = rest-from .before .before .before .before in
+    let up-to-leaves-end = measure .before in
+    let assess = up-to-leaves-end .before .before .before .before in
     let form = assess .before .before .before .before .before .args .form in
     let served = sym (assess .before .before .is-beyond .ensures) ∙ assess .before .if1 .left in
     let g = geometry (assess .before .before .before .before .before .args .layout) in
-    let h = end-fits form _ _ served _ _ _ (assess .assess .ensures) (rest-from .before .if2 .left) _ (rest-from .rest-from .ensures) _
+    let h = end-fits form _ _ served _ _ _ (assess .assess .ensures) (up-to-leaves-end .before .if2 .left) _
+    (up-to-leaves-end .up-to-leaves-end .ensures .0) _
     (measure .measure .ensures .0) (measure .measure .ensures .1 .0) in
     omega (arith, measure .measure .ensures .1 .1)
 
@@ -149,11 +153,12 @@ put-sheet-requires c κs =
     let shift-of = c .before .before .before .before .before in
     let is-tidy = shift-of .before .before in
     let measure = is-tidy .before in
-    let rest-from = measure .before in
-    let assess = rest-from .before .before .before .before in
+    let up-to-leaves-end = measure .before in
+    let assess = up-to-leaves-end .before .before .before .before in
     let form = assess .before .before .before .before .before .args .form in
     let served = sym (assess .before .before .is-beyond .ensures) ∙ assess .before .if1 .left in
-    make-room form _ _ served _ _ _ (assess .assess .ensures) (rest-from .before .if2 .left) _ (rest-from .rest-from .ensures) _
+    make-room form _ _ served _ _ _ (assess .assess .ensures) (up-to-leaves-end .before .if2 .left) _
+    (up-to-leaves-end .up-to-leaves-end .ensures .0) _
     (measure .measure .ensures .0) _ (is-tidy .is-tidy .ensures) (not-false _ (shift-of .before .if3 .left)) (shift-of .shift-of .ensures)
     (c .before .before .if4 .left) _ refl (measure .measure .ensures .1 .0) (measure .measure .ensures .1 .1)
 
@@ -166,11 +171,12 @@ returns-5 c =
     let shift-of = c .before .before .before .before .before .before .before .before in
     let is-tidy = shift-of .before .before in
     let measure = is-tidy .before in
-    let rest-from = measure .before in
-    let assess = rest-from .before .before .before .before in
+    let up-to-leaves-end = measure .before in
+    let assess = up-to-leaves-end .before .before .before .before in
     let form = assess .before .before .before .before .before .args .form in
     let served = sym (assess .before .before .is-beyond .ensures) ∙ assess .before .if1 .left in
-    make-done form _ _ served _ _ _ (assess .assess .ensures) (rest-from .before .if2 .left) _ (rest-from .rest-from .ensures) _
+    make-done form _ _ served _ _ _ (assess .assess .ensures) (up-to-leaves-end .before .if2 .left) _
+    (up-to-leaves-end .up-to-leaves-end .ensures .0) _
     (measure .measure .ensures .0) _ (is-tidy .is-tidy .ensures) (not-false _ (shift-of .before .if3 .left)) (shift-of .shift-of .ensures)
     (c .before .before .before .before .before .if4 .left) _ refl (c .before .before .put-sheet .ensures)
 
@@ -184,7 +190,7 @@ make-spec =
     assess-requires
     refused-requires-2
     returns-2
-    rest-from-requires
+    up-to-leaves-end-requires
     measure-requires
     is-tidy-requires
     refused-requires-3

@@ -12,26 +12,27 @@ put-fields-requires : tie.Need-put-fields-requires
 put-fields-requires c κs =
     fields-room (c .before .before .before .before .before .before .before .before .pre) (c .before .before .before .put-front .ensures)
 
-rest-from-requires : tie.Need-rest-from-requires
-rest-from-requires c κs = search needs
+up-to-leaves-end-requires : tie.Need-up-to-leaves-end-requires
+up-to-leaves-end-requires c κs = search needs
 
 put-parts-requires : tie.Need-put-parts-requires
 put-parts-requires c κs =
     let put-fields = c .before .before .before .before in
     let put-front = put-fields .before .before .before .before in
     let start = put-front .before .before .before .before .before in
-    parts-room (start .pre) (put-front .put-front .ensures) (put-fields .put-fields .ensures) _ (c .before .rest-from .ensures)
+    parts-room (start .pre) (put-front .put-front .ensures) (put-fields .put-fields .ensures) _ (c .before .up-to-leaves-end .ensures .0)
 
 same-length : tie.Need-same-length
 same-length c = search needs
 
 returns : tie.Need-returns
 returns c =
-    let rest-from = c .before .before .before .before in
-    let put-fields = rest-from .before .before .before in
+    let up-to-leaves-end = c .before .before .before .before in
+    let put-fields = up-to-leaves-end .before .before .before in
     let put-front = put-fields .before .before .before .before in
     let start = put-front .before .before .before .before .before in
-    content-put (start .pre) (put-front .put-front .ensures) (put-fields .put-fields .ensures) _ (rest-from .rest-from .ensures)
+    content-put (start .pre) (put-front .put-front .ensures) (put-fields .put-fields .ensures) _
+    (up-to-leaves-end .up-to-leaves-end .ensures .0)
     (c .before .before .put-parts .ensures)
 
 pub put-content-spec : {M : Type 1} → statement M
@@ -40,7 +41,7 @@ put-content-spec =
     (tie.spec
     put-front-requires
     put-fields-requires
-    rest-from-requires
+    up-to-leaves-end-requires
     put-parts-requires
     same-length
     returns)

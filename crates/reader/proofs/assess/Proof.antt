@@ -1,8 +1,8 @@
 -- Room for 255 entries is never too little. Assumes nothing.
 use Prim.Native.Nat.{_-_}
 use mathlib.Core.Path.{_∙_}
-use Rattle.header.specs.Image.{blockCount}
-use Rattle.header.specs.Header.{startFor}
+use Rattle.image.specs.Image.{blockCount}
+use Rattle.image.specs.Arguments.{startFor}
 use Rattle.reader.proofs.Readings.{no-array}
 use borrow.Author.Needs.{needs}
 use Rattle.reader.proofs.assess.Statement.{statement}

@@ -1,7 +1,7 @@
 -- The reading is assessed before anything is written; accepted, it has room for its table. Assumes nothing.
 use Prim.Native.Nat.{ℕ}
 use lib.ListN.{length}
-use Rattle.header.specs.Header.{rowFor}
+use Rattle.image.specs.Arguments.{rowFor}
 use Rattle.leaf.specs.Leaf.{kindAt, startAt}
 use Rattle.reader.specs.Reading.{readKinds, readOffsets}
 use Rattle.reader.proofs.Readings.{answer-read, unchanged, accepted-read, reading-blocks, reading-listed, reading-short}
@@ -28,8 +28,8 @@ returns c =
       ),
     )
 
-rest-from-requires : tie.Need-rest-from-requires
-rest-from-requires c κs = search needs
+up-to-leaves-end-requires : tie.Need-up-to-leaves-end-requires
+up-to-leaves-end-requires c κs = search needs
 
 cast-fill : tie.Need-cast-fill
 cast-fill c = search needs
@@ -40,7 +40,7 @@ fill-requires c κs =
     let r = c .before .before .before .before .before .before .before .assess-for in
     let z = c .before .before .before .before .if1 .left in
     let k = accepted-read (a .image .now) (a .arguments) (length (a .kinds .now)) (length (a .offsets .now)) (r .result) (r .ensures) z in
-    rw (c .before .before .before .rest-from .ensures) (
+    rw (c .before .before .before .up-to-leaves-end .ensures .0) (
       reading-blocks k,
       (
         reading-listed k,
@@ -67,7 +67,7 @@ returns-2 c =
     let a = read .before .before .before .before .args in
     let r = read .assess-for in
     let z = tested .if1 .left in
-    let rest = filled .before .before .before .before .rest-from .ensures in
+    let rest = filled .before .before .before .before .up-to-leaves-end .ensures .0 in
     let e = filled .fill .ensures in (
       answer-read (a .image .now) (a .arguments) (length (a .kinds .now)) (length (a .offsets .now)) (r .result) (r .ensures),
       (
@@ -87,7 +87,7 @@ read-spec =
     (tie.spec
     assess-for-requires
     returns
-    rest-from-requires
+    up-to-leaves-end-requires
     cast-fill
     fill-requires
     same-length

@@ -15,8 +15,8 @@ returns c =
     let r = c .before .before .before .assess in
     no-part (a .image .now) (a .arguments) (r .result) (r .ensures) (a .entry) (c .if1 .taken)
 
-rest-from-requires : tie.Need-rest-from-requires
-rest-from-requires c κs = search needs
+up-to-leaves-end-requires : tie.Need-up-to-leaves-end-requires
+up-to-leaves-end-requires c κs = search needs
 
 cast-find : tie.Need-cast-find
 cast-find c = search needs
@@ -26,7 +26,7 @@ find-requires c κs =
     let a = c .before .before .before .before .before .before .before .args in
     let r = c .before .before .before .before .before .assess in
     let k = accepted-judged (a .image .now) (a .arguments) (r .result) (r .ensures) (c .before .before .if1 .left) in
-    rw (c .before .rest-from .ensures) (reading-blocks k, (reading-listed k, reading-short k))
+    rw (c .before .up-to-leaves-end .ensures .0) (reading-blocks k, (reading-listed k, reading-short k))
 
 returns-2 : tie.Need-returns-2
 returns-2 c =
@@ -34,10 +34,11 @@ returns-2 c =
     let start = assess .before .before in
     let a = start .args in
     let r = assess .assess in
-    c .find .ensures ∙ a-part (a .image .now) (a .arguments) (r .result) (r .ensures) _ (c .before .before .rest-from .ensures) (a .entry)
+    c .find .ensures ∙ a-part (a .image .now) (a .arguments) (r .result) (r .ensures) _
+    (c .before .before .up-to-leaves-end .ensures .0) (a .entry)
     (c .before .before .before .if1 .left)
 
 pub view-part-spec : {M : Type 1} → statement M
 view-part-spec =
     tie.close
-    (tie.spec assess-requires returns rest-from-requires cast-find find-requires returns-2)
+    (tie.spec assess-requires returns up-to-leaves-end-requires cast-find find-requires returns-2)

@@ -7,8 +7,8 @@ use Rattle.report.proofs.block_at.Tie as tie
 row-of-requires : tie.Need-row-of-requires
 row-of-requires c κs = search needs
 
-rest-from-requires : tie.Need-rest-from-requires
-rest-from-requires c κs = search needs
+up-to-leaves-end-requires : tie.Need-up-to-leaves-end-requires
+up-to-leaves-end-requires c κs = search needs
 
 is-first-version-requires : tie.Need-is-first-version-requires
 is-first-version-requires c κs = search needs
@@ -22,4 +22,4 @@ returns c = cc
 
 pub block-at-spec : {M : Type 1} → statement M
 block-at-spec =
-    tie.close (tie.spec row-of-requires rest-from-requires is-first-version-requires judge-in-requires returns)
+    tie.close (tie.spec row-of-requires up-to-leaves-end-requires is-first-version-requires judge-in-requires returns)

@@ -4,11 +4,11 @@ use borrow.Author.Needs.{needs}
 use Rattle.report.proofs.block_bytes.Statement.{statement}
 use Rattle.report.proofs.block_bytes.Tie as tie
 
-cast-rest-from : tie.Need-cast-rest-from
-cast-rest-from c = search needs
+cast-up-to-leaves-end : tie.Need-cast-up-to-leaves-end
+cast-up-to-leaves-end c = search needs
 
-rest-from-requires : tie.Need-rest-from-requires
-rest-from-requires c κs = search needs
+up-to-leaves-end-requires : tie.Need-up-to-leaves-end-requires
+up-to-leaves-end-requires c κs = search needs
 
 cast-part : tie.Need-cast-part
 cast-part c = search needs
@@ -22,4 +22,4 @@ returns c = cc
 
 pub block-bytes-spec : {M : Type 1} → statement M
 block-bytes-spec =
-    tie.close (tie.spec cast-rest-from rest-from-requires cast-part part-requires returns)
+    tie.close (tie.spec cast-up-to-leaves-end up-to-leaves-end-requires cast-part part-requires returns)

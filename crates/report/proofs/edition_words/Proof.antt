@@ -4,7 +4,7 @@ use borrow.Author.Needs.{needs}
 use borrow.Author.Tests.{not-true, not-false}
 use Rattle.rom.specs.Bytes.{pick}
 use Rattle.report.specs.Words.{editionWords}
-use Rattle.report.proofs.Names.{none}
+use Rattle.report.proofs.Names.{none-more}
 use Rattle.report.proofs.edition_words.Statement.{statement}
 use Rattle.report.proofs.edition_words.Tie as tie
 
@@ -15,7 +15,7 @@ returns : tie.Need-returns
 unfolding editionWords pick
 returns c =
     let s = c .before .before .before in
-    rw (sym (c .before .is-first-version .ensures) ∙ not-true _ (c .if1 .taken)) (none (s .args .line) (s .good .0 .1 .1 .0 .1 .0 .1))
+    rw (sym (c .before .is-first-version .ensures) ∙ not-true _ (c .if1 .taken)) (none-more (s .args .line) (s .good .0 .1 .1 .0 .1 .0 .1))
 
 slice-aggregate-text : tie.Need-slice-aggregate-text
 slice-aggregate-text c = search needs

@@ -1,6 +1,6 @@
 -- The word at the place that the definition names. Assumes nothing.
 use borrow.Author.Needs.{needs}
-use Rattle.header.specs.Image.{leafAt}
+use Rattle.image.specs.Image.{leafAt}
 use Rattle.report.proofs.leaf_of.Statement.{statement}
 use Rattle.report.proofs.leaf_of.Tie as tie
 

@@ -13,8 +13,8 @@ abbrev μ-loop : tie.MeasureT-loop
 loop-holds : tie.Need-loop-holds Inv-loop μ-loop
 loop-holds c = search needs
 
-place-of-requires : tie.Need-place-of-requires Inv-loop μ-loop
-place-of-requires c κs = search needs
+field-at-requires : tie.Need-field-at-requires Inv-loop μ-loop
+field-at-requires c κs = search needs
 
 show-reserved-requires : tie.Need-show-reserved-requires Inv-loop μ-loop
 show-reserved-requires c κs = search needs
@@ -38,7 +38,7 @@ show-magic-reserved-spec =
     Inv-loop
     μ-loop
     loop-holds
-    place-of-requires
+    field-at-requires
     show-reserved-requires
     add-field
     loop-less

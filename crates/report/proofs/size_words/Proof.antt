@@ -3,7 +3,7 @@ use mathlib.Core.Path.{sym, _∙_}
 use borrow.Author.Needs.{needs}
 use Rattle.rom.specs.Bytes.{pick}
 use Rattle.report.specs.Words.{sizeWords}
-use Rattle.report.proofs.Names.{none}
+use Rattle.report.proofs.Names.{none-more}
 use Rattle.report.proofs.size_words.Statement.{statement}
 use Rattle.report.proofs.size_words.Tie as tie
 
@@ -24,7 +24,7 @@ returns-2 : tie.Need-returns-2
 unfolding sizeWords pick
 returns-2 c =
     let s = c .before .before in
-    rw (sym (c .before .is-named .ensures) ∙ c .if1 .left) (none (s .args .line) (s .good .0 .1 .1 .0 .1 .0 .1))
+    rw (sym (c .before .is-named .ensures) ∙ c .if1 .left) (none-more (s .args .line) (s .good .0 .1 .1 .0 .1 .0 .1))
 
 pub size-words-spec : {M : Type 1} → statement M
 size-words-spec =

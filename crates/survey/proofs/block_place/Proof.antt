@@ -32,11 +32,11 @@ returns-2 c =
     c .nowhere2 .ensures ∙ no-block-place (a .image .now) (a .arguments) (h .result) (h .ensures) (c .before .before .before .if1 .left)
     (a .number) (c .before .if2 .taken)
 
-rest-from-requires : tie.Need-rest-from-requires
-rest-from-requires c κs = search needs
+up-to-leaves-end-requires : tie.Need-up-to-leaves-end-requires
+up-to-leaves-end-requires c κs = search needs
 
-find-requires : tie.Need-find-requires
-find-requires c κs =
+find-place-requires : tie.Need-find-place-requires
+find-place-requires c κs =
     let a = c .before .before .before .before .before .before .before .args in
     let h = c .before .before .before .before .before .read-header in
     let g = geometry (a .arguments .layout) in
@@ -48,9 +48,9 @@ returns-3 c =
     let start = read-header .before .before in
     let a = start .args in
     let h = read-header .read-header in
-    c .find .ensures
+    c .find-place .ensures
     ∙ block-stands (a .image .now) (a .arguments) (h .result) (h .ensures) (c .before .before .before .before .if1 .left) _
-    (c .before .rest-from .ensures) (a .number)
+    (c .before .up-to-leaves-end .ensures .0) (a .number)
     (c .before .before .if2 .left)
 
 pub block-place-spec : {M : Type 1} → statement M
@@ -62,6 +62,6 @@ block-place-spec =
     returns
     nowhere-requires-2
     returns-2
-    rest-from-requires
-    find-requires
+    up-to-leaves-end-requires
+    find-place-requires
     returns-3)

@@ -14,8 +14,8 @@ returns c =
     let h = c .before .before .read-header in
     no-leaf-refused (a .image .now) (a .arguments) (h .result) (h .ensures) (c .if1 .taken)
 
-rest-from-requires : tie.Need-rest-from-requires
-rest-from-requires c κs = search needs
+up-to-leaves-end-requires : tie.Need-up-to-leaves-end-requires
+up-to-leaves-end-requires c κs = search needs
 
 is-first-version-requires : tie.Need-is-first-version-requires
 is-first-version-requires c κs = search needs
@@ -31,9 +31,9 @@ returns-2 c =
     let h = read-header .read-header in
     c .first-refused .ensures
     ∙ leaf-refused (a .image .now) (a .arguments) (h .result) (h .ensures) (c .before .before .before .if1 .left) _
-    (c .before .before .rest-from .ensures) (c .before .is-first-version .ensures)
+    (c .before .before .up-to-leaves-end .ensures .0) (c .before .is-first-version .ensures)
 
 pub refused-block-spec : {M : Type 1} → statement M
 refused-block-spec =
     tie.close
-    (tie.spec read-header-requires returns rest-from-requires is-first-version-requires first-refused-requires returns-2)
+    (tie.spec read-header-requires returns up-to-leaves-end-requires is-first-version-requires first-refused-requires returns-2)

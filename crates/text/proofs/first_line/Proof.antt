@@ -3,13 +3,13 @@ use Prim.Native.Nat.{_-_, _≤_}
 use mathlib.Core.Path.{refl, _∙_}
 use native.Mathlib.Omega.{arith}
 use lib.ListN.{length}
-use Rattle.text.proofs.Lines.{Passed, passed-more, passed-end, passed-all}
+use Rattle.text.proofs.Lines.{PassedLines, passed-more, passed-end, passed-all}
 use borrow.Author.Needs.{needs}
 use Rattle.text.proofs.first_line.Statement.{statement}
 use Rattle.text.proofs.first_line.Tie as tie
 
 abbrev Inv-loop : tie.InvT-loop
-Inv-loop text i₀ i = Passed text i × (i ≤ length text)
+Inv-loop text i₀ i = PassedLines text i × (i ≤ length text)
 
 abbrev μ-loop : tie.MeasureT-loop
 μ-loop text i₀ i = length text - i

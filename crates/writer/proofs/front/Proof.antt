@@ -1,7 +1,7 @@
 -- The parts of the sheet stand where the image has them. Assumes nothing.
 use mathlib.Core.Path.{refl}
 use Rattle.writer.specs.Inside.{zeros}
-use Rattle.writer.proofs.Images.{front-is}
+use Rattle.writer.proofs.Images.{front-laid}
 use borrow.Author.Needs.{needs}
 use Rattle.writer.proofs.front.Statement.{statement}
 use Rattle.writer.proofs.front.Tie as tie
@@ -70,7 +70,7 @@ returns c =
     let second = third .before .before .before .before in
     let first = second .before .before .before .before in
     let start = first .before .before .before .before in
-    front-is (start .args .shifted .now) (start .pre) refl (first .put-bytes .ensures) (second .put-bytes2 .ensures)
+    front-laid (start .args .shifted .now) (start .pre) refl (first .put-bytes .ensures) (second .put-bytes2 .ensures)
     (third .put-bytes3 .ensures) (c .before .put-word .ensures)
 
 pub front-spec : {M : Type 1} → statement M

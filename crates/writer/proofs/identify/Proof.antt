@@ -3,10 +3,10 @@ use mathlib.Core.Path.{ap}
 use native.Mathlib.Omega.{arith}
 use lib.ListN.{length, set}
 use Rattle.rom.proofs.Layouts.{sized, right-length}
-use Rattle.crc.specs.Crc.{idCrc}
-use Rattle.crc.specs.Answer.{idAnswer}
-use Rattle.crc.proofs.Answers.{answered}
-use Rattle.crc.proofs.Eight.{crc8-lt}
+use Rattle.checksum.specs.Crc.{idCrc}
+use Rattle.checksum.specs.Answer.{idAnswer}
+use Rattle.checksum.proofs.Answers.{answered-value}
+use Rattle.checksum.proofs.Eight.{crc8-lt}
 use Rattle.writer.specs.Inside.{withIdCrc}
 use borrow.Author.Needs.{needs}
 use Rattle.writer.proofs.identify.Statement.{statement}
@@ -20,7 +20,7 @@ unfolding idAnswer idCrc
 cast-image c =
     let start = c .before .before .before in
     let image = start .args .image .now in
-    let e = answered (start .args .size) image (idCrc image) _ (start .pre) (c .id-crc .ensures) in
+    let e = answered-value (start .args .size) image (idCrc image) _ (start .pre) (c .id-crc .ensures) in
     omega (arith, crc8-lt 8 0 image)
 
 slice-write-image : tie.Need-slice-write-image
@@ -37,7 +37,7 @@ unfolding withIdCrc idAnswer
 returns c =
     let start = c .before .before .before in
     let image = start .args .image .now in
-    ap (set image 16) (answered (start .args .size) image (idCrc image) _ (start .pre) (c .id-crc .ensures))
+    ap (set image 16) (answered-value (start .args .size) image (idCrc image) _ (start .pre) (c .id-crc .ensures))
 
 pub identify-spec : {M : Type 1} → statement M
 identify-spec =

@@ -7,9 +7,9 @@ use Rattle.rom.specs.Geometry.{checkedLength}
 use Rattle.rom.specs.Store.{wordBytes, laid}
 use Rattle.rom.proofs.Layouts.{geometry, right-length}
 use Rattle.rom.proofs.Put.{laid-word}
-use Rattle.crc.specs.Crc.{sromCrc}
-use Rattle.crc.specs.Answer.{sromAnswer}
-use Rattle.crc.proofs.Answers.{answered}
+use Rattle.checksum.specs.Crc.{sromCrc}
+use Rattle.checksum.specs.Answer.{sromAnswer}
+use Rattle.checksum.proofs.Answers.{answered-value}
 use Rattle.writer.specs.Inside.{withSromCrc}
 use borrow.Author.Needs.{needs}
 use Rattle.writer.proofs.seal.Statement.{statement}
@@ -38,7 +38,7 @@ returns c =
     let g = geometry l in
     c .before .before .put-word .ensures
     ∙ ap₂ (λ (i v : ℕ). laid image i (wordBytes v)) (checked-length .checked-length .ensures)
-    (answered (l .size) image (sromCrc l image) _ (start .pre) (srom-crc .srom-crc .ensures))
+    (answered-value (l .size) image (sromCrc l image) _ (start .pre) (srom-crc .srom-crc .ensures))
     ∙ laid-word image (checkedLength l) _ (omega (arith, right-length (l .size) (length image) (start .pre)))
 
 pub seal-spec : {M : Type 1} → statement M

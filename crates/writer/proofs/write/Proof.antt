@@ -7,7 +7,8 @@ use borrow.Author.Tests.{not-true, not-false}
 use Rattle.rom.proofs.Layouts.{geometry}
 use Rattle.writer.proofs.Sheets.{many, few}
 use Rattle.writer.proofs.Images.{output-length, in-zeros}
-use Rattle.writer.proofs.Numbers.{Passed, kept, write-24, write-33, write-1, passed, passed-counted, passed-writable, write-record}
+use Rattle.writer.proofs.Numbers.{Passed, output-kept, write-24, write-33, write-1, passed, passed-counted, passed-writable}
+use Rattle.writer.proofs.Numbers.{write-record}
 use Rattle.writer.proofs.Numbers.{write-issued}
 use borrow.Author.Needs.{needs}
 use Rattle.writer.proofs.write.Statement.{statement}
@@ -27,7 +28,7 @@ is-sheet-requires c κs = search needs
 
 returns : tie.Need-returns
 returns c =
-    kept _ _ _ _ _ 24 (write-24 _ _ _ _ _ (sym (c .before .is-sheet .ensures) ∙ not-true _ (c .if1 .taken))) (omega arith)
+    output-kept _ _ _ _ _ 24 (write-24 _ _ _ _ _ (sym (c .before .is-sheet .ensures) ∙ not-true _ (c .if1 .taken))) (omega arith)
 
 count-in-requires : tie.Need-count-in-requires
 count-in-requires c κs = search needs
@@ -37,7 +38,7 @@ returns-2 c =
     let count-in = c .before .count-in in
     let is-sheet = c .before .before .before in
     let a = is-sheet .before .before .before .args in
-    kept _ _ _ _ _ 33
+    output-kept _ _ _ _ _ 33
     (write-33 (a .form) (a .layout) (a .first-edition) (a .sheet .now) (a .image .now)
     (sym (is-sheet .is-sheet .ensures) ∙ not-false _ (c .before .before .if1 .left))
     (many (a .form) (a .sheet .now) _ (count-in .ensures .0) (count-in .ensures .1) (c .if2 .taken))) (omega arith)
@@ -50,7 +51,7 @@ returns-3 c =
     let count-in = c .before .before .before in
     let is-sheet = count-in .before .before in
     let a = is-sheet .before .before .before .args in
-    kept _ _ _ _ _ 1
+    output-kept _ _ _ _ _ 1
     (write-1 (a .form) (a .layout) (a .first-edition) (a .sheet .now) (a .image .now)
     (sym (is-sheet .is-sheet .ensures) ∙ not-false _ (count-in .before .if1 .left))
     (few (a .form) (a .sheet .now) _ (count-in .count-in .ensures .0) (c .before .before .if2 .left))

@@ -4,7 +4,7 @@ use mathlib.Core.Path.{sym, _∙_}
 use native.Mathlib.Omega.{arith}
 use lib.Bits.{bitXor, xor-lt}
 use Rattle.crc.proofs.Tabulated.{crc8-entry}
-use Rattle.crc.proofs.Eight.{byte-at-once}
+use Rattle.checksum.proofs.Eight.{byte-at-once}
 use Rattle.crc.proofs.crc8.feed.Statement.{statement}
 use Rattle.crc.proofs.crc8.feed.Tie as tie
 

@@ -1,6 +1,6 @@
 -- None is left, or one. Assumes nothing.
 use native.Mathlib.Omega.{arith}
-use Rattle.crc.proofs.Eight.{none-left, one-left}
+use Rattle.checksum.proofs.Eight.{none-left, one-left}
 use borrow.Author.Needs.{needs}
 use Rattle.crc.proofs.crc8.feed_rest.Statement.{statement}
 use Rattle.crc.proofs.crc8.feed_rest.Tie as tie

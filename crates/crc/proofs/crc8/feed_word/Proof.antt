@@ -1,7 +1,7 @@
 -- A word is its high byte and then its low byte. Assumes nothing.
 use Prim.Native.Nat.{_*_}
 use mathlib.Core.Path.{refl}
-use Rattle.crc.proofs.Eight.{word-fed}
+use Rattle.checksum.proofs.Eight.{word-fed}
 use borrow.Author.Needs.{needs}
 use Rattle.crc.proofs.crc8.feed_word.Statement.{statement}
 use Rattle.crc.proofs.crc8.feed_word.Tie as tie

@@ -3,9 +3,9 @@
 use Prim.Native.Nat.{ℕ, _+_, _*_, _/_, _≤_, _-_, _%_}
 use mathlib.Core.Path.{_≡_, refl, ap, _∙_}
 use native.Mathlib.Omega.{arith}
-use Rattle.crc.specs.Crc.{crc8Words, ones}
+use Rattle.checksum.specs.Crc.{crc8Words, ones}
 use Rattle.crc.specs.Inside.{crc8Table}
-use Rattle.crc.proofs.Eight.{pair-next, words-done}
+use Rattle.checksum.proofs.Eight.{pair-next, words-done}
 use borrow.Author.Needs.{needs}
 use Rattle.crc.proofs.crc8.of.Statement.{statement}
 use Rattle.crc.proofs.crc8.of.Tie as tie

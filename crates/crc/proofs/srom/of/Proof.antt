@@ -1,7 +1,7 @@
 -- The register, already in reverse, complemented. Assumes nothing.
 use Prim.Native.Nat.{ℕ, _%_, _^_}
 use mathlib.Core.Path.{ap}
-use Rattle.crc.specs.Crc.{complement, sromCrc}
+use Rattle.checksum.specs.Crc.{complement, sromCrc}
 use borrow.Author.Needs.{needs}
 use Rattle.crc.proofs.srom.of.Statement.{statement}
 use Rattle.crc.proofs.srom.of.Tie as tie

@@ -6,7 +6,7 @@ use lib.Bits.{xor-zero-r}
 use lib.ListN.{take, drop}
 use native.Mathlib.Omega.{arith}
 use Rattle.rom.proofs.Layouts.{geometry}
-use Rattle.crc.specs.Crc.{ones, reversed, sromBytes}
+use Rattle.checksum.specs.Crc.{ones, reversed, sromBytes}
 use Rattle.crc.specs.Inside.{reflected, turns, bytesIn, sromTable}
 use Rattle.crc.proofs.Mirror.{first-byte, next-byte, last-byte, mirror-ones}
 use borrow.Author.Needs.{needs}

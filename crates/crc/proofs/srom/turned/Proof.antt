@@ -3,7 +3,8 @@ use Prim.Native.Nat.{_/_, _%_}
 use native.Mathlib.Omega.{arith}
 use Rattle.crc.specs.Inside.{reflected, turns}
 use Rattle.crc.proofs.Tabulated.{srom-entry}
-use Rattle.crc.proofs.Xor.{by-table, xor-assoc}
+use Rattle.checksum.proofs.Xor.{xor-assoc}
+use Rattle.crc.proofs.Turns.{by-table}
 use borrow.Author.Needs.{needs}
 use Rattle.crc.proofs.srom.turned.Statement.{statement}
 use Rattle.crc.proofs.srom.turned.Tie as tie

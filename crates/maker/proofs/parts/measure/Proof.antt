@@ -3,7 +3,7 @@ use borrow.Author.Needs.{needs}
 use Prim.Native.Nat.{_-_}
 use native.Mathlib.Omega.{arith}
 use native.Mathlib.Nat.{le-refl}
-use Rattle.maker.proofs.Blocks.{turn}
+use Rattle.maker.proofs.Blocks.{next-turn}
 use Rattle.maker.proofs.Measuring.{Measuring, measuring-first, measuring-last, measuring-more}
 use Rattle.maker.proofs.parts.measure.Statement.{statement}
 use Rattle.maker.proofs.parts.measure.Tie as tie
@@ -34,20 +34,20 @@ opening-length-requires c κs = search needs
 
 sub-bodies : tie.Need-sub-bodies Inv-loop μ-loop
 sub-bodies c =
-    turn (c .before .before .before .before .loop .inv .running) (c .before .before .before .loop-test .taken)
+    next-turn (c .before .before .before .before .loop .inv .running) (c .before .before .before .loop-test .taken)
     (c .before .size-at .ensures) (c .opening-length .ensures) .opens
 
 add-bodies : tie.Need-add-bodies Inv-loop μ-loop
 add-bodies c =
     let i = c .before .before .before .before .loop .inv in
-    let t = turn (i .running) (c .before .before .before .loop-test .taken) (c .before .size-at .ensures)
+    let t = next-turn (i .running) (c .before .before .before .loop-test .taken) (c .before .size-at .ensures)
     (c .opening-length .ensures) in
     omega (arith, t .reaches, i .less)
 
 add-end : tie.Need-add-end Inv-loop μ-loop
 add-end c =
     let i = c .before .before .before .before .loop .inv in
-    let t = turn (i .running) (c .before .before .before .loop-test .taken) (c .before .size-at .ensures)
+    let t = next-turn (i .running) (c .before .before .before .loop-test .taken) (c .before .size-at .ensures)
     (c .opening-length .ensures) in
     omega (arith, t .reaches)
 
@@ -61,7 +61,7 @@ loop-again : tie.Need-loop-again Inv-loop μ-loop
 loop-again c =
     let i = c .before .before .before .before .loop .inv in
     measuring-more i
-    (turn (i .running) (c .before .before .before .loop-test .taken) (c .before .size-at .ensures)
+    (next-turn (i .running) (c .before .before .before .loop-test .taken) (c .before .size-at .ensures)
     (c .opening-length .ensures))
 
 returns : tie.Need-returns Inv-loop μ-loop

@@ -3,7 +3,7 @@ use borrow.Author.Needs.{needs}
 use Prim.Native.Nat.{_-_}
 use native.Mathlib.Omega.{arith}
 use native.Mathlib.Nat.{le-refl}
-use Rattle.maker.proofs.Blocks.{turn}
+use Rattle.maker.proofs.Blocks.{next-turn}
 use Rattle.maker.proofs.Filling.{Filling, filling-first, filling-last, fill-room, fill-next, fill-more}
 use Rattle.maker.proofs.parts.put_parts.Statement.{statement}
 use Rattle.maker.proofs.parts.put_parts.Tie as tie
@@ -44,7 +44,7 @@ opening-length-requires c κs = search needs
 
 sub-body : tie.Need-sub-body Inv-loop μ-loop
 sub-body c =
-    turn (c .before .before .before .before .loop .inv .running) (c .before .before .before .loop-test .taken)
+    next-turn (c .before .before .before .before .loop .inv .running) (c .before .before .before .loop-test .taken)
     (c .before .size-at .ensures) (c .opening-length .ensures) .opens
 
 kind-at-requires : tie.Need-kind-at-requires Inv-loop μ-loop
@@ -62,7 +62,7 @@ part-put-entry-start = sub-put-entry
 part-put-entry-end : tie.Need-part-put-entry-end Inv-loop μ-loop
 part-put-entry-end c =
     let o = c .before .before in
-    turn (o .before .before .before .before .loop .inv .running) (o .before .before .before .loop-test .taken)
+    next-turn (o .before .before .before .before .loop .inv .running) (o .before .before .before .loop-test .taken)
     (o .before .size-at .ensures) (o .opening-length .ensures) .inside
 
 mul-put-entry : tie.Need-mul-put-entry Inv-loop μ-loop
@@ -79,20 +79,20 @@ put-entry-requires c κs =
     let o = c .before .before .before in
     let i = o .before .before .before .before .loop .inv in
     let h = o .before .before .before .loop-test .taken in
-    fill-room i h (turn (i .running) h (o .before .size-at .ensures) (o .opening-length .ensures))
+    fill-room i h (next-turn (i .running) h (o .before .size-at .ensures) (o .opening-length .ensures))
 
 add-body-at-2 : tie.Need-add-body-at-2 Inv-loop μ-loop
 add-body-at-2 c =
     let o = c .before .before .before .before .before .before in
     let i = o .before .before .before .before .loop .inv in
     let h = o .before .before .before .loop-test .taken in
-    let t = turn (i .running) h (o .before .size-at .ensures) (o .opening-length .ensures) in
+    let t = next-turn (i .running) h (o .before .size-at .ensures) (o .opening-length .ensures) in
     omega (arith, fill-next i h t)
 
 add-start : tie.Need-add-start Inv-loop μ-loop
 add-start c =
     let o = c .before .before .before .before .before .before in
-    let t = turn (o .before .before .before .before .loop .inv .running) (o .before .before .before .loop-test .taken)
+    let t = next-turn (o .before .before .before .before .loop .inv .running) (o .before .before .before .loop-test .taken)
     (o .before .size-at .ensures) (o .opening-length .ensures) in
     omega (arith, t .reaches)
 
@@ -107,7 +107,7 @@ loop-again c =
     let o = c .before .before .before .before .before .before in
     let i = o .before .before .before .before .loop .inv in
     let h = o .before .before .before .loop-test .taken in
-    fill-more i h (turn (i .running) h (o .before .size-at .ensures) (o .opening-length .ensures))
+    fill-more i h (next-turn (i .running) h (o .before .size-at .ensures) (o .opening-length .ensures))
     (c .before .before .before .before .before .kind-at .ensures) (c .before .before .put-entry .ensures)
 
 same-length : tie.Need-same-length Inv-loop μ-loop

@@ -9,13 +9,13 @@ use denote.Ref.{now}
 use Rattle.leaf.specs.Leaf.{tableOf}
 use Rattle.leaf.proofs.Cuts.{next-fits, part-ends}
 use Rattle.leaf.proofs.Stepping.{passing-first}
-use Rattle.reader.proofs.Filling.{Filling, fill-place, fill-more, fill-done}
+use Rattle.reader.proofs.Filling.{FillingTable, fill-place, fill-more, fill-done}
 use Rattle.reader.proofs.table.fill.Statement.{statement}
 use Rattle.reader.proofs.table.fill.Tie as tie
 
 abbrev Inv-loop : tie.InvT-loop
 Inv-loop blocks start count row level listed kinds₀ offsets₀ rest₀ k₀ at₀ free₀ kinds offsets rest k at free =
-    Filling row level start count blocks k rest at free kinds₀ offsets₀ kinds offsets × (k ≤ count)
+    FillingTable row level start count blocks k rest at free kinds₀ offsets₀ kinds offsets × (k ≤ count)
     × (at + length rest ≤ start + length blocks)
 
 abbrev μ-loop : tie.MeasureT-loop

@@ -2,7 +2,7 @@
 use native.Mathlib.Omega.{arith}
 use Rattle.text.specs.Quoted.{quoted}
 use Rattle.report.specs.Words.{nameInTable, nameInList, commandNames, commandWords}
-use Rattle.report.proofs.Names.{commandTable, command-table}
+use Rattle.report.proofs.Names.{commandBitTable, command-table}
 use Rattle.report.proofs.Bits.{same-names}
 use borrow.Author.Needs.{needs}
 use Rattle.report.proofs.words.command_words.Statement.{statement}
@@ -21,9 +21,9 @@ bit-words-requires : tie.Need-bit-words-requires
 bit-words-requires c κs = search needs
 
 returns : tie.Need-returns
-unfolding commandWords commandTable
+unfolding commandWords commandBitTable
 returns c =
-    rw (← same-names (nameInTable commandTable) (nameInList commandNames) command-table (quoted " ") (quoted " ") 16 0
+    rw (← same-names (nameInTable commandBitTable) (nameInList commandNames) command-table (quoted " ") (quoted " ") 16 0
     (c .before .before .before .before .args .command) (omega arith))
     (c .bit-words .ensures)
 

@@ -5,13 +5,13 @@ use mathlib.Core.Path.{sym, _∙_}
 use native.Mathlib.Nat.{le-refl}
 use Rattle.sheet.specs.Sheet.{entriesFrom}
 use Rattle.writer.proofs.Parts.{parts-next, next-fits, next-body}
-use Rattle.writer.proofs.Loops.{Sized, sized-start, sized-long, sized-none, sized-bad, sized-room, sized-more}
+use Rattle.writer.proofs.Loops.{SizedBodies, sized-start, sized-long, sized-none, sized-bad, sized-room, sized-more}
 use Rattle.writer.proofs.entries.refusal_of.Statement.{statement}
 use Rattle.writer.proofs.entries.refusal_of.Tie as tie
 
 abbrev Inv-loop : tie.InvT-loop
 Inv-loop limit row start count kinds sizes bodies left₀ kind-rest₀ size-rest₀ body-rest₀ end₀ left kind-rest size-rest body-rest end =
-    Sized row start (entriesFrom count kinds sizes bodies) left kind-rest size-rest body-rest end
+    SizedBodies row start (entriesFrom count kinds sizes bodies) left kind-rest size-rest body-rest end
 
 abbrev μ-loop : tie.MeasureT-loop
 μ-loop limit row start count kinds sizes bodies left₀ kind-rest₀ size-rest₀ body-rest₀ end₀ left kind-rest size-rest body-rest end = left

@@ -5,13 +5,13 @@ use mathlib.Core.Path.{sym}
 use native.Mathlib.Nat.{le-refl}
 use Rattle.sheet.specs.Sheet.{entriesFrom}
 use Rattle.writer.proofs.Parts.{parts-next, next-fits, next-body}
-use Rattle.writer.proofs.Loops.{Filled, filled-start, filled-end, filled-fits, filled-more}
+use Rattle.writer.proofs.Loops.{FilledRoom, filled-start, filled-end, filled-fits, filled-more}
 use Rattle.writer.proofs.leaf_writer.put_entries.Statement.{statement}
 use Rattle.writer.proofs.leaf_writer.put_entries.Tie as tie
 
 abbrev Inv-loop : tie.InvT-loop
 Inv-loop room₀ start count kinds sizes bodies left₀ kind-rest₀ size-rest₀ body-rest₀ to₀ room left kind-rest size-rest body-rest to =
-    Filled room₀ start (entriesFrom count kinds sizes bodies) room left kind-rest size-rest body-rest to
+    FilledRoom room₀ start (entriesFrom count kinds sizes bodies) room left kind-rest size-rest body-rest to
 
 abbrev μ-loop : tie.MeasureT-loop
 μ-loop room₀ start count kinds sizes bodies left₀ kind-rest₀ size-rest₀ body-rest₀ to₀ room left kind-rest size-rest body-rest to = left
@@ -25,14 +25,14 @@ word-at-requires c κs = search needs
 count-at-requires : tie.Need-count-at-requires Inv-loop μ-loop
 count-at-requires c κs = search needs
 
-slice-aggregate-put-entry : tie.Need-slice-aggregate-put-entry Inv-loop μ-loop
+slice-aggregate-put-entry : tie.Need-slice-aggregate-put-block Inv-loop μ-loop
 slice-aggregate-put-entry c =
     let turn = c .before .before in
     sym (next-body _ _ _ (turn .before .before .before .loop .body-rest .now) _ _ (turn .before .before .loop-test .taken)
     (turn .before .before .before .loop .inv .parts) (turn .before .word-at .ensures) (turn .count-at .ensures .0))
 
-put-entry-requires : tie.Need-put-entry-requires Inv-loop μ-loop
-put-entry-requires c κs =
+put-block-requires : tie.Need-put-block-requires Inv-loop μ-loop
+put-block-requires c κs =
     let turn = c .before .before in
     filled-fits _ _ _ _ _ _ (turn .before .before .loop-test .taken) (turn .before .before .before .loop .inv .parts)
     (turn .before .word-at .ensures) (turn .count-at .ensures .0) (turn .before .before .before .loop .inv)
@@ -82,7 +82,7 @@ loop-again c =
     let turn = c .before .before .before .before .before .before .before .before in
     filled-more _ _ _ _ _ _ (turn .before .before .loop-test .taken) (turn .before .before .before .loop .inv .parts)
     (turn .before .word-at .ensures) (turn .count-at .ensures .0) (turn .before .before .before .loop .inv) _ _
-    (c .before .before .before .before .before .put-entry .ensures .0) (c .before .before .before .before .before .put-entry .ensures .1)
+    (c .before .before .before .before .before .put-block .ensures .0) (c .before .before .before .before .before .put-block .ensures .1)
 
 same-length : tie.Need-same-length Inv-loop μ-loop
 same-length c = c .before .loop .inv .same
@@ -101,7 +101,7 @@ put-entries-spec =
     word-at-requires
     count-at-requires
     slice-aggregate-put-entry
-    put-entry-requires
+    put-block-requires
     sub-kind-rest
     part-kind-rest-start
     part-kind-rest-end

@@ -3,7 +3,7 @@ use Prim.Native.Nat.{ℕ}
 use mathlib.Core.Path.{ap, _∙_}
 use mathlib.Core.List.{_++_}
 use Rattle.text.specs.Written.{textOf, fitted, blanksTo}
-use Rattle.text.proofs.Building.{after}
+use Rattle.text.proofs.Building.{fitted-after}
 use borrow.Author.Needs.{needs}
 use Rattle.text.proofs.line.Line.right_text.Statement.{statement}
 use Rattle.text.proofs.line.Line.right_text.Tie as tie
@@ -19,7 +19,7 @@ text-requires c κs = search needs
 
 returns : tie.Need-returns
 returns c = let a = c .before .before .before .before .args in
-    after _ _ (c .before .to .ensures) (c .text .ensures)
+    fitted-after _ _ (c .before .to .ensures) (c .text .ensures)
     ∙ ap (λ (n : ℕ). fitted (blanksTo n (textOf (a .self)) ++ a .text .now)) (c .before .before .less .ensures)
 
 pub right-text-spec : {M : Type 1} → statement M

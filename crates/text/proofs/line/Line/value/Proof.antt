@@ -4,7 +4,7 @@ use mathlib.Core.Path.{ap, _∙_}
 use mathlib.Core.List.{List, [], _∷_, _++_, append-assoc}
 use Rattle.text.specs.Numbers.{hexOf}
 use Rattle.text.specs.Written.{textOf, fitted}
-use Rattle.text.proofs.Building.{after}
+use Rattle.text.proofs.Building.{fitted-after}
 use Rattle.text.proofs.Patterns.{as-decimal, as-byte, as-word}
 use borrow.Author.Needs.{needs}
 use Rattle.text.proofs.line.Line.value.Statement.{statement}
@@ -40,7 +40,8 @@ returns-3 c =
     let a = c .before .before .before .before .before .args in
     let i = c .before .before .before .before .if1 in
     let i2 = c .before .before .before .if2 in
-    after _ _ (c .before .text .ensures) (c .hex2 .ensures) ∙ ap fitted (append-assoc (textOf (a .self)) (48 ∷ 120 ∷ []) (hexOf 4 (a .n)))
+    fitted-after _ _ (c .before .text .ensures) (c .hex2 .ensures) ∙ ap fitted
+    (append-assoc (textOf (a .self)) (48 ∷ 120 ∷ []) (hexOf 4 (a .n)))
     ∙ ap (λ (t : List ℕ). fitted (textOf (a .self) ++ t)) (as-word (a .mark) (a .n) (i .left) (i2 .left))
 
 pub value-spec : {M : Type 1} → statement M

@@ -1,0 +1,4 @@
+pub mod Xor
+pub mod Eight
+pub mod Answers
+pub mod Worked

@@ -1,0 +1,4 @@
+pub mod Image
+pub mod Arguments
+pub mod Cases
+pub mod Claims
