@@ -21,7 +21,7 @@ use Rattle.walk.specs.declared.Way.{Way}
 use Rattle.walk.specs.Walk.{is_fixed, has_medium, row_length, no_flags, flags, is_invalid, is_fixed_medium, no_rows, rows_of}
 use Rattle.walk.proofs.Taken.{same-way-taken}
 use Rattle.autosense.specs.declared.BlockFlags.{BlockFlags}
-use Rattle.autosense.specs.Inside.{block_flags, flags_in}
+use Rattle.autosense.specs.Inside.{block_flags, unflagged, flags_in}
 
 -- a row with the flags of the blocks bs from number k on
 unfoldable pub flags_from : (List ℕ → Bool) → ℕ → List (List ℕ) → List ℕ → List ℕ
@@ -48,9 +48,6 @@ unfolding no_flags flags
 all-flags p bs h = row-flags p [] bs row_length h
 
 -- a block that is not listed has no flag
-abbrev unflagged : BlockFlags
-unflagged = block_flags 0 0 0
-
 if-listed : (t x y : Bool) → block_flags (one t) (one (t && x)) (one (t && y)) ≡ pick t (block_flags 1 (one x) (one y)) unflagged
 unfolding pick
 if-listed true x y = refl

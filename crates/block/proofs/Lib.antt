@@ -4,5 +4,4 @@ pub mod Advertised
 pub mod Whole
 pub mod Seen
 pub mod Versions
-pub mod Values
 pub mod Own

@@ -1,12 +1,9 @@
 -- What is claimed of what a block is found to be.
-use Rattle.std.specs.Prelude.{ℕ, ◌≡◌, Bool, true, ◌&&◌, List, take}
+use Rattle.std.specs.Prelude.{ℕ, ◌≡◌, Bool, true, List, take}
 use Rattle.rom.specs.Geometry.{none}
 use Rattle.rom.specs.Bytes.{pick, one, byte_at, Bytes}
-use Rattle.block.specs.declared.Block.{Block}
-use Rattle.block.specs.declared.Block.TheVariants.{Refused}
-use Rattle.format.specs.Block.{size_of, kind_of, is_known, facts_of, is_listed, is_power, is_default, resets_a_phy, refusal_in, refusal_of}
-use Rattle.block.specs.Answer.{block_in, block_of, number_of, size_in, listed_in, no_kind, kind_in, invalid_in, default_in, phy_reset_in}
-use Rattle.block.specs.Answer.{code_in, capabilities_in, mode_in}
+use Rattle.format.specs.Block.{size_of, kind_of, is_known, facts_of, is_listed, is_power, refusal_in, refusal_of}
+use Rattle.block.specs.Answer.{block_in, block_of, number_of, size_in, listed_in, kind_in, code_in, capabilities_in, mode_in}
 
 -- the answer's number is the block's refusal, and an accepted block has its size
 abbrev pub AnswersRefusal : Type 0
@@ -14,57 +11,22 @@ AnswersRefusal = (row level : ℕ) (s : List ℕ) →
     (number_of (block_of row level s) ≡ refusal_of row level s)
     × (refusal_of row level s ≡ 0 → size_in (block_of row level s) ≡ size_of row s)
 
--- and says whether the block is listed, and the kind of one that the level knows
+-- and says whether the block is listed, and the kind in its entry
 abbrev pub AnswersEntry : Type 0
 AnswersEntry = (row level : ℕ) (s : List ℕ) → refusal_of row level s ≡ 0 →
     (listed_in (block_of row level s) ≡ one (is_listed row level s))
-    × (kind_in (block_of row level s) ≡ pick (is_known level (kind_of row s)) (kind_of row s) no_kind)
+    × (kind_in (block_of row level s) ≡ pick (is_listed row level s) (kind_of row s) 0)
 
--- and the media code, the capability word and the flags of a listed block, as its fields have them
+-- and the media code and the capability word of a listed block, as its fields have them
 abbrev pub AnswersMedium : Type 0
 AnswersMedium = (row level : ℕ) (s : List ℕ) → refusal_of row level s ≡ 0 →
     (code_in (block_of row level s) ≡ pick (is_listed row level s) (facts_of (kind_of row s) s).code none)
     × (capabilities_in (block_of row level s) ≡ pick (is_listed row level s) (facts_of (kind_of row s) s).capabilities 0)
-    × (invalid_in (block_of row level s) ≡ (is_listed row level s && (facts_of (kind_of row s) s).active_invalid))
-    × (default_in (block_of row level s) ≡ is_default row level s)
-    × (phy_reset_in (block_of row level s) ≡ resets_a_phy row level s)
 
 -- and the mode byte of a power block, which is behind its type
 abbrev pub AnswersMode : Type 0
 AnswersMode = (row level : ℕ) (s : List ℕ) → refusal_of row level s ≡ 0
     → mode_in (block_of row level s) ≡ pick (is_power row level s) (byte_at s 2) 0
-
--- a refused block has its number and no more, in every version
-abbrev pub AnswersRefused : Type 0
-AnswersRefused = (first : Bool) (row level n : ℕ) (s : List ℕ) → (n ≡ 0 → ⊥) →
-    (refusal_of row level s ≡ n → block_of row level s ≡ Refused n)
-    × (refusal_in first row level s ≡ n → block_in first row level s ≡ Refused n)
-
--- two blocks whose values are all equal
-pub record SameValues (b other : Block) : Type 0 where
-  pub number : number_of b ≡ number_of other
-  pub size : size_in b ≡ size_in other
-  pub listed : listed_in b ≡ listed_in other
-  pub kind : kind_in b ≡ kind_in other
-  pub invalid : invalid_in b ≡ invalid_in other
-  pub is_default : default_in b ≡ default_in other
-  pub resets_phy : phy_reset_in b ≡ phy_reset_in other
-  pub code : code_in b ≡ code_in other
-  pub capabilities : capabilities_in b ≡ capabilities_in other
-  pub mode : mode_in b ≡ mode_in other
-
--- what two blocks are found to be is told by the values: where all are equal, they are one and the same
-abbrev pub ValuesTell : Type 0
-ValuesTell = (first first' : Bool) (row row' level level' : ℕ) (s s' : List ℕ)
-    → SameValues (block_in first row level s) (block_in first' row' level' s')
-    → block_in first row level s ≡ block_in first' row' level' s'
-
--- and a listed block is told by its kind alone: a reset or a power block has another, and no kind is one that a block has. So what is
--- 0 in a PHY's capability word, or in a power block's mode, is not taken for 'has none'
-abbrev pub KindTells : Type 0
-KindTells = (first first' : Bool) (row row' level level' : ℕ) (s s' : List ℕ) → Bytes s → Bytes s'
-    → kind_in (block_in first row level s) ≡ kind_in (block_in first' row' level' s')
-    → listed_in (block_in first row level s) ≡ listed_in (block_in first' row' level' s')
 
 -- a level matters only by whether it knows the block
 abbrev pub OnlyKnown : Type 0

@@ -271,7 +271,7 @@ fn judge_type_5(rest: &[u8], len: usize) -> Block
     requires { (len ≡ length_of rest.now) × (len < 128) }
     ensures { result ≡ judged (sequence (is_wrong 5 rest.now) 0) (Block.Reset (1 + len)) }
 {
-    let resets = count_at(rest, ByteOffset(2));
+    let resets = count_at(rest, 2);
     if len != 2 * resets + 2 {
         return Block::Refused(refusal::BLOCK_LENGTH);
     }
@@ -283,7 +283,7 @@ fn judge_type_6(rest: &[u8], len: usize) -> Block
     requires { (len ≡ length_of rest.now) × (len < 128) }
     ensures { result ≡ as_power (1 + len) rest.now }
 {
-    let words = count_at(rest, ByteOffset(3));
+    let words = count_at(rest, 3);
     if len != 2 * words + 3 {
         return Block::Refused(refusal::BLOCK_LENGTH);
     }
@@ -301,8 +301,8 @@ fn judge_phy(rest: &[u8], len: usize, kind: u16, unit: usize) -> Block
     requires unit_bound { (unit ≤ 2) × (length_for kind rest.now ≡ phy_length unit rest.now) }
     ensures { result ≡ as_medium kind (1 + len) (phy (is_wrong kind rest.now) unit rest.now) }
 {
-    let general = unit * count_at(rest, ByteOffset(3));
-    let resets = count_at(rest, ByteOffset(4 + general));
+    let general = unit * count_at(rest, 3);
+    let resets = count_at(rest, 4 + general);
     let sequences = general + unit * resets;
     if len != 11 + unit + sequences {
         return Block::Refused(refusal::BLOCK_LENGTH);
@@ -346,7 +346,7 @@ fn judge_extended(rest: &[u8], row: usize, level: u8) -> Block
     requires { (row ≡ row21041 → ⊥) × (128 ≤ byte_at rest.now 0) }
     ensures { result ≡ block_of row level rest.now }
 {
-    let len = count_at(rest, ByteOffset(0)) % 128;
+    let len = count_at(rest, 0) % 128;
     if rest.len() <= len {
         return Block::Refused(refusal::BLOCK_END);
     }

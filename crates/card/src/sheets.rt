@@ -35,7 +35,7 @@ fn show_untidy(image: &[u8], layout: Layout) {
     } else {
         line::of(
             b"  a byte behind the leaf's last, before byte #, is not 0",
-            [layout.leaves_end().0 as u64, 0, 0, 0],
+            [layout.leaves_end() as u64, 0, 0, 0],
         )
         .print();
     }

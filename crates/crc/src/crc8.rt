@@ -52,11 +52,11 @@ fn feed_word(table: &[u8; 256], register: u8, image: &[u8], w: WordNumber) -> u8
 }
 
 // The register after the words that are left, one at most.
-fn feed_rest(table: &[u8; 256], register: u8, image: &[u8], w: WordNumber, end: WordNumber) -> u8
-    requires { (table.now ≡ crc8_table) × (w.0 ≤ end.0) × (end.0 ≤ w.0 + 1) × (2 * end.0 + 1 < length image.now) }
-    ensures { result ≡ crc8_words (end.0 - w.0) w.0 register image.now }
+fn feed_rest(table: &[u8; 256], register: u8, image: &[u8], w: WordNumber, end: u16) -> u8
+    requires { (table.now ≡ crc8_table) × (w.0 ≤ end) × (end ≤ w.0 + 1) × (2 * end + 1 < length image.now) }
+    ensures { result ≡ crc8_words (end - w.0) w.0 register image.now }
 {
-    if w.0 == end.0 {
+    if w.0 == end {
         return register;
     }
     feed_word(table, register, image, w)
@@ -68,16 +68,16 @@ pub(crate) fn of(image: &[u8], first: WordNumber, count: u16) -> u8
     ensures { result ≡ crc8 count first.0 image.now }
 {
     let table = table();
-    let end = WordNumber(first.0 + count);
+    let end = first.0 + count;
     let mut register: u8 = 0xFF;
-    let even = WordNumber(first.0 + count / 2 * 2);
-    let mut w = first;
-    while w.0 < even.0 {
-        register = feed_word(&table, register, image, w);
-        register = feed_word(&table, register, image, WordNumber(w.0 + 1));
-        w = WordNumber(w.0 + 2);
+    let even = first.0 + count / 2 * 2;
+    let mut w = first.0;
+    while w < even {
+        register = feed_word(&table, register, image, WordNumber(w));
+        register = feed_word(&table, register, image, WordNumber(w + 1));
+        w += 2;
     }
-    let fed = feed_rest(&table, register, image, even, end);
-    let last = end.high_byte().0;
+    let fed = feed_rest(&table, register, image, WordNumber(even), end);
+    let last = WordNumber(end).high_byte().0;
     feed(&table, fed, image[last])
 }

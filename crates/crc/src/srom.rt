@@ -5,7 +5,7 @@ ghost use Rattle.rom.specs.Geometry.{checked_length};
 ghost use Rattle.checksum.specs.Crc.{srom_bytes, reversed, ones, srom_crc};
 ghost use Rattle.crc.specs.Inside.{reflected, turns, srom_table};
 
-use rom::{ByteOffset, Layout};
+use rom::Layout;
 
 // What eight steps make of each value of the eight lowest bits.
 const TABLE: [u32; 256] = [
@@ -66,11 +66,10 @@ fn register_of(image: &[u8], layout: Layout) -> u32
     let table = table();
     let checked = layout.checked_length();
     let mut mixed: u32 = 0xFFFF_FFFF ^ (image[0] as u32);
-    let mut at = ByteOffset(1);
-    while at.0 < checked.0 {
-        let i = at.0;
-        mixed = turned(&table, mixed, image[i]);
-        at = ByteOffset(i + 1);
+    let mut at: usize = 1;
+    while at < checked {
+        mixed = turned(&table, mixed, image[at]);
+        at += 1;
     }
     turned(&table, mixed, 0)
 }

@@ -1,5 +1,4 @@
-// `card older`: what readers of every level see of a card, side by side, and whether they would walk alike, as `OlderReader` (crates/older)
-// says of any two levels.
+// `card older`: what readers of every level see of a card, side by side, and whether they would walk alike.
 use block::NEWEST_LEVEL;
 use reader::{Answer, Arguments};
 use report::words;

@@ -115,7 +115,7 @@ fn sum_of(sizes: &[u8]) -> usize
     let mut total: usize = 0;
     let mut i = 0;
     while i < sizes.len() {
-        total += rom::count_at(sizes, ByteOffset(i));
+        total += rom::count_at(sizes, i);
         i += 1;
     }
     total

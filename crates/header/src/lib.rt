@@ -97,7 +97,7 @@ fn bad_srom_crc(image: &[u8], layout: Layout) -> bool
     requires { wrong_length layout.size (length image.now) ≡ false }
     ensures { result ≡ not (eqb (word_at image.now (checked_length layout)) (srom_crc layout image.now)) }
 {
-    let stored = rom::word_at(image, layout.checked_length());
+    let stored = rom::word_at(image, ByteOffset(layout.checked_length()));
     stored != crc::srom_crc(image, layout).value
 }
 
@@ -249,7 +249,7 @@ fn leaf_refusal(image: &[u8], layout: Layout, first_edition: bool, row: usize, l
     if leaf <= reserved_at(image) {
         return refusal::LEAF_HEADER;
     }
-    if layout.leaves_end().0 < leaf + header_length(row) {
+    if layout.leaves_end() < leaf + header_length(row) {
         return refusal::LEAF_HEADER;
     }
     let permitted = chip::is_read(first_edition, row, rom::word_at(image, ByteOffset(leaf)));
@@ -306,7 +306,7 @@ pub fn up_to_leaves_end(image: &[u8], layout: Layout, start: usize) -> &[u8]
     ensures result_value { result.now ≡ up_to_leaves_end layout image.now start }
     ensures ref_ptr_value { result.ref_ptr ≡ (image.entry.ref_ptr.0, min start (length image.now) + image.entry.ref_ptr.1) }
 {
-    let end = layout.leaves_end().0;
+    let end = layout.leaves_end();
     let length = image.len();
     if length < start {
         return &image[length..];

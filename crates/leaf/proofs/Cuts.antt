@@ -3,7 +3,7 @@
 use Prim.Native.Nat.{ℕ, zero, suc, ◌+◌, ◌-◌, ◌≤◌, ◌<◌}
 use native.Mathlib.Omega.{arith}
 use native.Mathlib.Nat.{le_refl}
-use mathlib.Core.List.{List, [], ◌∷◌, map}
+use mathlib.Core.List.{List, [], ◌∷◌}
 use mathlib.Core.Bool.{Bool}
 use mathlib.Core.Path.{◌≡◌, refl, ap, sym, ◌∙◌}
 use lib.Dec.{lit<}
@@ -18,47 +18,27 @@ use Rattle.block.specs.Answer.{block_of, number_of, size_in}
 use Rattle.format.proofs.Exact.{causes-numbered}
 use Rattle.format.proofs.Levels.{causes-later}
 use Rattle.block.proofs.Seen.{SeenAs, seen_as, seen-number, seen_size, fits}
-use Rattle.leaf.specs.Leaf.{block_at, rest_at, next_block, placed, cut, block_causes, clash_cause, mode_cause, whole_causes, leaf_causes}
+use Rattle.leaf.specs.Leaf.{cut, block_causes, clash_cause, mode_cause, whole_causes, leaf_causes}
 use Rattle.leaf.specs.Claims.{ExactLeaf}
 
 -- ## The cut
 
--- the rests are the same wherever the first block stands
-same-rests : (row count at to : ℕ) (s : List ℕ)
-    → map rest_at (placed row count (block_at at s)) ≡ map rest_at (placed row count (block_at to s))
-unfolding placed
-same-rests row zero at to s = refl
-same-rests row (suc count) at to s =
-    let behind = next_block row (block_at at s) in
-    ap (λ (bs : List (List ℕ)). s ∷ bs) (same-rests row count behind.start (next_block row (block_at to s)).start behind.rest)
-
-pub placed-rests : (row count at : ℕ) (s : List ℕ) → map rest_at (placed row count (block_at at s)) ≡ cut row count s
-unfolding cut
-placed-rests row count at s = same-rests row count at 0 s
-
-pub cut-zero : (row : ℕ) (s : List ℕ) → cut row 0 s ≡ []
-unfolding cut placed
-cut-zero row s = refl
-
-pub cut-suc : (row count : ℕ) (s : List ℕ) → cut row (suc count) s ≡ s ∷ cut row count (drop (size_of row s) s)
-unfolding cut placed
-cut-suc row count s =
-    let size = size_of row s in
-    ap (λ (bs : List (List ℕ)). s ∷ bs) (same-rests row count (0 + size) 0 (drop size s))
-
 pub cut-more : (row count k : ℕ) (s : List ℕ) → k < count → cut row (count - k) s ≡ s ∷ cut row (count - (k + 1)) (drop (size_of row s) s)
+unfolding cut
 cut-more row count k s h =
     let e : count - k ≡ suc (count - (k + 1)) = omega arith in
-    ap (λ (n : ℕ). cut row n s) e ∙ cut-suc row (count - (k + 1)) s
+    rw e
 
 pub cut-none : (row count k : ℕ) (s : List ℕ) → count ≤ k → cut row (count - k) s ≡ []
+unfolding cut
 cut-none row count k s h =
     let e : count - k ≡ 0 = omega arith in
-    ap (λ (n : ℕ). cut row n s) e ∙ cut-zero row s
+    rw e
 
 pub cut-length : (row count : ℕ) (s : List ℕ) → length (cut row count s) ≡ count
-cut-length row zero s = ap length (cut-zero row s)
-cut-length row (suc count) s = ap length (cut-suc row count s) ∙ ap suc (cut-length row count (drop (size_of row s) s))
+unfolding cut
+cut-length row zero s = refl
+cut-length row (suc count) s = ap suc (cut-length row count (drop (size_of row s) s))
 
 -- a part from a place on has all the elements from there
 pub rest_part : (n : ℕ) (s : List ℕ) → take (length s - n) (drop n s) ≡ drop n s

@@ -3,7 +3,7 @@
 use Prim.Native.Nat.{ℕ, zero, suc, ◌+◌, ◌-◌, ◌≤◌, ◌<◌, zero-le}
 use native.Mathlib.Omega.{arith}
 use native.Mathlib.Nat.{le_refl, le_of_suc-le-suc, not-suc-le-zero}
-use mathlib.Core.List.{List, [], ◌∷◌, ◌++◌, map, append-nil, reverse, reverse-cons}
+use mathlib.Core.List.{List, [], ◌∷◌, ◌++◌, append-nil, reverse, reverse-cons}
 use mathlib.Core.Path.{◌≡◌, refl, ap, sym, ◌∙◌}
 use mathlib.Core.Bool.{Bool, true, false}
 use lib.ListN.{length, drop, get_or, length-append, length-drop}
@@ -14,8 +14,8 @@ use Rattle.block.specs.declared.Block.{Block}
 use Rattle.format.specs.Block.{size_of, is_listed, the_later_version}
 use Rattle.block.specs.Answer.{number_of, listed_in}
 use Rattle.block.proofs.Seen.{SeenAs, seen-listed, fits}
-use Rattle.leaf.specs.Leaf.{PlacedBlock, block_at, rest_at, placed, cut, count_of, block_causes, table, table_of}
-use Rattle.leaf.proofs.Cuts.{placed-rests, cut-suc, first-accepted}
+use Rattle.leaf.specs.Leaf.{cut, count_of, block_causes, PlacedBlock, placed, table, table_of}
+use Rattle.leaf.proofs.Cuts.{first-accepted}
 
 pub few-one : (t : Bool) → one t ≤ 1
 few-one true = le_refl _
@@ -62,16 +62,21 @@ table_more {row} {level} p ps v z = table-length row level p ps ∙ ap (λ (n : 
 
 -- ## The table's length
 
-table-counts : (row level : ℕ) (ps : List PlacedBlock) → length (table row level ps) ≡ count_of (is_listed row level) (map rest_at ps)
-unfolding count_of
-table-counts row level [] = rw no_blocks
-table-counts row level (p ∷ ps) = omega (arith, table-length row level p ps, table-counts row level ps)
+table-placed-length : (row level at : ℕ) (bs : List (List ℕ)) → length (table row level (placed row at bs)) ≡ count_of
+    (is_listed row level) bs
+unfolding placed count_of
+table-placed-length row level at [] = rw no_blocks
+table-placed-length row level at (s ∷ bs) =
+    omega (
+      arith,
+      table-length row level (record { start = at; rest = s }) (placed row (at + size_of row s) bs),
+      table-placed-length row level (at + size_of row s) bs,
+    )
 
 pub listed-length : (row level count at : ℕ) (s : List ℕ)
     → length (table_of row level count at s) ≡ count_of (is_listed row level) (cut row count s)
 unfolding table_of
-listed-length row level count at s =
-    table-counts row level (placed row count (block_at at s)) ∙ ap (count_of (is_listed row level)) (placed-rests row count at s)
+listed-length row level count at s = table-placed-length row level at (cut row count s)
 
 -- ## Where the entries of accepted blocks lie
 
@@ -117,13 +122,13 @@ lies-later row at n s h p l =
 
 pub every-lies : (row level count at : ℕ) (s : List ℕ) → first_met (block_causes the_later_version row level (cut row count s)) ≡ 0
     → Every (Lies row at s) (table_of row level count at s)
-unfolding table_of placed
+unfolding table_of cut placed
 every-lies row level zero at s h = rw no_blocks tt
 every-lies row level (suc count) at s h =
     let n = size_of row s in
-    let p = block_at at s in
+    let p : PlacedBlock = record { start = at; rest = s } in
     let later = table_of row level count (at + n) (drop n s) in
-    let a = first-accepted row level s (cut row count (drop n s)) (rw cut-suc at h) in
+    let a = first-accepted row level s (cut row count (drop n s)) h in
     let f = fits row level s a.0 in
     let z : at - at ≡ 0 = omega arith in
     let here : Lies row at s p = record { after = le_refl _; bytes = rw z; within = omega arith } in

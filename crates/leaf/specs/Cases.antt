@@ -1,11 +1,11 @@
 -- Cases a to j of document 01, 'Blocks to prove', and others on its rules, over the definitions; power blocks (document 02, request
 -- 3); blocks of version 1 (request 12); and where blocks start (request 2).
-use Rattle.std.specs.Prelude.{ℕ, suc, ◌-◌, List, [], ◌∷◌, ◌++◌, map, Bool, eqb, length, take, drop, replicate}
+use Rattle.std.specs.Prelude.{ℕ, suc, ◌-◌, List, [], ◌∷◌, ◌++◌, map, Bool, eqb, take, drop, replicate}
 use Rattle.rom.specs.Geometry.{small_size, without_magic, leaves_end}
 use Rattle.rom.specs.Bytes.{pick, byte_at}
 use Rattle.format.specs.Block.{the_later_version}
 use Rattle.format.specs.Chips.{row_of, row21140}
-use Rattle.leaf.specs.Leaf.{PlacedBlock, block_at, start_at, kind_at, placed, cut, start_by_stepping, table_of}
+use Rattle.leaf.specs.Leaf.{cut, start_by_stepping, running_start, table_of, kind_at, start_at}
 use Rattle.leaf.specs.Tally.{tally_of}
 
 -- a chip, a level, a leaf's bytes from byte 30 of the image on, and what is answered: the refusal's number, how many blocks
@@ -249,30 +249,29 @@ pub record StartsCase : Type 0 where
   pub blocks : List ℕ
   pub starts : List ℕ
 
-abbrev first_of_case : StartsCase → PlacedBlock
-first_of_case c = block_at (first_block_at (row_of c.chip)) c.blocks
-
--- all of them, one behind the other
-unfoldable pub run_placed : StartsCase → StartsCase
-run_placed c =
-    record {
-      chip = c.chip;
-      blocks = c.blocks;
-      starts = map start_at (placed (row_of c.chip) (length c.starts) (first_of_case c));
-    }
-
 -- the start of block k by a rule, and of as many behind it as are asked for
 unfoldable pub starts_from : (ℕ → ℕ) → ℕ → List ℕ → List ℕ
 starts_from start k [] = []
 starts_from start k (_ ∷ more) = start k ∷ starts_from start (suc k) more
 
--- each from the first on
 unfoldable pub run_stepped : StartsCase → StartsCase
 run_stepped c =
+    let row = row_of c.chip in
     record {
       chip = c.chip;
       blocks = c.blocks;
-      starts = starts_from (λ k. start_by_stepping (row_of c.chip) k (first_of_case c)) 0 c.starts;
+      starts = starts_from (λ k. start_by_stepping row (first_block_at row) k c.blocks) 0 c.starts;
+    }
+
+-- in an image that has the blocks where the first one stands
+unfoldable pub run_kept : StartsCase → StartsCase
+run_kept c =
+    let row = row_of c.chip in
+    let image = replicate (first_block_at row) 0 ++ c.blocks in
+    record {
+      chip = c.chip;
+      blocks = c.blocks;
+      starts = starts_from (λ k. running_start row (first_block_at row) k image) 0 c.starts;
     }
 
 abbrev starting : ℕ → List ℕ → List ℕ → StartsCase

@@ -1,9 +1,9 @@
 -- What is claimed of a leaf, at one level where there is one. `bs` are its blocks as they stand, `row` is the chip's.
-use Rattle.std.specs.Prelude.{ℕ, ◌+◌, ◌<◌, ◌≡◌, List, ◌++◌, map, Bool, get_or}
+use Rattle.std.specs.Prelude.{ℕ, ◌+◌, ◌<◌, ◌≡◌, List, ◌++◌, map, Bool, drop, get_or}
 use Rattle.rom.specs.Refusal.{first_met, Exact}
 use Rattle.format.specs.Block.{the_first_version, is_listed, is_reset, is_power, is_skipped}
-use Rattle.leaf.specs.Cases.{run_in, run_leaf, paper_cases, further_cases, power_cases, first_cases, run_placed, run_stepped, starts_cases}
-use Rattle.leaf.specs.Leaf.{PlacedBlock, placed, cut, place_by_stepping, Running, count_of, leaf_causes}
+use Rattle.leaf.specs.Cases.{run_in, run_leaf, paper_cases, further_cases, power_cases, first_cases, run_stepped, run_kept, starts_cases}
+use Rattle.leaf.specs.Leaf.{cut, count_of, leaf_causes, PlacedBlock, placed, place_by_stepping, start_by_stepping, running_start}
 
 -- a leaf's refusal is exact: other than 0, its cause is met and none before it is; 0, none is met
 abbrev pub ExactLeaf : Type 0
@@ -18,11 +18,13 @@ SortsAddUp = (row level count : ℕ) (s : List ℕ) →
 
 -- each block is placed where stepping from the first one leads
 abbrev pub PlacedByStepping : Type 0
-PlacedByStepping = (row count k : ℕ) (first d : PlacedBlock) → k < count → get_or (placed row count first) k d ≡ place_by_stepping row k first
+PlacedByStepping = (row at count k : ℕ) (s : List ℕ) (d : PlacedBlock) → k < count
+    → get_or (placed row at (cut row count s)) k d ≡ place_by_stepping row at k s
 
--- what a pass keeps from block to block equals at each block what stepping from the first one gives: its start, and its rest
+-- the start that is kept from block to block equals at each block the start that stepping from the first one gives, for blocks
+-- from a byte of an image on
 abbrev pub RunningStart : Type 0
-RunningStart = (row : ℕ) (first : PlacedBlock) (k : ℕ) (b : PlacedBlock) → Running row first k b → b ≡ place_by_stepping row k first
+RunningStart = (row first k : ℕ) (image : List ℕ) → running_start row first k image ≡ start_by_stepping row first k (drop first image)
 
 -- each worked case is answered as it says
 abbrev pub LeavesWorked : Type 0
@@ -35,4 +37,4 @@ abbrev pub FirstWorked : Type 0
 FirstWorked = map (run_in the_first_version) first_cases ≡ first_cases
 
 abbrev pub StartsWorked : Type 0
-StartsWorked = (map run_placed starts_cases ≡ starts_cases) × (map run_stepped starts_cases ≡ starts_cases)
+StartsWorked = (map run_stepped starts_cases ≡ starts_cases) × (map run_kept starts_cases ≡ starts_cases)

@@ -1,55 +1,15 @@
 -- The blocks of a leaf (document 01, 'Leaf and blocks', 'Levels and the table'; document 02, requests 2, 3 and 12). Each is given as
 -- the leaf's rest from its first byte on. No level changes where they are cut: the level only judges and lists.
-use Rattle.std.specs.Prelude.{ℕ, zero, suc, ◌+◌, List, [], ◌∷◌, ◌++◌, map, reverse, Bool, ◌||◌, ◌&&◌, drop, ltb}
+use Rattle.std.specs.Prelude.{ℕ, zero, suc, ◌+◌, List, [], ◌∷◌, ◌++◌, reverse, Bool, ◌||◌, ◌&&◌, drop, ltb}
 use Rattle.rom.specs.Geometry.{none}
 use Rattle.rom.specs.Bytes.{pick, one, keep, any_below}
 use Rattle.rom.specs.Refusal.{Cause, ◌⇒◌}
 use Rattle.format.specs.Block.{size_of, kind_of, is_listed, is_reset, is_default, resets_a_phy, sets_mode, causes}
 
--- ## Where they stand
-
--- a block with its byte offset in the image
-pub record PlacedBlock : Type 0 where
-  pub start : ℕ
-  pub rest : List ℕ
-
-abbrev pub block_at : ℕ → List ℕ → PlacedBlock
-block_at start rest = record { start = start; rest = rest }
-
-abbrev pub start_at : PlacedBlock → ℕ
-start_at b = b.start
-
-abbrev pub rest_at : PlacedBlock → List ℕ
-rest_at b = b.rest
-
-abbrev pub kind_at : ℕ → PlacedBlock → ℕ
-kind_at row b = kind_of row b.rest
-
--- a step: the next block stands behind this one, further on by its size
-abbrev pub next_block : ℕ → PlacedBlock → PlacedBlock
-next_block row b = block_at (b.start + size_of row b.rest) (drop (size_of row b.rest) b.rest)
-
--- so many blocks, numbered from 0 as they stand, from the first on
-unfoldable pub placed : ℕ → ℕ → PlacedBlock → List PlacedBlock
-placed row zero b = []
-placed row (suc n) b = b ∷ placed row n (next_block row b)
-
--- the blocks alone: where the first stands makes no difference
+-- so many blocks, numbered from 0 as they stand
 unfoldable pub cut : ℕ → ℕ → List ℕ → List (List ℕ)
-cut row count s = map rest_at (placed row count (block_at 0 s))
-
--- block k, found by k steps from the first; of k blocks, what stands behind the last
-unfoldable pub place_by_stepping : ℕ → ℕ → PlacedBlock → PlacedBlock
-place_by_stepping row zero first = first
-place_by_stepping row (suc k) first = place_by_stepping row k (next_block row first)
-
-abbrev pub start_by_stepping : ℕ → ℕ → PlacedBlock → ℕ
-start_by_stepping row k first = (place_by_stepping row k first).start
-
--- what a pass over blocks keeps: how many it has passed, and what stands next, which is found by one step from the last
-pub data Running (row : ℕ) (first : PlacedBlock) : ℕ → PlacedBlock → Type 0 where
-  begun : Running row first 0 first
-  passed : {k : ℕ} {b : PlacedBlock} → Running row first k b → Running row first (k + 1) (next_block row b)
+cut row zero s = []
+cut row (suc n) s = s ∷ cut row n (drop (size_of row s) s)
 
 -- ## Counts
 
@@ -90,10 +50,40 @@ leaf_causes first row level bs = block_causes first row level bs ++ whole_causes
 
 -- ## The table
 
+-- a block with its byte offset in the image
+pub record PlacedBlock : Type 0 where
+  pub start : ℕ
+  pub rest : List ℕ
+
+-- the blocks with their offsets, the first at `at`
+unfoldable pub placed : ℕ → ℕ → List (List ℕ) → List PlacedBlock
+placed row at [] = []
+placed row at (s ∷ bs) = record { start = at; rest = s } ∷ placed row (at + size_of row s) bs
+
+-- block k, found by k steps from the first, which stands at `at`: each goes on by the size of the block there
+unfoldable pub place_by_stepping : ℕ → ℕ → ℕ → List ℕ → PlacedBlock
+place_by_stepping row at zero s = record { start = at; rest = s }
+place_by_stepping row at (suc k) s = place_by_stepping row (at + size_of row s) k (drop (size_of row s) s)
+
+abbrev pub start_by_stepping : ℕ → ℕ → ℕ → List ℕ → ℕ
+start_by_stepping row at k s = (place_by_stepping row at k s).start
+
+-- block k's start in an image, kept from block to block: that of the block before it, and the size of the block that starts there
+unfoldable pub running_start : ℕ → ℕ → ℕ → List ℕ → ℕ
+running_start row first zero image = first
+running_start row first (suc k) image =
+    running_start row first k image + size_of row (drop (running_start row first k image) image)
+
 -- listed blocks from the last to the first
 unfoldable pub table : ℕ → ℕ → List PlacedBlock → List PlacedBlock
 table row level bs = reverse (keep (λ b. is_listed row level b.rest) bs)
 
 -- the table of so many blocks, of which the first stands at byte `at` of the image
 unfoldable pub table_of : ℕ → ℕ → ℕ → ℕ → List ℕ → List PlacedBlock
-table_of row level count at s = table row level (placed row count (block_at at s))
+table_of row level count at s = table row level (placed row at (cut row count s))
+
+abbrev pub kind_at : ℕ → PlacedBlock → ℕ
+kind_at row b = kind_of row b.rest
+
+abbrev pub start_at : PlacedBlock → ℕ
+start_at b = b.start

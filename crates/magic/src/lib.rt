@@ -25,35 +25,34 @@ pub const CRC: u8 = 30;
 pub const LAST: u8 = 31;
 
 // Where a field stands in an image.
-pub fn field_at(size: u16, field: u8) -> ByteOffset
-    ensures { result.0 ≡ place size field }
+pub fn field_at(size: u16, field: u8) -> usize
+    ensures { result ≡ place size field }
 {
-    ByteOffset(rom::magic_at(size).0 + (field as usize))
+    rom::magic_at(size) + (field as usize)
 }
 
 // The same in an image of the right length, whose last bytes the block is.
-fn place_in(image: &[u8], field: u8) -> ByteOffset
+fn place_in(image: &[u8], field: u8) -> usize
     requires { 32 ≤ length image.now }
-    ensures { result.0 ≡ (length image.now - 32) + field }
+    ensures { result ≡ (length image.now - 32) + field }
 {
-    ByteOffset(image.len() - rom::MAGIC_LENGTH + (field as usize))
+    image.len() - rom::MAGIC_LENGTH + (field as usize)
 }
 
 // A byte, and a word, that are known to be there.
-fn byte_in(image: &[u8], at: ByteOffset) -> u8
-    requires { at.0 < length image.now }
-    ensures { result ≡ byte_at image.now at.0 }
+fn byte_in(image: &[u8], at: usize) -> u8
+    requires { at < length image.now }
+    ensures { result ≡ byte_at image.now at }
 {
-    let i = at.0;
-    image[i]
+    image[at]
 }
 
-fn word_in(image: &[u8], at: ByteOffset) -> u16
-    requires { at.0 + 1 < length image.now }
-    ensures { result ≡ word_at image.now at.0 }
+fn word_in(image: &[u8], at: usize) -> u16
+    requires { at + 1 < length image.now }
+    ensures { result ≡ word_at image.now at }
 {
     let low = byte_in(image, at);
-    let high = byte_in(image, ByteOffset(at.0 + 1));
+    let high = byte_in(image, at + 1);
     (low as u16) + 256 * (high as u16)
 }
 
@@ -73,8 +72,8 @@ fn bad_reserved(image: &[u8], size: u16) -> bool
     requires { wrong_length size (length image.now) ≡ false }
     ensures { result ≡ bad_reserved size image.now }
 {
-    let start = place_in(image, ZEROS).0;
-    let end = place_in(image, CRC).0;
+    let start = place_in(image, ZEROS);
+    let end = place_in(image, CRC);
     let zeros = rom::all_zero(&image[start..end]);
     if !zeros {
         return true;
@@ -100,14 +99,13 @@ pub fn judge(image: &[u8], size: u16) -> u8
     refusal::ACCEPTED
 }
 
-fn six_at(image: &[u8], at: ByteOffset) -> [u8; 6]
-    requires { at.0 + 6 ≤ length image.now }
-    ensures { result ≡ take 6 (drop at.0 image.now) }
+fn six_at(image: &[u8], at: usize) -> [u8; 6]
+    requires { at + 6 ≤ length image.now }
+    ensures { result ≡ take 6 (drop at image.now) }
 {
     let mut six = [0u8; 6];
-    let start = at.0;
-    let end = start + 6;
-    put_bytes(&mut six, ByteOffset(0), &image[start..end]);
+    let end = at + 6;
+    put_bytes(&mut six, ByteOffset(0), &image[at..end]);
     six
 }
 
@@ -174,8 +172,8 @@ pub fn write(magic: Magic, image: &mut [u8], size: u16) -> u8
     let start = place_in(image, PASSWORD);
     let crc_at = place_in(image, CRC);
     let block = block_of(magic);
-    put_bytes(image, start, &block);
+    put_bytes(image, ByteOffset(start), &block);
     let crc = crc::magic_crc(image, size).value;
-    put_byte(image, crc_at, crc as u8);
+    put_byte(image, ByteOffset(crc_at), crc as u8);
     refusal::ACCEPTED
 }

@@ -16,9 +16,9 @@ use Rattle.format.specs.Chips.{newest_level}
 use Rattle.format.specs.Block.{is21041, is_extended, length_of, sia_size, size_of, causes, refusal_of}
 use Rattle.block.proofs.Seen.{fits}
 use Rattle.block.proofs.Whole.{size_small}
-use Rattle.leaf.specs.Leaf.{block_at, start_at, start_by_stepping}
+use Rattle.leaf.specs.Leaf.{PlacedBlock, start_by_stepping}
 use Rattle.leaf.proofs.Cuts.{cut-more, cut-none, rest_part, first-accepted}
-use Rattle.leaf.proofs.Stepping.{running-start, Passing, passing-first, passing-more}
+use Rattle.leaf.proofs.Stepping.{Passing, passing-first, passing-more}
 use Rattle.sheet.specs.Image.{opening_length, body_of, entry_from}
 use Rattle.maker.specs.Inside.{AcceptedBlocks, entries_of}
 
@@ -86,21 +86,20 @@ module _ (row : ℕ) (s : List ℕ) {count k : ℕ} where
 
 -- ## What both passes keep: k blocks are passed, and the running start is the next one's, as stepping from the first gives it
 
-pub record RunningIn (row first count : ℕ) (leaves : List ℕ) (k start : ℕ) : Type 0 where
+pub record Running (row first count : ℕ) (leaves : List ℕ) (k start : ℕ) : Type 0 where
   pub passing : Passing row newest_level first count (drop first leaves) k start (drop start leaves)
   pub inside : start ≤ length leaves
   pub within : k ≤ count
 
 pub running-first : {row first count : ℕ} {leaves : List ℕ} → first ≤ length leaves → AcceptedBlocks row count (drop first leaves)
-    → RunningIn row first count leaves 0 first
+    → Running row first count leaves 0 first
 running-first h e = record { passing = passing-first e; inside = h; within = omega arith }
 
-pub running-last : {row first count : ℕ} {leaves : List ℕ} {k start : ℕ} → RunningIn row first count leaves k start → count ≤ k
-    → start ≡ start_by_stepping row count (block_at first (drop first leaves))
-running-last {row} {first} {count} {leaves} {k} {start} p h =
+pub running-last : {row first count : ℕ} {leaves : List ℕ} {k start : ℕ} → Running row first count leaves k start → count ≤ k
+    → start ≡ start_by_stepping row first count (drop first leaves)
+running-last {row} {first} {count} {leaves} {k} p h =
     let e : k ≡ count = omega (arith, p.within) in
-    let b = block_at first (drop first leaves) in
-    ap start_at (running-start row b k (block_at start (drop start leaves)) p.passing.running) ∙ ap (λ (n : ℕ). start_by_stepping row n b) e
+    ap (λ (q : PlacedBlock). q.start) p.passing.stands ∙ ap (λ (n : ℕ). start_by_stepping row first n (drop first leaves)) e
 
 -- the rest from a start on, as the code takes it
 abbrev pub from : List ℕ → ℕ → List ℕ
@@ -116,9 +115,9 @@ pub record Turn (row first count : ℕ) (leaves : List ℕ) (k start size openin
   pub long : length (body_of row (drop start leaves)) ≡ size - opening
   pub left : entries_of row (count - k) (drop start leaves)
       ≡ entry_from row (drop start leaves) ∷ entries_of row (count - (k + 1)) (drop (start + size) leaves)
-  pub next : RunningIn row first count leaves (k + 1) (start + size)
+  pub next : Running row first count leaves (k + 1) (start + size)
 
-pub next-turn : {row first count : ℕ} {leaves : List ℕ} {k start : ℕ} → RunningIn row first count leaves k start → k < count
+pub next-turn : {row first count : ℕ} {leaves : List ℕ} {k start : ℕ} → Running row first count leaves k start → k < count
     → {size opening : ℕ} → size ≡ size_of row (from leaves start) → opening ≡ opening_length row (from leaves start)
     → Turn row first count leaves k start size opening
 next-turn {row} {first} {count} {leaves} {k} {start} p h {size} {opening} es eo =

@@ -16,7 +16,7 @@ use Rattle.sheet.specs.Sheet.{kind_bytes, size_bytes, body_bytes, parts_of}
 use Rattle.sheet.specs.Image.{body_of}
 use Rattle.sheet.proofs.Sheets.{kind-length, size-length}
 use Rattle.maker.specs.Inside.{AcceptedBlocks, entries_of}
-use Rattle.maker.proofs.Blocks.{entries_none, RunningIn, running-first, from, Turn}
+use Rattle.maker.proofs.Blocks.{entries_none, Running, running-first, from, Turn}
 use Rattle.maker.proofs.Sheets.{entries-long, three-put, parts-long}
 
 -- ## Three parts, each at its own place
@@ -91,7 +91,7 @@ parts_at count sheet k to es =
     three_at sheet (head_length + 2 * k) (kind_bytes es) (head_length + 2 * count + k) (size_bytes es) to (body_bytes es)
 
 pub record Filling (row first count : ℕ) (leaves sheet₀ : List ℕ) (k start : ℕ) (sheet : List ℕ) (to : ℕ) : Type 0 where
-  pub running : RunningIn row first count leaves k start
+  pub running : Running row first count leaves k start
   pub filled : parts_at count sheet k to (entries_of row (count - k) (drop start leaves))
       ≡ put sheet₀ head_length (parts_of (entries_of row count (drop first leaves)))
   pub behind : head_length + 3 * count ≤ to

@@ -43,6 +43,7 @@ use Rattle.maker.specs.Inside.{AcceptedBlocks, entries_of, measured_of, is_tidy_
 use Rattle.maker.proofs.Sheets.{enough, front_long, field-long, third-room, three-put, read_whole_lem, read-entries, read_count}
 use Rattle.maker.proofs.Sheets.{read-content, content-long}
 use Rattle.maker.proofs.Sheets.{read-leaf, leaves-long, read-blocks, read-long}
+use Rattle.maker.proofs.Measuring.{stepping-sizes}
 
 -- ## Whether an image is tidy
 
@@ -254,7 +255,9 @@ module _ (form : Form) (l : Layout) (edition : Bool) (served : is_beyond form l.
 
       end_is : m.end ≡ leaf_end l chip image
       unfolding leaf_end measured_of accepted_reading accepted_answer newest_in
-      end_is = rw (measured, is_read_lem.known)
+      end_is =
+          rw measured
+          (stepping-sizes r.row r.start r.answer.blocks (up_to_leaves_end l image r.start) ∙ rw is_read_lem.known)
 
       tidy-is : is_tidy_from l m.end image ≡ is_tidy l chip image
       unfolding is_tidy_from is_tidy

@@ -1,20 +1,27 @@
 -- The bodies that are measured and those that are left make up the whole. Assumes nothing.
-use Prim.Native.Nat.{ℕ, ◌+◌, ◌-◌, ◌≤◌}
+use Prim.Native.Nat.{ℕ, zero, suc, ◌+◌, ◌-◌, ◌≤◌}
 use native.Mathlib.Omega.{arith}
 use native.Mathlib.Nat.{sub-zero, zero-add}
 use mathlib.Core.Path.{◌≡◌, ap, ◌∙◌}
 use mathlib.Core.List.{List}
 use lib.ListN.{length, drop, length-append}
-use Rattle.leaf.specs.Leaf.{block_at, start_by_stepping}
+use Rattle.format.specs.Block.{size_of}
+use Rattle.leaf.specs.Leaf.{cut, place_by_stepping, start_by_stepping}
 use Rattle.sheet.specs.Record.{Entry}
 use Rattle.sheet.specs.Sheet.{body_bytes}
-use Rattle.sheet.specs.Image.{body_of}
+use Rattle.sheet.specs.Image.{body_of, sizes}
 use Rattle.maker.specs.Inside.{AcceptedBlocks, entries_of, measured_of}
 use Rattle.maker.specs.declared.parts.Measured.{Measured}
-use Rattle.maker.proofs.Blocks.{entries_none, RunningIn, running-first, running-last, Turn}
+use Rattle.maker.proofs.Blocks.{entries_none, Running, running-first, running-last, Turn}
+
+-- the blocks' sizes lead from the first start to the end
+pub stepping-sizes : (row at count : ℕ) (s : List ℕ) → start_by_stepping row at count s ≡ at + sizes row (cut row count s)
+unfolding place_by_stepping cut sizes
+stepping-sizes row at zero s = omega arith
+stepping-sizes row at (suc count) s = omega (arith, stepping-sizes row (at + size_of row s) count (drop (size_of row s) s))
 
 pub record Measuring (row first count : ℕ) (leaves : List ℕ) (k start total : ℕ) : Type 0 where
-  pub running : RunningIn row first count leaves k start
+  pub running : Running row first count leaves k start
   pub bodies : total + length (body_bytes (entries_of row (count - k) (drop start leaves)))
       ≡ length (body_bytes (entries_of row count (drop first leaves)))
   pub less : total ≤ start
@@ -29,7 +36,7 @@ module _ {row first count : ℕ} {leaves : List ℕ} {k start total : ℕ} (i : 
       × ((start ≤ length leaves) × (total ≤ start))
   unfolding measured_of body_bytes
   measuring-last h =
-      let a : start ≡ start_by_stepping row count (block_at first (drop first leaves)) = running-last i.running h in
+      let a : start ≡ start_by_stepping row first count (drop first leaves) = running-last i.running h in
       let b : total ≡ length (body_bytes (entries_of row count (drop first leaves)))
       = omega (arith, i.bodies, ap (λ (es : List Entry). length (body_bytes es)) (entries_none row (drop start leaves) h)) in
       (λ j. record { end = a j; bodies = b j }, (i.running.inside, i.less))

@@ -8,7 +8,7 @@ use Rattle.rom.specs.Refusal.{first_met}
 use Rattle.format.specs.Chips.{newest_level}
 use Rattle.image.specs.Image.{controller_count, leaf_at, up_to_leaves_end}
 use Rattle.format.specs.Block.{the_later_version}
-use Rattle.leaf.specs.Leaf.{block_at, cut, start_by_stepping, block_causes}
+use Rattle.leaf.specs.Leaf.{cut, block_causes, start_by_stepping}
 use Rattle.reader.specs.declared.Answer.{Answer}
 use Rattle.reader.specs.declared.Reading.{Reading}
 use Rattle.reader.specs.Reading.{judged_reading}
@@ -34,7 +34,7 @@ entries_of row count s = map (entry_from row) (cut row count s)
 -- where they end, the first being at `first`, and how many bytes their bodies have
 unfoldable pub measured_of : ℕ → ℕ → ℕ → List ℕ → Measured
 measured_of row first count s =
-    record { end = start_by_stepping row count (block_at first s); bodies = length (body_bytes (entries_of row count s)) }
+    record { end = start_by_stepping row first count s; bodies = length (body_bytes (entries_of row count s)) }
 
 -- n = 1, leaf at 30, zeros from a place up to where leaves end
 unfoldable pub is_tidy_from : Layout → ℕ → List ℕ → Bool

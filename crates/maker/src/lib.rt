@@ -57,8 +57,8 @@ fn put_fields(shifted: &mut [u8], image: &[u8], chip: u16, layout: Layout, answe
     put_word(shifted, ByteOffset(sheet::CHIP_AT), chip);
     put_word(shifted, ByteOffset(sheet::CONNECTION_AT), answer.connection);
     put_byte(shifted, ByteOffset(sheet::CONTROL_AT), answer.control);
-    let maker = layout.leaves_end().0;
-    let end = layout.checked_length().0;
+    let maker = layout.leaves_end();
+    let end = layout.checked_length();
     put_bytes(shifted, ByteOffset(sheet::MAKER_AT), &image[maker..end]);
 }
 

@@ -3,7 +3,6 @@ pub mod OlderAnswer
 pub mod Numbered
 pub mod Simulation
 pub mod Lacking
-pub mod Nameless
 pub mod OlderReadings
 pub mod OlderReader
 pub mod Order
@@ -12,6 +11,4 @@ pub mod Counting
 pub mod Standing
 pub mod Repeated
 pub mod Editions
-pub mod TwoCards
 pub mod Taken
-pub mod Empty

@@ -126,41 +126,40 @@ both-lengths older (e ∷ es) = go (is_known older e.kind) (both-lengths older e
 
 -- ## The older reading
 
-module _ (image : List ℕ) (a : Arguments) (older newer : ℕ) (h : older < newer)
-    (e : first_met (judge_causes image (at_level a newer)) ≡ 0) where
+module _ (image : List ℕ) (a : Arguments) (older : ℕ) (h : older < newest_level)
+    (e : first_met (judge_causes image (at_level a newest_level)) ≡ 0) where
   abbrev new : Arguments
-  new = at_level a newer
+  new = at_level a newest_level
 
   abbrev old : Arguments
   old = at_level a older
 
-  down : older ≤ newer
+  down : older ≤ newest_level
   down = omega arith
 
   pub default-number : (accepted_answer image old).default_number
-      ≡ pick (removed_block image a older newer (accepted_answer image new).default_number) none
-      (accepted_answer image new).default_number
+      ≡ pick (removed_block image a older (accepted_answer image new).default_number) none (accepted_answer image new).default_number
   unfolding accepted_answer leaf_causes_for
   default-number =
-      older-default (row_for a) older newer (blocks_for image a) down
-      (accepted-defaults (is_first_version image) (row_for a) newer (blocks_for image a) (reading-parts image new e).1)
-      ∙ default-kept (row_for a) older newer (blocks_for image a)
+      older-default (row_for a) older newest_level (blocks_for image a) down
+      (accepted-defaults (is_first_version image) (row_for a) newest_level (blocks_for image a) (reading-parts image new e).1)
+      ∙ default-kept (row_for a) older newest_level (blocks_for image a)
 
   filtered : map (as_entry (row_for a)) (table_for image old) ≡ keep (kept older) (map (as_entry (row_for a)) (table_for image new))
   unfolding table_of
   filtered =
-      ap (map (as_entry (row_for a))) (older-table (row_for a) older newer _ down) ∙ keep-map (row_for a) older (table_for image new)
+      ap (map (as_entry (row_for a))) (older-table (row_for a) older newest_level _ down) ∙ keep-map (row_for a) older (table_for image new)
 
   listed-table : (b : Arguments) → length (map (as_entry (row_for b)) (table_for image b)) ≡ (accepted_answer image b).listed
   unfolding accepted_answer
   listed-table b = length-map (table_for image b) _
       ∙ listed-length (row_for b) b.level (count_for image b) (start_for image b) (up_to_leaves_end b.layout image (start_for image b))
 
-  pub reads-agree : ReadsAgree image a older newer
+  pub reads-agree : ReadsAgree image a older
   unfolding accepted_answer pick
   reads-agree n o rn ro =
-      let e' = judge-down image a older newer down e in
-      let counts = older-counts (row_for a) older newer (blocks_for image a) down in
+      let e' = judge-down image a older newest_level down e in
+      let counts = older-counts (row_for a) older newest_level (blocks_for image a) down in
       rw (answer-is image new e n rn, table_is image new e n rn, answer-is image old e' o ro, table_is image old e' o ro)
       (record {
         accepts = refl;
@@ -179,6 +178,6 @@ module _ (image : List ℕ) (a : Arguments) (older newer : ℕ) (h : older < new
               listed-table new,
             );
         skipped = sym counts.2;
-        power = counts.3;
+        power = counts.3 ∙ rw (le-ltb 6 older (omega arith));
         table = filtered;
       })

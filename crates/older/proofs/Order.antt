@@ -8,13 +8,13 @@ use mathlib.Core.Bool.{Bool, true, false, ◌&&◌, not}
 use lib.ListN.{length, get_or, replicate, length-append, length-map, length-replicate, replicate-append-replicate}
 use Rattle.rom.specs.Bytes.{pick, one, Bytes, keep}
 use Rattle.rom.proofs.Truth.{and-false}
-use Rattle.format.specs.Block.{is_listed}
+use Rattle.format.specs.Block.{size_of, is_listed}
 use Rattle.image.specs.declared.Arguments.{Arguments}
 use Rattle.image.specs.Image.{up_to_leaves_end}
 use Rattle.image.specs.Arguments.{row_for, start_for, count_for}
-use Rattle.leaf.specs.Leaf.{PlacedBlock, block_at, rest_at, table, table_of}
-use Rattle.leaf.proofs.Cuts.{placed-rests, cut-length}
-use Rattle.reader.specs.Reading.{placed_for, blocks_for, accepted_answer}
+use Rattle.leaf.specs.Leaf.{PlacedBlock, placed, table, table_of}
+use Rattle.leaf.proofs.Cuts.{cut-length}
+use Rattle.reader.specs.Reading.{blocks_for, accepted_answer}
 use Rattle.rom.specs.Geometry.{none}
 use Rattle.walk.specs.Walk.{row_length, no_flags, flags, block_is, is_invalid, is_fixed_medium, is_up, rows_of, loaded_walk, last_below, is_candidate}
 use Rattle.walk.specs.Walk.{first_up, fixed_block}
@@ -190,22 +190,23 @@ map-reverse f (k ∷ ks) =
     ap (map f) (reverse-cons k ks) ∙ map-append f (reverse ks) (k ∷ []) ∙ ap (λ (t : List PlacedBlock). t ++ f k ∷ []) (map-reverse f ks)
     ∙ sym (reverse-cons (f k) (map f ks))
 
-keep-numbers : (p : List ℕ → Bool) (k : ℕ) (bs whole : List PlacedBlock) (d : PlacedBlock)
-    → ((j : ℕ) → get_or whole (k + j) d ≡ get_or bs j d)
-    → keep (λ b. p b.rest) bs ≡ map (λ n. get_or whole n d) (numbers_from p k (map rest_at bs))
-unfolding keep numbers_from pick
-keep-numbers p k [] whole d h = refl
-keep-numbers p k (b ∷ bs) whole d h =
-    go (p b.rest) (ap (λ (n : ℕ). get_or whole n d) (sym (add-zero k)) ∙ h 0)
-    (keep-numbers p (k + 1) bs whole d (λ j. ap (λ (n : ℕ). get_or whole n d) (later j) ∙ h (suc j)))
+keep-numbers : (p : List ℕ → Bool) (row k at : ℕ) (bs : List (List ℕ)) (whole : List PlacedBlock) (d : PlacedBlock)
+    → ((j : ℕ) → get_or whole (k + j) d ≡ get_or (placed row at bs) j d)
+    → keep (λ b. p b.rest) (placed row at bs) ≡ map (λ n. get_or whole n d) (numbers_from p k bs)
+unfolding keep placed numbers_from pick
+keep-numbers p row k at [] whole d h = refl
+keep-numbers p row k at (s ∷ bs) whole d h =
+    go (p s) (ap (λ (n : ℕ). get_or whole n d) (sym (add-zero k)) ∙ h 0)
+    (keep-numbers p row (k + 1) (at + size_of row s) bs whole d (λ j. ap (λ (n : ℕ). get_or whole n d) (later j) ∙ h (suc j)))
   where
     later : (j : ℕ) → k + 1 + j ≡ k + suc j
     later j = omega arith
 
-    go : (t : Bool) → get_or whole k d ≡ b
-        → keep (λ b. p b.rest) bs ≡ map (λ n. get_or whole n d) (numbers_from p (k + 1) (map rest_at bs))
-        → pick t (b ∷ keep (λ b. p b.rest) bs) (keep (λ b. p b.rest) bs)
-        ≡ map (λ n. get_or whole n d) (pick t (k ∷ numbers_from p (k + 1) (map rest_at bs)) (numbers_from p (k + 1) (map rest_at bs)))
+    go : (t : Bool) → get_or whole k d ≡ record { start = at; rest = s }
+        → keep (λ b. p b.rest) (placed row (at + size_of row s) bs) ≡ map (λ n. get_or whole n d) (numbers_from p (k + 1) bs)
+        → pick t (record { start = at; rest = s } ∷ keep (λ b. p b.rest) (placed row (at + size_of row s) bs))
+        (keep (λ b. p b.rest) (placed row (at + size_of row s) bs))
+        ≡ map (λ n. get_or whole n d) (pick t (k ∷ numbers_from p (k + 1) bs) (numbers_from p (k + 1) bs))
     go true e ih = rw (e, ih)
     go false e ih = ih
 
@@ -213,10 +214,7 @@ pub table-numbers : TableNumbers
 unfolding table_of table entry_numbers
 table-numbers image a =
     let bs = blocks_for image a in
-    let whole = placed_for image a in
+    let whole = placed (row_for a) (start_for image a) bs in
     let p = is_listed (row_for a) a.level in
-    let f : ℕ → PlacedBlock = λ n. get_or whole n (block_at 0 []) in
-    let rests = placed-rests (row_for a) (count_for image a) (start_for image a) (up_to_leaves_end a.layout image (start_for image a)) in
-    ap reverse (keep-numbers p 0 whole whole _ (λ j. ap f (zero-add j))
-    ∙ ap (λ (l : List (List ℕ)). map f (numbers_from p 0 l)) rests)
-    ∙ sym (map-reverse f (numbers_from p 0 bs))
+    ap reverse (keep-numbers p (row_for a) 0 (start_for image a) bs whole _ (λ j. ap (λ (n : ℕ). get_or whole n _) (zero-add j)))
+    ∙ sym (map-reverse _ (numbers_from p 0 bs))

@@ -10,12 +10,11 @@ use lib.ListN.{get_or}
 use borrow.Author.Tests.{eqb-true, eq-eqb, ne_eqb}
 use Rattle.rom.specs.Bytes.{pick, is_in}
 use Rattle.rom.proofs.Truth.{and-false}
-use Rattle.format.specs.Block.{kind_of, is_known, is_listed}
-use Rattle.image.specs.Image.{up_to_leaves_end}
-use Rattle.image.specs.Arguments.{row_for, start_for, count_for, at_level}
-use Rattle.leaf.specs.Leaf.{PlacedBlock}
-use Rattle.leaf.proofs.Stepping.{placed-rest}
-use Rattle.reader.specs.Reading.{placed_for, blocks_for}
+use Rattle.format.specs.Chips.{newest_level}
+use Rattle.format.specs.Block.{size_of, kind_of, is_known, is_listed}
+use Rattle.image.specs.Arguments.{row_for, start_for, at_level}
+use Rattle.leaf.specs.Leaf.{PlacedBlock, placed}
+use Rattle.reader.specs.Reading.{blocks_for}
 use Rattle.walk.specs.Walk.{block_is}
 use Rattle.older.specs.Levels.{is_removed}
 use Rattle.older.specs.Written.{as_entry, TableEntry, table_in, removed, numbers_of}
@@ -94,6 +93,12 @@ in-from p k (s ∷ bs) (suc j) = go (p s) (ap (λ (n : ℕ). is_in n (numbers_fr
     go true ih = rw (ne_eqb k (k + suc j) (λ z. omega arith)) ih
     go false ih = ih
 
+placed-rest : (row at : ℕ) (bs : List (List ℕ)) (k : ℕ) (d : PlacedBlock) → d.rest ≡ [] → (get_or (placed row at bs) k d).rest ≡ get_or bs k []
+unfolding placed
+placed-rest row at [] k d e = e
+placed-rest row at (s ∷ bs) zero d e = refl
+placed-rest row at (s ∷ bs) (suc k) d e = placed-rest row (at + size_of row s) bs k d e
+
 removed-listed : (row older newest : ℕ) (bs : List (List ℕ)) (k : ℕ)
     → block_is (is_removed row older newest) bs k ≡ (not (is_known older (kind_of row (get_or bs k []))) && block_is (is_listed row newest) bs k)
 unfolding block_is
@@ -109,22 +114,22 @@ map-twice f g (k ∷ ks) = ap (λ (es : List TableEntry). f (g k) ∷ es) (map-t
 
 pub removed-numbers : RemovedNumbers
 unfolding entry_numbers
-removed-numbers image a older newer e n room k =
-    let new = at_level a newer in
+removed-numbers image a older e n room k =
+    let new = at_level a newest_level in
     let row = row_for a in
     let bs = blocks_for image a in
-    let whole = placed_for image a in
+    let whole = placed row (start_for image a) bs in
     let d : PlacedBlock = record { start = 0; rest = [] } in
     let ks = entry_numbers image new in
     let table : table_in image new n ≡ map (λ j. as_entry row (get_or whole j d)) ks =
     table_is image new e n room ∙ ap (map (as_entry row)) (table-numbers image new) ∙ map-twice (as_entry row) (λ j. get_or whole j d) ks in
-    let member : is_in k ks ≡ block_is (is_listed row newer) bs k =
-    in-reverse k (numbers_from (is_listed row newer) 0 bs)
-    ∙ ap (λ (j : ℕ). is_in j (numbers_from (is_listed row newer) 0 bs)) (sym (zero-add k))
-    ∙ in-from (is_listed row newer) 0 bs k in
+    let member : is_in k ks ≡ block_is (is_listed row newest_level) bs k =
+    in-reverse k (numbers_from (is_listed row newest_level) 0 bs)
+    ∙ ap (λ (j : ℕ). is_in j (numbers_from (is_listed row newest_level) 0 bs)) (sym (zero-add k))
+    ∙ in-from (is_listed row newest_level) 0 bs k in
     let kind : kind_of row (get_or whole k d).rest ≡ kind_of row (get_or bs k []) =
-    ap (kind_of row) (placed-rest row (count_for image a) (start_for image a) (up_to_leaves_end a.layout image (start_for image a)) k d) in
-    removed-listed row older newer bs k
+    ap (kind_of row) (placed-rest row (start_for image a) bs k d refl) in
+    removed-listed row older newest_level bs k
     ∙ sym (ap (λ (es : List TableEntry). is_in k (numbers_of (removed older) es ks)) table
     ∙ in-numbers (removed older) (λ j. as_entry row (get_or whole j d)) ks k
     ∙ rw (kind, member))

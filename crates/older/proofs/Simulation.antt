@@ -20,9 +20,9 @@ use Rattle.walk.specs.Walk.{chosen, stepped, look_causes, walked_to, load_for, l
 use Rattle.walk.proofs.Loads.{load-loaded}
 use Rattle.walk.proofs.Looks.{SameLeaf, look-keeps}
 use Rattle.walk.proofs.Fixed.{fixed-chosen, sensed-chosen}
-use Rattle.older.specs.Calls.{Call, load, look, clear, call, Seen, fresh, loaded, seen, After, after, run, Each, DownAt, QuietAt}
+use Rattle.older.specs.Calls.{Call, load, look, clear, call, Seen, fresh, loaded, seen, after, run, Each, DownAt, QuietAt}
 use Rattle.older.specs.Alike.{Alike, DefaultKept, Kept, SameState, StandAlike}
-use Rattle.older.specs.Claims.{SeenTells, AfterTells, OneLook}
+use Rattle.older.specs.Claims.{SeenTells, OneLook}
 
 -- ## Searches
 
@@ -218,10 +218,6 @@ seen-tells v w a b e =
     let f : loaded v.settled v.selected v.looks v.switches ≡ loaded w.settled w.selected w.looks w.switches =
     rw (a, b) at e in
     (ap settled_in f, ap selected_in f, ap looks_in f, ap switches_in f)
-
-pub after-tells : AfterTells
-unfolding after
-after-tells p q e = (ap (λ (x : After). x.number) e, ap (λ (x : After). x.walk) e)
 
 -- ## Lists of calls
 

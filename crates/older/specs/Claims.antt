@@ -1,101 +1,90 @@
--- What is claimed of readings and walks. DEMAND 3 is one statement, `OlderReader`, at the newest level.
-use Rattle.std.specs.Prelude.{ℕ, ◌+◌, ◌≤◌, ◌<◌, ◌≡◌, List, [], ◌∷◌, ◌++◌, map, reverse, Bool, true, false, ◌&&◌, not, ◌⊎◌, eqb, ltb, length, take, get_or}
+-- What is claimed of readings and walks. DEMAND 3 is one statement, `OlderReader`.
+use Rattle.std.specs.Prelude.{ℕ, ◌+◌, ◌≤◌, ◌<◌, ◌≡◌, List, [], ◌∷◌, ◌++◌, map, reverse, Bool, true, false, ◌&&◌, not, ◌⊎◌, eqb, ltb, length, get_or}
 use Rattle.rom.specs.Geometry.{none, wrong_length, version_at}
 use Rattle.rom.specs.Bytes.{pick, one, byte_at, word_at, is_in, Bytes, keep}
 use Rattle.rom.specs.Refusal.{first_met}
 use Rattle.format.specs.Chips.{newest_level, the_first_edition, the_later_edition, first_codes, later_codes, taken_as}
-use Rattle.format.specs.Block.{size_of, kind_of, is_known, is_listed, is_reset, is_power, is_skipped, is_default}
+use Rattle.format.specs.Block.{kind_of, is_known, is_listed, is_reset, is_power, is_skipped, is_default}
 use Rattle.image.specs.declared.Arguments.{Arguments}
 use Rattle.image.specs.Image.{is_first_version}
-use Rattle.image.specs.Arguments.{row_for, leaf_for, at_level, in_edition}
-use Rattle.leaf.specs.Leaf.{PlacedBlock, table, count_of, first_from, leaf_causes}
+use Rattle.image.specs.Arguments.{row_for, leaf_for, start_for, at_level, in_edition}
+use Rattle.leaf.specs.Leaf.{PlacedBlock, placed, table, count_of, first_from, leaf_causes}
 use Rattle.reader.specs.declared.Answer.{Answer}
 use Rattle.reader.specs.Reading.{blocks_for, table_for, judge_causes, accepted_answer, judge_answer, read_answer, read_kinds, read_offsets}
-use Rattle.reader.specs.Reading.{placed_for, view_for}
+use Rattle.reader.specs.Reading.{view_for}
 use Rattle.walk.specs.declared.Walk.{Walk}
-use Rattle.walk.specs.declared.Walked.{Walked}
 use Rattle.walk.specs.declared.Way.{Way}
 use Rattle.walk.specs.declared.Way.TheVariants.{EveryLook, Once, Fixed}
 use Rattle.walk.specs.Walk.{way_of, is_fixed, row_length, no_flags, block_is, flag_at, is_invalid, is_fixed_medium, is_up, fresh_walk, loaded_walk}
 use Rattle.walk.specs.Walk.{first_up, fixed_block, look_for}
-use Rattle.older.specs.Levels.{is_kept, only_newer, is_removed, removed_block}
-use Rattle.older.specs.Calls.{Call, look, Each, Down, QuietAt, RefusedAt, seen, after, run}
+use Rattle.older.specs.Levels.{is_kept, only_newest, is_removed, removed_block}
+use Rattle.older.specs.Calls.{Call, look, Each, Down, QuietAt, RefusedAt, seen, run}
 use Rattle.older.specs.Written.{Arrays, Room, answer_of, TableEntry, as_entry, table_in, removed, kept, numbers_of}
 use Rattle.older.specs.FromFresh.{FromFresh}
 use Rattle.older.specs.Alike.{Kept, StandAlike}
 
--- ## The older reader and the older walk against a newer one (document 01, 'The walk'; document 02, request 5)
+-- ## Demand 3: the older reader and the older walk against the newest (document 01, 'The walk'; document 02, request 5)
 
--- the older answer and table against the newer
-pub record OlderReads (image : List ℕ) (a : Arguments) (older newer : ℕ) (new old : Answer) (new_table old_table : List TableEntry) : Type 0
-  where
-    pub accepts : old.number ≡ 0
-    pub connection : old.connection ≡ new.connection
-    pub control : old.control ≡ new.control
-    pub address : old.address ≡ new.address
-    pub blocks : old.blocks ≡ new.blocks
-    pub «default» : old.default_number ≡ pick (removed_block image a older newer new.default_number) none new.default_number
-    pub resets : old.resets ≡ pick (ltb 5 older) new.resets 0
-    pub listed : old.listed + length (keep (removed older) new_table) ≡ new.listed
-    pub skipped : old.skipped ≡ new.skipped + count_of (only_newer (row_for a) older newer) (blocks_for image a)
-    pub power : old.power ≡ pick (ltb 6 older) new.power 0
-    pub table : old_table ≡ keep (kept older) new_table
+-- the older answer and table against the newest
+pub record OlderReads (image : List ℕ) (a : Arguments) (older : ℕ) (new old : Answer) (new_table old_table : List TableEntry) : Type 0 where
+  pub accepts : old.number ≡ 0
+  pub connection : old.connection ≡ new.connection
+  pub control : old.control ≡ new.control
+  pub address : old.address ≡ new.address
+  pub blocks : old.blocks ≡ new.blocks
+  pub «default» : old.default_number ≡ pick (removed_block image a older new.default_number) none new.default_number
+  pub resets : old.resets ≡ pick (ltb 5 older) new.resets 0
+  pub listed : old.listed + length (keep (removed older) new_table) ≡ new.listed
+  pub skipped : old.skipped ≡ new.skipped + count_of (only_newest (row_for a) older newest_level) (blocks_for image a)
+  pub power : old.power ≡ 0
+  pub table : old_table ≡ keep (kept older) new_table
 
 -- as `read` answers and writes them, each into arrays no shorter than the block count
-abbrev pub ReadsAgree : List ℕ → Arguments → ℕ → ℕ → Type 0
-ReadsAgree image a older newer =
+abbrev pub ReadsAgree : List ℕ → Arguments → ℕ → Type 0
+ReadsAgree image a older =
     (n o : Arrays) → Room image a n → Room image a o →
-    OlderReads image a older newer
-    (answer_of image (at_level a newer) n) (answer_of image (at_level a older) o)
-    (table_in image (at_level a newer) n) (table_in image (at_level a older) o)
+    OlderReads image a older
+    (answer_of image (at_level a newest_level) n) (answer_of image (at_level a older) o)
+    (table_in image (at_level a newest_level) n) (table_in image (at_level a older) o)
 
--- the conditions where the type is autosensed: the default is no removed entry, and at no look that the newer walk accepts one
+-- the conditions where the type is autosensed: the default is no removed entry, and at no look that the newest walk accepts one
 -- is up
-abbrev pub NoneRemoved : List ℕ → Arguments → ℕ → ℕ → List Call → Type 0
-NoneRemoved image a older newer calls =
-    (removed_block image a older newer (judge_answer image (at_level a newer)).default_number ≡ false)
-    × Down (removed_block image a older newer) image (at_level a newer) fresh_walk calls
+abbrev pub NoneRemoved : List ℕ → Arguments → ℕ → List Call → Type 0
+NoneRemoved image a older calls =
+    (removed_block image a older (judge_answer image (at_level a newest_level)).default_number ≡ false)
+    × Down (removed_block image a older) image (at_level a newest_level) fresh_walk calls
 
--- what a walk selects under a fixed type, or none
-abbrev pub choice_for : List ℕ → Arguments → ℕ
-choice_for image a = fixed_block (loaded_walk image a)
+-- what the newest walk selects under a fixed type, or none
+abbrev pub newest_choice : List ℕ → Arguments → ℕ
+newest_choice image a = fixed_block (loaded_walk image (at_level a newest_level))
 
--- the condition where it is fixed: the newer choice is an entry that the older level lists, or there is none
-abbrev pub ChoiceListed : List ℕ → Arguments → ℕ → ℕ → Type 0
-ChoiceListed image a older newer =
-    let choice = choice_for image (at_level a newer) in
-    (choice ≡ none) ⊎ (block_is (is_listed (row_for a) older) (blocks_for image a) choice ≡ true)
+-- the condition where it is fixed: the newest choice is an entry that the older level lists, or there is none
+abbrev pub ChoiceListed : List ℕ → Arguments → ℕ → Type 0
+ChoiceListed image a older =
+    (newest_choice image a ≡ none) ⊎ (block_is (is_listed (row_for a) older) (blocks_for image a) (newest_choice image a) ≡ true)
 
 -- by the way to walk
-abbrev pub Comparable : Way → List ℕ → Arguments → ℕ → ℕ → List Call → Type 0
-Comparable EveryLook image a older newer calls = NoneRemoved image a older newer calls
-Comparable Once image a older newer calls = NoneRemoved image a older newer calls
-Comparable Fixed image a older newer calls = ChoiceListed image a older newer
+abbrev pub Comparable : Way → List ℕ → Arguments → ℕ → List Call → Type 0
+Comparable EveryLook image a older calls = NoneRemoved image a older calls
+Comparable Once image a older calls = NoneRemoved image a older calls
+Comparable Fixed image a older calls = ChoiceListed image a older
 
 -- the way to walk under the image's connection type
 abbrev pub way_for : List ℕ → Arguments → Way
-way_for image a = way_of (judge_answer image a).connection
+way_for image a = way_of (judge_answer image (at_level a newest_level)).connection
 
 -- for every list of calls: under the conditions of the way to walk the same is seen after each call
-abbrev pub WalksAgree : List ℕ → Arguments → ℕ → ℕ → Type 0
-WalksAgree image a older newer =
-    (calls : List Call) → Comparable (way_for image (at_level a newer)) image a older newer calls →
-    run image (at_level a newer) fresh_walk calls ≡ run image (at_level a older) fresh_walk calls
+abbrev pub WalksAgree : List ℕ → Arguments → ℕ → Type 0
+WalksAgree image a older =
+    (calls : List Call) → Comparable (way_for image a) image a older calls →
+    run image (at_level a newest_level) fresh_walk calls ≡ run image (at_level a older) fresh_walk calls
 
--- for every image, which is bytes, and arguments that the reader of the newer level accepts, 12 apart, and every older level
-abbrev pub AgreesWith : ℕ → Type 0
-AgreesWith newer =
-    (image : List ℕ) (a : Arguments) (older : ℕ) → Bytes image → older < newer →
-    first_met (judge_causes image (at_level a newer)) ≡ 0 →
-    ReadsAgree image a older newer × WalksAgree image a older newer
-
--- at any two levels; none above the newest accepts an image
+-- for every image, which is bytes, and arguments that the newest reader accepts, 12 apart, and every older level
 abbrev pub OlderReader : Type 0
-OlderReader = (newer : ℕ) → AgreesWith newer
-
--- DEMAND 3: its case at the newest level
-abbrev pub DemandThree : Type 0
-DemandThree = AgreesWith newest_level
+OlderReader =
+    (image : List ℕ) (a : Arguments) (older : ℕ) → Bytes image → older < newest_level →
+    first_met (judge_causes image (at_level a newest_level)) ≡ 0 →
+    ReadsAgree image a older × WalksAgree image a older
 
 -- an image that the newest reader refuses with 31 is read at every level below, with the answer and the table that the level
 -- defines (document 02, request 3)
@@ -111,20 +100,16 @@ ReadBelow =
 -- under a fixed type without a choice every look at a loaded walk is refused with 32, at both levels
 abbrev pub NoChoice : Type 0
 NoChoice =
-    (image : List ℕ) (a : Arguments) (older newer : ℕ) → Bytes image → older < newer →
-    first_met (judge_causes image (at_level a newer)) ≡ 0 →
-    is_fixed (way_for image (at_level a newer)) ≡ true → choice_for image (at_level a newer) ≡ none →
+    (image : List ℕ) (a : Arguments) (older : ℕ) → Bytes image → older < newest_level →
+    first_met (judge_causes image (at_level a newest_level)) ≡ 0 →
+    is_fixed (way_for image a) ≡ true → newest_choice image a ≡ none →
     (calls : List Call) →
-    Each (RefusedAt 32) image (at_level a newer) fresh_walk calls × Each (RefusedAt 32) image (at_level a older) fresh_walk calls
+    Each (RefusedAt 32) image (at_level a newest_level) fresh_walk calls × Each (RefusedAt 32) image (at_level a older) fresh_walk calls
 
 -- what is seen of loaded walks tells all that is compared of them
 abbrev pub SeenTells : Type 0
 SeenTells = (v w : Walk) → v.loaded ≡ true → w.loaded ≡ true → seen v ≡ seen w →
     (v.settled ≡ w.settled) × (v.selected ≡ w.selected) × (v.looks ≡ w.looks) × (v.switches ≡ w.switches)
-
--- and what is compared after a call tells its number and what is seen of the walk
-abbrev pub AfterTells : Type 0
-AfterTells = (p q : Walked) → after p ≡ after q → (p.number ≡ q.number) × (seen p.walk ≡ seen q.walk)
 
 -- ## What it rests on: a leaf at an older level. `bs` are its blocks as they stand, `row` is the chip's
 
@@ -144,7 +129,7 @@ abbrev pub OlderCounts : Type 0
 OlderCounts = (row older newest : ℕ) (bs : List (List ℕ)) → older ≤ newest →
     (count_of (is_reset row older) bs ≡ pick (ltb 5 older) (count_of (is_reset row newest) bs) 0)
     × (count_of (is_listed row older) bs + count_of (is_removed row older newest) bs ≡ count_of (is_listed row newest) bs)
-    × (count_of (is_skipped row newest) bs + count_of (only_newer row older newest) bs ≡ count_of (is_skipped row older) bs)
+    × (count_of (is_skipped row newest) bs + count_of (only_newest row older newest) bs ≡ count_of (is_skipped row older) bs)
     × (count_of (is_power row older) bs ≡ pick (ltb 6 older) (count_of (is_power row newest) bs) 0)
 
 -- the older default number is the newest one's, or none if that is a removed entry's; at most one block is a default, as in a
@@ -208,7 +193,7 @@ nowhere = record { start = 0; rest = [] }
 -- they are the table's entries
 abbrev pub TableNumbers : Type 0
 TableNumbers = (image : List ℕ) (a : Arguments) →
-    table_for image a ≡ map (λ k. get_or (placed_for image a) k nowhere) (entry_numbers image a)
+    table_for image a ≡ map (λ k. get_or (placed (row_for a) (start_for image a) (blocks_for image a)) k nowhere) (entry_numbers image a)
 
 -- a look finds the first of them, in table order, that is up; once settled, of those without Active_Invalid
 abbrev pub FirstInOrder : Type 0
@@ -225,13 +210,13 @@ FixedInOrder = (image : List ℕ) (a : Arguments) →
     ≡ first_of (λ k. block_is (is_fixed_medium (loaded_walk image a).connection (row_for a) a.level) (blocks_for image a) k)
     (entry_numbers image a)
 
--- the blocks that are called removed are those of the newer table's removed entries
+-- the blocks that demand 3 calls removed are those of the newest table's removed entries
 abbrev pub RemovedNumbers : Type 0
 RemovedNumbers =
-    (image : List ℕ) (a : Arguments) (older newer : ℕ) → first_met (judge_causes image (at_level a newer)) ≡ 0 →
+    (image : List ℕ) (a : Arguments) (older : ℕ) → first_met (judge_causes image (at_level a newest_level)) ≡ 0 →
     (n : Arrays) → Room image a n → (k : ℕ) →
-    removed_block image a older newer k
-    ≡ is_in k (numbers_of (removed older) (table_in image (at_level a newer) n) (entry_numbers image (at_level a newer)))
+    removed_block image a older k
+    ≡ is_in k (numbers_of (removed older) (table_in image (at_level a newest_level) n) (entry_numbers image (at_level a newest_level)))
 
 -- ## Counts
 
@@ -251,39 +236,6 @@ StandsOnEntry = (w : Walk) → FromFresh w → (w.selected ≡ none) ⊎ (flag_a
 abbrev pub FixedSwitches : Type 0
 FixedSwitches = (w : Walk) → FromFresh w → is_fixed (way_of w.connection) ≡ true → w.switches ≤ 1
 
--- the fixed types that name no medium (document 02, request 5)
-abbrev pub nameless : List ℕ
-nameless = 0x0010 ∷ 0x0211 ∷ []
-
--- and under one of these every look at them, once loaded, is refused with 32
-abbrev pub AlwaysLacking : Type 0
-AlwaysLacking = (w : Walk) → FromFresh w → w.loaded ≡ true → is_in w.connection nameless ≡ true → (report : List ℕ)
-    → (look_for w report).number ≡ 32
-
--- ## An empty connection word (document 02, request 4)
-
--- the connection type of the leaf that the arguments name
-abbrev pub code_for : List ℕ → Arguments → ℕ
-code_for image a = word_at image (leaf_for image a)
-
--- a block's own bytes, at the start of the rest
-abbrev pub own_bytes : ℕ → List ℕ → List ℕ
-own_bytes row s = take (size_of row s) s
-
--- two cards that are accepted with the same arguments, one with an empty connection word and one with 0x8800, whose leaves have the
--- same blocks, byte for byte
-pub record EmptyAndOnce (image other : List ℕ) (a : Arguments) : Type 0 where
-  pub accepts : (first_met (judge_causes image a) ≡ 0) × (first_met (judge_causes other a) ≡ 0)
-  pub empty : code_for image a ≡ 0xFFFF
-  pub once : code_for other a ≡ 0x8800
-  pub blocks : map (own_bytes (row_for a)) (blocks_for other a) ≡ map (own_bytes (row_for a)) (blocks_for image a)
-
--- they are walked alike over every list of calls, each load of its own card
-abbrev pub EmptyAsOnce : Type 0
-EmptyAsOnce =
-    (image other : List ℕ) (a : Arguments) → Bytes image → EmptyAndOnce image other a →
-    (calls : List Call) → run image a fresh_walk calls ≡ run other a fresh_walk calls
-
 -- ## Versions and editions (document 02, request 12)
 
 -- versions 3 and 4 are read and walked alike in both editions: answer, table, view, and what is seen over every list of calls
@@ -300,7 +252,10 @@ LaterAlike =
     × ((entry : ℕ) → view_for image b entry ≡ view_for image c entry)
     × ((w : Walk) (calls : List Call) → run image b w calls ≡ run image c w calls)
 
--- the number of a reading in an edition
+-- the connection type of the leaf that the arguments name, and the number of a reading in an edition
+abbrev pub code_for : List ℕ → Arguments → ℕ
+code_for image a = word_at image (leaf_for image a)
+
 abbrev pub number_in : Bool → List ℕ → Arguments → ℕ
 number_in edition image a = (judge_answer image (in_edition a edition)).number
 

@@ -6,7 +6,7 @@ use console::{output, status};
 use magic::field_at;
 use reader::Arguments;
 use report::words;
-use rom::{ByteOffset, Layout, refusal};
+use rom::{Layout, refusal};
 use survey::Place;
 use text::line::{Line, say};
 use text::slice::byte_at;
@@ -171,10 +171,10 @@ impl Cells {
         }
     }
 
-    fn painted(self, field: u8, number: u8, start: ByteOffset, count: usize) -> Cells {
+    fn painted(self, field: u8, number: u8, start: usize, count: usize) -> Cells {
         let mut cells = self;
         let mut k = 0;
-        let mut at = start.0;
+        let mut at = start;
         while k < count {
             if CELLS <= at {
                 return cells;
@@ -189,11 +189,11 @@ impl Cells {
 
     // The fields whose places the layout says.
     fn framed(self, layout: Layout) -> Cells {
-        self.painted(ID, 0, ByteOffset(0), 18)
-            .painted(ID_CRC, 0, ByteOffset(rom::ID_CRC_AT), 1)
-            .painted(VERSION, 0, ByteOffset(rom::VERSION_AT), 1)
-            .painted(COUNT, 0, ByteOffset(rom::CONTROLLER_COUNT_AT), 1)
-            .painted(ADDRESS, 0, ByteOffset(rom::ADDRESS_AT), 6)
+        self.painted(ID, 0, 0, 18)
+            .painted(ID_CRC, 0, rom::ID_CRC_AT, 1)
+            .painted(VERSION, 0, rom::VERSION_AT, 1)
+            .painted(COUNT, 0, rom::CONTROLLER_COUNT_AT, 1)
+            .painted(ADDRESS, 0, rom::ADDRESS_AT, 6)
             .painted(MAKER, 0, layout.leaves_end(), 2)
             .painted(SROM_CRC, 0, layout.checked_length(), 2)
     }
@@ -239,7 +239,7 @@ fn with_blocks(cells: Cells, image: &[u8], arguments: Arguments, blocks: u8) -> 
         let place = survey::block_place(image, arguments, k);
         let field = field_of(report::block_at(image, arguments, place.start));
         let length = report::block_bytes(image, arguments.layout, place).len();
-        cells = cells.painted(field, k, ByteOffset(place.start as usize), length);
+        cells = cells.painted(field, k, place.start as usize, length);
         if field == REFUSED {
             return cells;
         }
@@ -251,7 +251,7 @@ fn with_blocks(cells: Cells, image: &[u8], arguments: Arguments, blocks: u8) -> 
 // A controller's three bytes, its leaf's header and its blocks.
 fn with_controller(cells: Cells, image: &[u8], arguments: Arguments) -> Cells {
     let controller = arguments.controller;
-    let entry = ByteOffset(rom::CONTROLLERS_AT + 3 * (controller as usize));
+    let entry = rom::CONTROLLERS_AT + 3 * (controller as usize);
     let cells = cells.painted(CONTROLLER, controller, entry, 3);
     let header = header::read_header(image, arguments);
     if header.number != refusal::ACCEPTED {
@@ -261,7 +261,7 @@ fn with_controller(cells: Cells, image: &[u8], arguments: Arguments) -> Cells {
     if header.start < leaf {
         return cells;
     }
-    let cells = cells.painted(LEAF, controller, ByteOffset(leaf), header.start - leaf);
+    let cells = cells.painted(LEAF, controller, leaf, header.start - leaf);
     with_blocks(cells, image, arguments, header.blocks)
 }
 
@@ -284,8 +284,7 @@ fn cells_of(image: &[u8], arguments: Arguments) -> Cells {
         left -= 1;
         cells = with_controller(cells, image, for_controller(arguments, left));
     }
-    let reserved = ByteOffset(rom::CONTROLLERS_AT + 3 * (count as usize));
-    cells.painted(RESERVED, 0, reserved, 1)
+    cells.painted(RESERVED, 0, rom::CONTROLLERS_AT + 3 * (count as usize), 1)
 }
 
 // ## The page

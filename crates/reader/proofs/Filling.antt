@@ -14,7 +14,7 @@ use Rattle.block.specs.declared.Block.TheVariants.{Listed, Reset, Power, Unknown
 use Rattle.format.specs.Block.{is_listed}
 use Rattle.block.specs.Answer.{block_of, number_of, size_in, listed_in, kind_in}
 use Rattle.block.proofs.Seen.{SeenAs, refused, unknown, a-reset, a-power, a-medium, seen_size, seen-kind}
-use Rattle.leaf.specs.Leaf.{PlacedBlock, block_at, start_at, kind_at, placed, table, table_of}
+use Rattle.leaf.specs.Leaf.{cut, PlacedBlock, placed, table, table_of, kind_at, start_at}
 use Rattle.leaf.proofs.Cuts.{rest_part, next-seen, next-fine}
 use Rattle.leaf.proofs.Stepping.{Passing, passing-more, placed-more, placed-none}
 use Rattle.leaf.proofs.Tables.{listed_at, table-cons, table_more}
@@ -85,8 +85,8 @@ module _ {row level : ℕ} {whole ps : List PlacedBlock} {p : PlacedBlock} {b : 
 pub record FillingTable (row level first count : ℕ) (blocks : List ℕ) (i : ℕ) (rest : List ℕ) (at free : ℕ)
     (k₀ o₀ k o : List ℕ) : Type 0 where
   pub passing : Passing row level first count blocks i at rest
-  pub filled : FilledTable row level (placed row count (block_at first blocks))
-      (drop i (placed row count (block_at first blocks))) free k₀ o₀ k o
+  pub filled : FilledTable row level (placed row first (cut row count blocks))
+      (drop i (placed row first (cut row count blocks))) free k₀ o₀ k o
 
 -- The steps of `fill` in its own terms.
 module _ (row level first count : ℕ) (blocks : List ℕ) {i at : ℕ} (rest : List ℕ) {free : ℕ} {k₀ o₀ k o : List ℕ}
@@ -98,9 +98,9 @@ module _ (row level first count : ℕ) (blocks : List ℕ) {i at : ℕ} (rest : 
     fine : number_of b ≡ 0
     fine = next-fine row level count rest inv.passing.accepted h eb
 
-    opened : FilledTable row level (placed row count (block_at first blocks))
-        (block_at at rest ∷ drop (i + 1) (placed row count (block_at first blocks))) free k₀ o₀ k o
-    opened = rw (placed-more row count i (block_at first blocks) (block_at at rest) inv.passing.running h) at inv.filled
+    opened : FilledTable row level (placed row first (cut row count blocks))
+        (record { start = at; rest = rest } ∷ drop (i + 1) (placed row first (cut row count blocks))) free k₀ o₀ k o
+    opened = rw (placed-more row first count i at blocks rest inv.passing.stands h) at inv.filled
 
     pub fill-place : listed_in b ≤ free
     fill-place = filled-place opened view fine
@@ -117,4 +117,4 @@ module _ (row level first count : ℕ) (blocks : List ℕ) {i at : ℕ} (rest : 
   pub fill_done : count ≤ i → (k ≡ tabled (kind_at row) (table_of row level count first blocks) k₀)
       × (o ≡ tabled start_at (table_of row level count first blocks) o₀)
   unfolding table keep tabled table_of
-  fill_done h = let e = rw (placed-none row count i (block_at first blocks) h) at inv.filled in (e.kinds, e.offsets)
+  fill_done h = let e = rw (placed-none row first count i blocks h) at inv.filled in (e.kinds, e.offsets)

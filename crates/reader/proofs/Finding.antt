@@ -11,7 +11,7 @@ use Rattle.block.specs.declared.Block.{Block}
 use Rattle.format.specs.Block.{is_listed}
 use Rattle.block.specs.Answer.{block_of, number_of, size_in, listed_in}
 use Rattle.block.proofs.Seen.{SeenAs, seen_size, seen-listed}
-use Rattle.leaf.specs.Leaf.{PlacedBlock, block_at, placed, table, table_of}
+use Rattle.leaf.specs.Leaf.{cut, PlacedBlock, placed, table, table_of}
 use Rattle.leaf.proofs.Cuts.{rest_part, next-seen, next-fine}
 use Rattle.leaf.proofs.Stepping.{Passing, passing-more, placed-more, placed-none}
 use Rattle.leaf.proofs.Tables.{few-one, listed_at, table-cons, table_more}
@@ -56,7 +56,7 @@ module _ {row level : ℕ} {whole ps : List PlacedBlock} {p : PlacedBlock} {b : 
 -- from it on.
 pub record Finding (row level first count : ℕ) (blocks : List ℕ) (i : ℕ) (rest : List ℕ) (at behind wanted : ℕ) : Type 0 where
   pub passing : Passing row level first count blocks i at rest
-  pub kept : StillAhead row level (table_of row level count first blocks) (drop i (placed row count (block_at first blocks))) behind wanted
+  pub kept : StillAhead row level (table_of row level count first blocks) (drop i (placed row first (cut row count blocks))) behind wanted
 
 -- The steps of `find` in its own terms.
 module _ (row level first count : ℕ) (blocks : List ℕ) {i at : ℕ} (rest : List ℕ) {behind wanted : ℕ}
@@ -69,8 +69,8 @@ module _ (row level first count : ℕ) (blocks : List ℕ) {i at : ℕ} (rest : 
     fine = next-fine row level count rest inv.passing.accepted h eb
 
     opened : StillAhead row level (table_of row level count first blocks)
-        (block_at at rest ∷ drop (i + 1) (placed row count (block_at first blocks))) behind wanted
-    opened = rw (placed-more row count i (block_at first blocks) (block_at at rest) inv.passing.running h) at inv.kept
+        (record { start = at; rest = rest } ∷ drop (i + 1) (placed row first (cut row count blocks))) behind wanted
+    opened = rw (placed-more row first count i at blocks rest inv.passing.stands h) at inv.kept
 
     pub find-behind : {n : ℕ} → n ≡ listed_in b → n ≤ behind
     find-behind en = rw en (kept-behind opened view fine)
@@ -91,5 +91,5 @@ module _ (row level first count : ℕ) (blocks : List ℕ) {i at : ℕ} (rest : 
   pub find-never : count ≤ i → ⊥
   unfolding table keep
   find-never h =
-      let e = rw (placed-none row count i (block_at first blocks) h) at inv.kept in
+      let e = rw (placed-none row first count i blocks h) at inv.kept in
       omega (arith, e.counted, e.there)

@@ -1,13 +1,13 @@
 -- What is read of a controller's leaf with a chip, a controller and a level (document 01, 'Levels and the table', 'Why a call
 -- is refused'; document 02, request 3).
-use Rattle.std.specs.Prelude.{ℕ, List, ◌∷◌, ◌++◌, ◌||◌, eqb, ltb, length, take, drop}
+use Rattle.std.specs.Prelude.{ℕ, ◌+◌, List, ◌∷◌, ◌++◌, ◌||◌, eqb, ltb, length, take, drop}
 use Rattle.rom.specs.Bytes.{pick, word_at}
 use Rattle.rom.specs.Refusal.{Cause, ◌⇒◌, first_met}
 use Rattle.image.specs.declared.Arguments.{Arguments}
 use Rattle.image.specs.Image.{is_first_version, address_of, control_byte, up_to_leaves_end}
 use Rattle.image.specs.Arguments.{row_for, leaf_for, start_for, count_for, header_causes}
 use Rattle.format.specs.Block.{is_listed, is_reset, is_power, is_skipped, is_default}
-use Rattle.leaf.specs.Leaf.{PlacedBlock, block_at, start_at, kind_at, placed, cut, count_of, first_from, leaf_causes, table_of}
+use Rattle.leaf.specs.Leaf.{PlacedBlock, cut, count_of, first_from, leaf_causes, kind_at, start_at, table_of}
 use Rattle.reader.specs.declared.Answer.{Answer}
 use Rattle.reader.specs.declared.Reading.{Reading}
 use Rattle.reader.specs.declared.Part.{Part}
@@ -15,15 +15,7 @@ use Rattle.reader.specs.Table.{tabled, no_part, entry_part}
 
 -- ## The leaf that the arguments name
 
--- the first of its blocks, in the image
-abbrev pub first_block_for : List ℕ → Arguments → PlacedBlock
-first_block_for image a = block_at (start_for image a) (up_to_leaves_end a.layout image (start_for image a))
-
--- its blocks, each with its place in the image
-abbrev pub placed_for : List ℕ → Arguments → List PlacedBlock
-placed_for image a = placed (row_for a) (count_for image a) (first_block_for image a)
-
--- and without it
+-- its blocks
 abbrev pub blocks_for : List ℕ → Arguments → List (List ℕ)
 blocks_for image a = cut (row_for a) (count_for image a) (up_to_leaves_end a.layout image (start_for image a))
 

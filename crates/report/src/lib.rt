@@ -15,7 +15,7 @@ use block::{Block, chip};
 use libc::STDOUT_FILENO;
 use magic::Magic;
 use reader::Arguments;
-use rom::{ByteOffset, Layout, refusal};
+use rom::{Layout, refusal};
 use survey::Place;
 use text::line;
 use text::line::{Line, say};
@@ -164,7 +164,7 @@ pub fn block_bytes(image: &[u8], layout: Layout, place: Place) -> &[u8]
 pub fn show_leaves_end(layout: Layout) {
     line::of(
         b"  leaves end before byte #",
-        [layout.leaves_end().0 as u64, 0, 0, 0],
+        [layout.leaves_end() as u64, 0, 0, 0],
     )
     .print();
 }
@@ -260,9 +260,9 @@ fn show_version(image: &[u8], first_edition: bool) {
 
 pub fn show_srom_crc(image: &[u8], layout: Layout) {
     let at = layout.checked_length();
-    let stored = rom::word_at(image, at) as u64;
+    let stored = word_at(image, at) as u64;
     let computed = crc::srom_crc(image, layout).value as u64;
-    let at = at.0 as u64;
+    let at = at as u64;
     line::of(
         b"  SROM CRC, bytes # and #: @ stored",
         [at, at + 1, stored, 0],
@@ -311,7 +311,7 @@ fn show_leaf(image: &[u8], layout: Layout, controller: u8) {
     .print();
     line::of(
         b"  a leaf of this card starts at byte # or later, and ends before byte #",
-        [least, layout.leaves_end().0 as u64, 0, 0],
+        [least, layout.leaves_end() as u64, 0, 0],
     )
     .print();
 }
@@ -348,20 +348,16 @@ fn show_magic_crc(image: &[u8], size: u16) {
     let computed = crc::magic_crc(image, size).value as u64;
     line::of(
         b"  Magic CRC, byte #: 0x% stored, 0x% of the block's other bytes",
-        [at.0 as u64, rom::byte_at(image, at) as u64, computed, 0],
+        [at as u64, byte_of(image, at), computed, 0],
     )
     .print();
 }
 
 // A reserved byte, where it is not 0.
-fn show_reserved(image: &[u8], at: ByteOffset) {
-    let byte = rom::byte_at(image, at);
+fn show_reserved(image: &[u8], at: usize) {
+    let byte = byte_of(image, at);
     if byte != 0 {
-        line::of(
-            b"  reserved byte, byte #: 0x%",
-            [at.0 as u64, byte as u64, 0, 0],
-        )
-        .print();
+        line::of(b"  reserved byte, byte #: 0x%", [at as u64, byte, 0, 0]).print();
     }
 }
 
@@ -481,7 +477,7 @@ fn show_otherwise(image: &[u8], arguments: Arguments, number: u8) {
 pub fn has_srom_crc(image: &[u8], layout: Layout) -> bool
     ensures { result ≡ has_srom_crc layout image.now }
 {
-    let stored = rom::word_at(image, layout.checked_length());
+    let stored = word_at(image, layout.checked_length());
     stored == crc::srom_crc(image, layout).value
 }
 

@@ -1,7 +1,7 @@
 -- What holds of every size and of every layout: the proofs above go by these facts, and no other place computes with the
 -- numbers. Assumes nothing.
 use Prim.Native.Nat.{ℕ, ◌+◌, ◌-◌, ◌*◌, ◌/◌, ◌≤◌}
-use mathlib.Core.Path.{◌≡◌, refl, sym, ap, ◌∙◌}
+use mathlib.Core.Path.{◌≡◌, refl, sym, ◌∙◌}
 use mathlib.Core.Bool.{Bool, true, false, not, ◌||◌}
 use mathlib.Core.Logic.{◌⊎◌, inl, inr, ⊎_elim}
 use native.Mathlib.Omega.{arith}
@@ -50,14 +50,6 @@ length-by-size size = go (eqb size small_size) refl (eqb size large_size) refl
     go true ea false eb = eqb-true size small_size ea
     go false ea true eb = eqb-true size large_size eb
     go false ea false eb = refl
-
-pub word-by-size : (size : ℕ) → magic_word size ≡ pick (eqb size large_size) 240 48
-unfolding magic_word magic_at pick
-word-by-size size = ap (λ (n : ℕ). (n - 32) / 2) (length-by-size size) ∙ go (eqb size large_size)
-  where
-    go : (t : Bool) → (pick t large_size small_size - 32) / 2 ≡ pick t 240 48
-    go true = refl
-    go false = refl
 
 pub sized : (size : ℕ) → Sized size
 unfolding magic_at magic_word

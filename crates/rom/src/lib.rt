@@ -30,11 +30,6 @@ pub const LARGE_LENGTH: usize = LARGE_SIZE as usize;
 // A Magic Packet block is the image's last bytes.
 pub const MAGIC_LENGTH: usize = 32;
 
-// The number of its first word, at either size.
-const SMALL_MAGIC_WORD: u16 = 48;
-
-const LARGE_MAGIC_WORD: u16 = 240;
-
 // Whether an image can have so many bytes.
 fn is_size(size: usize) -> bool
     ensures { result ≡ is_size size }
@@ -65,45 +60,42 @@ pub fn image_length(size: u16) -> usize
     SMALL_LENGTH
 }
 
-// Where a Magic Packet block starts: the number of its first word, and the offset of its first byte.
+// Where a Magic Packet block starts.
+pub fn magic_at(size: u16) -> usize
+    ensures { result ≡ magic_at size }
+{
+    image_length(size) - MAGIC_LENGTH
+}
+
 pub fn magic_word(size: u16) -> WordNumber
     ensures { result.0 ≡ magic_word size }
 {
-    if size == LARGE_SIZE {
-        return WordNumber(LARGE_MAGIC_WORD);
-    }
-    WordNumber(SMALL_MAGIC_WORD)
-}
-
-pub fn magic_at(size: u16) -> ByteOffset
-    ensures { result.0 ≡ magic_at size }
-{
-    magic_word(size).low_byte()
+    WordNumber((magic_at(size) / 2) as u16)
 }
 
 impl Layout {
     // The board's part of an image: all of it, or what stands before the Magic Packet block.
-    pub fn board_length(self) -> ByteOffset
-        ensures { result.0 ≡ board_length self }
+    pub fn board_length(self) -> usize
+        ensures { result ≡ board_length self }
     {
         if self.magic {
             return magic_at(self.size);
         }
-        ByteOffset(image_length(self.size))
+        image_length(self.size)
     }
 
     // The bytes that the SROM CRC covers; it stands behind them, in the board's last word.
-    pub fn checked_length(self) -> ByteOffset
-        ensures { result.0 ≡ checked_length self }
+    pub fn checked_length(self) -> usize
+        ensures { result ≡ checked_length self }
     {
-        ByteOffset(self.board_length().0 - 2)
+        self.board_length() - 2
     }
 
     // Leaves end, with all their blocks, before the maker's two bytes.
-    pub fn leaves_end(self) -> ByteOffset
-        ensures { result.0 ≡ leaves_end self }
+    pub fn leaves_end(self) -> usize
+        ensures { result ≡ leaves_end self }
     {
-        ByteOffset(self.board_length().0 - 4)
+        self.board_length() - 4
     }
 
     pub fn most_controllers(self) -> u8
@@ -149,18 +141,18 @@ pub struct ByteOffset(pub usize);
 pub struct WordNumber(pub u16);
 
 impl WordNumber {
-    // Where the word's low byte stands. Here alone one unit becomes the other.
+    // Where the word's low byte stands.
     pub fn low_byte(self) -> ByteOffset
         ensures { result.0 ≡ 2 * self.0 }
     {
         ByteOffset(2 * (self.0 as usize))
     }
 
-    // Where the word's high byte stands, behind the low one.
+    // Where the word's high byte stands.
     pub fn high_byte(self) -> ByteOffset
         ensures { result.0 ≡ 2 * self.0 + 1 }
     {
-        ByteOffset(self.low_byte().0 + 1)
+        ByteOffset(2 * (self.0 as usize) + 1)
     }
 }
 
@@ -176,10 +168,10 @@ pub fn byte_at(bytes: &[u8], at: ByteOffset) -> u8
 }
 
 // A byte as a count, 0 past the end.
-pub fn count_at(bytes: &[u8], at: ByteOffset) -> usize
-    ensures { (result ≡ byte_at bytes.now at.0) × (result < 256) }
+pub fn count_at(bytes: &[u8], at: usize) -> usize
+    ensures { (result ≡ byte_at bytes.now at) × (result < 256) }
 {
-    byte_at(bytes, at) as usize
+    byte_at(bytes, ByteOffset(at)) as usize
 }
 
 // The word whose low byte stands at an offset, with zeros past the end.

@@ -4,7 +4,7 @@ use mathlib.Core.Path.{◌≡◌, refl, sym, ap, ap₂, ◌∙◌}
 use mathlib.Core.Bool.{Bool, true, false, ◌&&◌, ◌||◌, not}
 use mathlib.Core.List.{List, [], ◌∷◌, ◌++◌, map, append_assoc}
 use native.Mathlib.Omega.{arith}
-use lib.ListN.{length, take, drop, length-append, length-drop, length-map, get_or-append}
+use lib.ListN.{length, take, drop, length-append, length-drop, get_or-append}
 use lib.Seq.{take_at, drop_at, take-add, take-append_seam, length-take-le, get_or-take}
 use lib.Dec.{eqb, leb, ltb, lit<}
 use borrow.Author.Tests.{eqb-true, eqb-false, leb-true, leb-false, ltb-false, eq-eqb, ne_eqb, lt-leb, le-ltb, not-false}
@@ -15,10 +15,10 @@ use Rattle.rom.proofs.Truth.{true-false, or-false}
 use Rattle.format.specs.Chips.{row21041, kind_compact, kind21041}
 use Rattle.format.specs.Block.{is_extended, length_of, sia_size, size_of, kind_of, causes, the_later_version, refusal_of}
 use Rattle.block.proofs.Whole.{BlockForm, extended-form, compact-form, form-21041}
-use Rattle.leaf.specs.Leaf.{block_at, cut, place_by_stepping, start_by_stepping, block_causes}
-use Rattle.leaf.proofs.Cuts.{cut-zero, cut-suc, cut-length, first-accepted}
+use Rattle.leaf.specs.Leaf.{cut, block_causes}
+use Rattle.leaf.proofs.Cuts.{first-accepted}
 use Rattle.sheet.specs.Record.{Entry}
-use Rattle.sheet.specs.Image.{is_whole, opening_of, encode, encodes, opening_length, body_of, entry_from}
+use Rattle.sheet.specs.Image.{is_whole, opening_of, encode, encodes, opening_length, body_of, entry_from, sizes}
 use Rattle.sheet.specs.Write.{is_other_family, is_bad_body, is_bad, any_bad}
 use Rattle.rom.proofs.Lists.{bytes_drop}
 
@@ -250,53 +250,44 @@ whole-block row level s by h =
 pub same-entry : (row : ℕ) (s : List ℕ) (e : Entry) → CutAs row s e → entry_from row s ≡ e
 same-entry row s e c = λ i. record { kind = c.kind i; body = c.body i }
 
--- the cut of encodings gives the entries back, and stepping leads behind their last byte
-pub cut-encodes : (row at : ℕ) (es : List Entry) (r : List ℕ) → any_bad row es ≡ false
+-- the cut of encodings gives the entries back
+pub cut-encodes : (row : ℕ) (es : List Entry) (r : List ℕ) → any_bad row es ≡ false
     → (map (entry_from row) (cut row (length es) (encodes es ++ r)) ≡ es)
-    × (start_by_stepping row (length es) (block_at at (encodes es ++ r)) ≡ at + length (encodes es))
-unfolding place_by_stepping encodes any_bad
-cut-encodes row at [] r h = (ap (map (entry_from row)) (cut-zero row r), omega arith)
-cut-encodes row at (e ∷ es) r h =
+    × (sizes row (cut row (length es) (encodes es ++ r)) ≡ length (encodes es))
+unfolding cut sizes encodes any_bad
+cut-encodes row [] r h = (refl, refl)
+cut-encodes row (e ∷ es) r h =
     let p = or-false _ _ h in
     let c = cut-one row e (encodes es ++ r) (good-so row e p.0) in
     let next : drop (size_of row (encode e ++ (encodes es ++ r))) (encode e ++ (encodes es ++ r)) ≡ encodes es ++ r
     = drop_at (encode e) (encodes es ++ r) _ (sym c.size) in
-    let ih = cut-encodes row (at + length (encode e)) es r p.1 in
-    rw (append_assoc (encode e) (encodes es) r) (
-      rw (cut-suc, next) (ap₂ (λ (x : Entry) (xs : List Entry). x ∷ xs) (same-entry row _ e c) ih.0),
-      ap₂ (λ (n : ℕ) (s : List ℕ). start_by_stepping row (length es) (block_at (at + n) s)) c.size next ∙ ih.1
-          ∙ omega (arith, length-append (encode e) (encodes es)),
+    let ih = cut-encodes row es r p.1 in
+    rw (append_assoc (encode e) (encodes es) r, next) (
+      ap₂ (λ (x : Entry) (xs : List Entry). x ∷ xs) (same-entry row _ e c) ih.0,
+      ap₂ (λ (x y : ℕ). x + y) c.size ih.1 ∙ sym (length-append (encode e) (encodes es)),
     )
 
 pub entries-length : (row n : ℕ) (s : List ℕ) → length (map (entry_from row) (cut row n s)) ≡ n
-entries-length row n s = length-map (cut row n s) (entry_from row) ∙ cut-length row n s
+unfolding cut
+entries-length row zero s = refl
+entries-length row (suc n) s = ap suc (entries-length row n (drop (size_of row s) s))
 
--- the encodings of accepted blocks are the bytes that were cut, as far as stepping leads
+-- the encodings of accepted blocks are the bytes that were cut
 pub record Encoded (row n : ℕ) (s : List ℕ) : Type 0 where
-  pub fits : length (encodes (map (entry_from row) (cut row n s))) ≤ length s
+  pub fits : sizes row (cut row n s) ≤ length s
   pub good : any_bad row (map (entry_from row) (cut row n s)) ≡ false
-  pub back : encodes (map (entry_from row) (cut row n s)) ≡ take (length (encodes (map (entry_from row) (cut row n s)))) s
-  pub ends : (at : ℕ) → start_by_stepping row n (block_at at s) ≡ at + length (encodes (map (entry_from row) (cut row n s)))
+  pub back : encodes (map (entry_from row) (cut row n s)) ≡ take (sizes row (cut row n s)) s
 
 pub encodes-cut : (row level n : ℕ) (s : List ℕ) → Bytes s → first_met (block_causes the_later_version row level (cut row n s)) ≡ 0
     → Encoded row n s
-unfolding place_by_stepping encodes any_bad
-encodes-cut row level zero s by h =
-    let none = cut-zero row s in
-    record { fits = rw none (omega arith); good = rw none; back = rw none; ends = λ at. rw none (omega arith) }
+unfolding cut sizes encodes any_bad
+encodes-cut row level zero s by h = record { fits = omega arith; good = refl; back = refl }
 encodes-cut row level (suc n) s by h =
-    let size = size_of row s in
-    let more = cut-suc row n s in
-    let z = first-accepted row level s (cut row n (drop size s)) (rw more at h) in
+    let z = first-accepted row level s (cut row n (drop (size_of row s) s)) h in
     let w = whole-block row level s by z.0 in
-    let ih = encodes-cut row level n (drop size s) (bytes_drop size s by) z.1 in
-    let later = encodes (map (entry_from row) (cut row n (drop size s))) in
-    let one : length (encode (entry_from row s)) ≡ size = ap length w.back ∙ length-take-le size s w.fits in
-    let all : length (encode (entry_from row s) ++ later) ≡ size + length later
-    = omega (arith, length-append (encode (entry_from row s)) later) in
+    let ih = encodes-cut row level n (drop (size_of row s) s) (bytes_drop (size_of row s) s by) z.1 in
     record {
-      fits = rw (more, all) (omega (arith, w.fits, ih.fits, length-drop size s));
-      good = rw more (simp w.good ih.good);
-      back = rw (more, all) (ap₂ (λ (x y : List ℕ). x ++ y) w.back ih.back ∙ sym (take-add size (length later) s));
-      ends = λ at. rw (more, all) (omega (arith, ih.ends (at + size)));
+      fits = omega (arith, w.fits, ih.fits, length-drop (size_of row s) s);
+      good = simp w.good ih.good;
+      back = ap₂ (λ (x y : List ℕ). x ++ y) w.back ih.back ∙ sym (take-add (size_of row s) _ s);
     }

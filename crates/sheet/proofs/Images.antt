@@ -25,14 +25,14 @@ use Rattle.image.specs.Image.{up_to_leaves_end, bad_count}
 use Rattle.image.specs.Image.{magic_causes, image_causes, argument_causes}
 use Rattle.image.specs.Arguments.{leaf_for, start_for, count_for, header_causes}
 use Rattle.image.proofs.Causes.{magic-numbered, image-numbered, argument-numbered, header-numbered}
-use Rattle.leaf.specs.Leaf.{block_at, cut, start_by_stepping, block_causes}
+use Rattle.leaf.specs.Leaf.{cut, block_causes}
 use Rattle.leaf.proofs.Cuts.{accepted-blocks}
 use Rattle.reader.specs.Reading.{blocks_for, leaf_causes_for, judge_causes}
 use Rattle.sheet.specs.Lists.{padded}
 use Rattle.sheet.specs.Record.{Plain}
 use Rattle.sheet.specs.Image.{leaf_start, front_with, front_of, encodes, control_bytes, leaf_head_of, leaf_of, covered_of, board_of}
 use Rattle.sheet.specs.Image.{image_of, newest_in, newest}
-use Rattle.sheet.specs.Image.{entry_from, image_from, leaf_end, is_tidy}
+use Rattle.sheet.specs.Image.{entry_from, image_from, sizes, leaf_end, is_tidy}
 use Rattle.sheet.specs.Write.{any_bad, stray_control, cannot_hold}
 use Rattle.rom.proofs.Layouts.{Geometry, geometry, right-length}
 use Rattle.rom.proofs.Lists.{word_of, word_back, zeros-are, zeros-all, bytes_drop, bytes_take, spell, spelled}
@@ -133,12 +133,9 @@ module _ (l : Layout) (chip : ℕ) (s : List ℕ) (leaf : word_at s 27 ≡ leaf_
   unfolding newest_in
   blocks-are = ap₂ (cut (row_of chip)) count-is rest-is
 
-  end_is : leaf_end l chip s
-      ≡ start_by_stepping (row_of chip) (byte_at (drop leaf_start s) (header_length (row_of chip) - 1))
-      (block_at (leaf_start + header_length (row_of chip))
-      (take (leaf_room l - header_length (row_of chip)) (drop (header_length (row_of chip)) (drop leaf_start s))))
-  unfolding leaf_end newest_in
-  end_is = λ i. start_by_stepping (row_of chip) (count-is i) (block_at (start_is i) (rest-is i))
+  end_is : leaf_end l chip s ≡ leaf_start + (header_length (row_of chip) + sizes (row_of chip) (blocks_for s (newest l chip)))
+  unfolding leaf_end
+  end_is = omega (arith, start_is)
 
 -- ## The leaf of a record
 
@@ -220,28 +217,18 @@ module _ (l : Layout) (p : Plain) (out : List ℕ) (z : SizedFields p) (fits : l
   blocks-length : length (encodes p.entries ++ gap l p) ≡ leaf_room l - header_length (row_of p.chip)
   blocks-length = simp (length-append, length-replicate) (omega (arith, leaf-length p, fits))
 
-  image-rest : take (leaf_room l - header_length (row_of p.chip))
-      (drop (header_length (row_of p.chip)) (drop leaf_start (image_of l p out)))
-      ≡ encodes p.entries ++ gap l p
-  image-rest =
-      ap (λ (x : List ℕ). take (leaf_room l - header_length (row_of p.chip)) (drop (header_length (row_of p.chip)) x)) front_of_lem.behind
-      ∙ ap (take (leaf_room l - header_length (row_of p.chip))) (drop_at (leaf_head_of p) _ _ (leaf-head-length p))
-      ∙ take_at (encodes p.entries ++ gap l p) (behind_leaves l p out) _ blocks-length
-
-  image-count : byte_at (drop leaf_start (image_of l p out)) (header_length (row_of p.chip) - 1) ≡ length p.entries
-  image-count = ap (λ (x : List ℕ). byte_at x (header_length (row_of p.chip) - 1)) front_of_lem.behind ∙ head-count p _
-
   image-blocks : blocks_for (image_of l p out) (newest l p.chip)
       ≡ cut (row_of p.chip) (length p.entries) (encodes p.entries ++ gap l p)
-  image-blocks = blocks-are l p.chip (image_of l p out) front_of_lem.leaf ∙ ap₂ (cut (row_of p.chip)) image-count image-rest
-
-  image-end : leaf_end l p.chip (image_of l p out)
-      ≡ start_by_stepping (row_of p.chip) (length p.entries)
-      (block_at (leaf_start + header_length (row_of p.chip)) (encodes p.entries ++ gap l p))
-  image-end =
-      end_is l p.chip (image_of l p out) front_of_lem.leaf
-      ∙ ap₂ (λ (n : ℕ) (s : List ℕ). start_by_stepping (row_of p.chip) n (block_at (leaf_start + header_length (row_of p.chip)) s))
-      image-count image-rest
+  image-blocks =
+      let f = front_of_lem in
+      let r : take (leaf_room l - header_length (row_of p.chip)) (drop (header_length (row_of p.chip)) (drop leaf_start (image_of l p out)))
+      ≡ encodes p.entries ++ gap l p
+      = ap (λ (x : List ℕ). take (leaf_room l - header_length (row_of p.chip)) (drop (header_length (row_of p.chip)) x)) f.behind
+      ∙ ap (take (leaf_room l - header_length (row_of p.chip))) (drop_at (leaf_head_of p) _ _ (leaf-head-length p))
+      ∙ take_at (encodes p.entries ++ gap l p) (behind_leaves l p out) _ blocks-length in
+      let n : byte_at (drop leaf_start (image_of l p out)) (header_length (row_of p.chip) - 1) ≡ length p.entries
+      = ap (λ (x : List ℕ). byte_at x (header_length (row_of p.chip) - 1)) f.behind ∙ head-count p _ in
+      blocks-are l p.chip (image_of l p out) f.leaf ∙ ap₂ (cut (row_of p.chip)) n r
 
   image-maker : take 2 (drop (leaves_end l) (image_of l p out)) ≡ p.maker
   image-maker =
@@ -274,7 +261,7 @@ module _ (l : Layout) (p : Plain) (out : List ℕ) (z : SizedFields p) (fits : l
         ∙ ap (λ (x : List ℕ). pick (eqb (row_of p.chip) row21140) (byte_at x 2) 0) f.behind ∙ head-control p _ holds-control in
         let m = image-maker in
         let e = ap (map (entry_from (row_of p.chip))) image-blocks
-        ∙ (cut-encodes (row_of p.chip) 0 p.entries (gap l p) holds-entries).0 in
+        ∙ (cut-encodes (row_of p.chip) p.entries (gap l p) holds-entries).0 in
         λ i. record {
           id = f.id i;
           last_id = f.last_id i;
@@ -293,9 +280,10 @@ module _ (l : Layout) (p : Plain) (out : List ℕ) (z : SizedFields p) (fits : l
     unfolding is_tidy controller_count
     image-tidy =
         let f = front_of_lem in
-        let n = (cut-encodes (row_of p.chip) (leaf_start + header_length (row_of p.chip)) p.entries (gap l p) holds-entries).1 in
+        let n : sizes (row_of p.chip) (blocks_for (image_of l p out) (newest l p.chip)) ≡ length (encodes p.entries)
+        = ap (sizes (row_of p.chip)) image-blocks ∙ (cut-encodes (row_of p.chip) p.entries (gap l p) holds-entries).1 in
         let end : leaf_end l p.chip (image_of l p out) ≡ leaf_start + length (leaf_of p)
-        = image-end ∙ omega (arith, n, leaf-length p) in
+        = omega (arith, end_is l p.chip (image_of l p out) f.leaf, n, leaf-length p) in
         let behind : drop leaf_start (image_of l p out) ≡ leaf_of p ++ (gap l p ++ behind_leaves l p out)
         = f.behind ∙ (unfold leaf_of in regroup (leaf_head_of p) (encodes p.entries) (gap l p) (behind_leaves l p out)) in
         let none : up_to_leaves_end l (image_of l p out) (leaf_end l p.chip (image_of l p out)) ≡ gap l p
@@ -395,7 +383,7 @@ module _ (l : Layout) (chip : ℕ) (s : List ℕ) (by : Bytes s) (a : AcceptedIm
   rest = take (leaf_room l - header_length (row_of chip)) (drop (header_length (row_of chip)) (drop leaf_start s))
 
   abbrev used : ℕ
-  used = length (encodes (map (entry_from (row_of chip)) (blocks_for s (newest l chip))))
+  used = sizes (row_of chip) (blocks_for s (newest l chip))
 
   rest-length : length rest ≡ leaf_room l - header_length (row_of chip)
   rest-length =
@@ -467,17 +455,12 @@ module _ (l : Layout) (chip : ℕ) (s : List ℕ) (by : Bytes s) (a : AcceptedIm
   pub means-fits : length (leaf_of (image_from l chip s)) ≤ leaf_room l
   means-fits = omega (arith, means-length, used-fits)
 
-  means-end : leaf_end l chip s ≡ leaf_start + (header_length (row_of chip) + used)
-  means-end =
-      let e = rest-encoded.ends (leaf_start + header_length (row_of chip)) in
-      end_is l chip s t.leaf ∙ omega (arith, rw (← blocks-are l chip s t.leaf) at e)
-
   means-gap : take (leaf_room l - (header_length (row_of chip) + used)) (drop (header_length (row_of chip) + used) (drop leaf_start s))
       ≡ replicate (leaf_room l - (header_length (row_of chip) + used)) 0
   means-gap =
       let e : up_to_leaves_end l s (leaf_end l chip s)
       ≡ take (leaf_room l - (header_length (row_of chip) + used)) (drop (header_length (row_of chip) + used) (drop leaf_start s))
-      = ap (up_to_leaves_end l s) means-end ∙ up_to l chip s t.leaf (header_length (row_of chip) + used) in
+      = ap (up_to_leaves_end l s) (end_is l chip s t.leaf) ∙ up_to l chip s t.leaf (header_length (row_of chip) + used) in
       zeros-are _ _ (rw (← e) t.zero) (length-take-le (leaf_room l - (header_length (row_of chip) + used))
       (drop (header_length (row_of chip) + used) (drop leaf_start s))
       (omega (arith, length-drop (header_length (row_of chip) + used) (drop leaf_start s), behind-length, used-fits)))

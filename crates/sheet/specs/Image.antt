@@ -10,9 +10,8 @@ use Rattle.format.specs.Chips.{row_of, row21140, kind_compact, kind21041, newest
 use Rattle.format.specs.Block.{is_extended, size_of, kind_of}
 use Rattle.image.specs.declared.Arguments.{Arguments}
 use Rattle.image.specs.Image.{controller_count, leaf_at, control_byte, up_to_leaves_end}
-use Rattle.image.specs.Arguments.{leaf_for, count_for}
-use Rattle.leaf.specs.Leaf.{start_by_stepping}
-use Rattle.reader.specs.Reading.{first_block_for, blocks_for}
+use Rattle.image.specs.Arguments.{leaf_for, start_for}
+use Rattle.reader.specs.Reading.{blocks_for}
 use Rattle.sheet.specs.Lists.{padded}
 use Rattle.sheet.specs.Record.{Entry, Plain}
 
@@ -105,9 +104,14 @@ image_from l chip image = record {
 
 -- ## Tidiness
 
--- behind the leaf's last byte, where a step for each of its blocks leads
+-- how many bytes the blocks take
+unfoldable pub sizes : ℕ → List (List ℕ) → ℕ
+sizes row [] = 0
+sizes row (s ∷ bs) = size_of row s + sizes row bs
+
+-- behind the leaf's last byte
 unfoldable pub leaf_end : Layout → ℕ → List ℕ → ℕ
-leaf_end l chip image = start_by_stepping (row_of chip) (count_for image (newest l chip)) (first_block_for image (newest l chip))
+leaf_end l chip image = start_for image (newest l chip) + sizes (row_of chip) (blocks_for image (newest l chip))
 
 -- n = 1, leaf at 30, zeros after the leaf's last byte up to where leaves end
 unfoldable pub is_tidy : Layout → ℕ → List ℕ → Bool

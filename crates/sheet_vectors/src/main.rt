@@ -92,12 +92,20 @@ fn print_record(sheet: &[u8], record: Record, block: &[u8], buffer: &mut [u8]) {
     }
     if record.is_large {
         let mut image = [0u8; rom::LARGE_LENGTH];
-        put_bytes(&mut image, rom::magic_at(rom::LARGE_SIZE), block);
+        put_bytes(
+            &mut image,
+            ByteOffset(rom::magic_at(rom::LARGE_SIZE)),
+            block,
+        );
         print_written(sheet, record, &mut image, buffer);
         return;
     }
     let mut image = [0u8; rom::SMALL_LENGTH];
-    put_bytes(&mut image, rom::magic_at(rom::SMALL_SIZE), block);
+    put_bytes(
+        &mut image,
+        ByteOffset(rom::magic_at(rom::SMALL_SIZE)),
+        block,
+    );
     print_written(sheet, record, &mut image, buffer);
 }
 

@@ -10,12 +10,11 @@ use Rattle.rom.specs.Refusal.{first_met}
 use Rattle.image.specs.declared.Arguments.{Arguments}
 use Rattle.header.specs.declared.Header.{Header}
 use Rattle.image.specs.Image.{is_first_version, up_to_leaves_end}
-use Rattle.image.specs.Arguments.{row_for, count_for, header_causes}
+use Rattle.image.specs.Arguments.{row_for, start_for, count_for, header_causes}
 use Rattle.header.specs.Header.{found_header, header_for}
 use Rattle.header.proofs.Headers.{read_number, no-refusal, read_found, read_count}
-use Rattle.leaf.specs.Leaf.{block_at, cut, place_by_stepping, first_from}
+use Rattle.leaf.specs.Leaf.{cut, first_from, place_by_stepping}
 use Rattle.leaf.proofs.Stepping.{placed-stepping}
-use Rattle.reader.specs.Reading.{first_block_for}
 use Rattle.survey.specs.Survey.{has_leaf, no_place, place_at, place_for, is_refused, refused_for}
 
 module _ (image : List ℕ) (a : Arguments) (h : Header) (eh : h ≡ header_for image a) where
@@ -50,10 +49,11 @@ module _ (image : List ℕ) (a : Arguments) (h : Header) (eh : h ≡ header_for 
     no-block-place k l = simp (accepted, le-ltb k (count_for image a) (rw count at l))
 
     pub block-stands : (rest : List ℕ) → rest ≡ up_to_leaves_end a.layout image h.start → (k : ℕ) → k < h.blocks
-        → place_at h.row (place_by_stepping h.row k (block_at h.start rest)) ≡ place_for image a k
+        → place_at h.row (place_by_stepping h.row h.start k rest) ≡ place_for image a k
     unfolding place_for found_header pick
     block-stands rest e k l =
-        let placed = placed-stepping (row_for a) (count_for image a) k (first_block_for image a) _ (rw count at l) in
+        let s = up_to_leaves_end a.layout image (start_for image a) in
+        let placed = placed-stepping (row_for a) (start_for image a) (count_for image a) k s _ (rw count at l) in
         simp (accepted, lt-ltb k (count_for image a) (rw count at l)) (rw (e, found) (ap (place_at (row_for a)) (sym placed)))
 
     pub leaf-refused : (rest : List ℕ) → rest ≡ up_to_leaves_end a.layout image h.start → {first : Bool} → first ≡ is_first_version image

@@ -15,9 +15,9 @@ use Rattle.format.specs.Block.{size_of, kind_of, refusal_in}
 use Rattle.block.specs.Answer.{block_in, number_of, size_in}
 use Rattle.block.proofs.Seen.{SeenAs, seen_as, seen_size}
 use Rattle.block.proofs.Versions.{answers-first, found-later}
-use Rattle.leaf.specs.Leaf.{PlacedBlock, block_at, cut, place_by_stepping, Running, first_from}
+use Rattle.leaf.specs.Leaf.{cut, first_from, place_by_stepping}
 use Rattle.leaf.proofs.Cuts.{cut-more, cut-none, rest_part, size_fits}
-use Rattle.leaf.proofs.Stepping.{running-start}
+use Rattle.leaf.proofs.Stepping.{Stands}
 use Rattle.survey.specs.Survey.{place_at, is_refused}
 
 -- ## Where the next block stands
@@ -29,11 +29,10 @@ behind-end n s h =
     rest_part (length s) s ∙ drop-length s ∙ sym (drop_of_length-le s l)
 
 -- what `find` answers: z is the size of the block where the steps led, t its kind
-pub find-done : (row number : ℕ) (first : PlacedBlock) {k at : ℕ} {rest : List ℕ} {z t : ℕ} → Running row first k (block_at at rest)
-    → k ≡ number → z ≡ size_of row rest → t ≡ kind_of row rest
-    → record { start = at; size = z; kind = t } ≡ place_at row (place_by_stepping row number first)
-find-done row number first {k} {at} {rest} r ek ez et =
-    rw (ez, et, ← ek) (ap (place_at row) (running-start row first k (block_at at rest) r))
+pub find-done : (row first number : ℕ) (s : List ℕ) {k at : ℕ} {rest : List ℕ} {z t : ℕ} → Stands row first s k at rest → k ≡ number
+    → z ≡ size_of row rest → t ≡ kind_of row rest
+    → record { start = at; size = z; kind = t } ≡ place_at row (place_by_stepping row first number s)
+find-done row first number s e ek ez et = rw (ez, et, ← ek) (ap (place_at row) e)
 
 -- ## The first block that is refused
 

@@ -7,9 +7,9 @@ use Rattle.rom.specs.Refusal.{first_met}
 use Rattle.format.specs.Block.{size_of, kind_of, refusal_in}
 use Rattle.image.specs.declared.Arguments.{Arguments}
 use Rattle.image.specs.Image.{is_first_version}
-use Rattle.image.specs.Arguments.{row_for, count_for, header_causes}
-use Rattle.leaf.specs.Leaf.{PlacedBlock, first_from}
-use Rattle.reader.specs.Reading.{placed_for, blocks_for}
+use Rattle.image.specs.Arguments.{row_for, start_for, count_for, header_causes}
+use Rattle.leaf.specs.Leaf.{first_from, placed, PlacedBlock}
+use Rattle.reader.specs.Reading.{blocks_for}
 use Rattle.survey.specs.declared.Place.{Place}
 
 -- whether nothing before the blocks refuses the reading (1 to 11)
@@ -26,7 +26,7 @@ place_at row p = record { start = p.start; size = size_of row p.rest; kind = kin
 
 -- block k of the leaf that the arguments name, which no level changes
 abbrev pub standing_for : List ℕ → Arguments → ℕ → PlacedBlock
-standing_for image a k = get_or (placed_for image a) k (record { start = 0; rest = [] })
+standing_for image a k = get_or (placed (row_for a) (start_for image a) (blocks_for image a)) k (record { start = 0; rest = [] })
 
 unfoldable pub place_for : List ℕ → Arguments → ℕ → Place
 place_for image a k = pick (has_leaf image a && ltb k (count_for image a)) (place_at (row_for a) (standing_for image a k)) no_place

@@ -1,7 +1,7 @@
 // The blocks of a controller's leaf one by one, by their numbers, whether the reading is accepted or not: where each
 // stands, and which one a refusal names.
 ghost use Rattle.std.specs.Prelude.{◌≡◌, ◌<◌, drop};
-ghost use Rattle.leaf.specs.Leaf.{block_at, cut, place_by_stepping, first_from};
+ghost use Rattle.leaf.specs.Leaf.{cut, first_from, place_by_stepping};
 ghost use Rattle.survey.specs.Survey.{no_place, place_at, place_for, is_refused, refused_for};
 
 use block::shape;
@@ -41,7 +41,7 @@ fn behind(rest: &[u8], size: usize) -> &[u8]
 // bits, since at most 255 blocks of at most 128 bytes stand before it.
 fn find_place(blocks: &[u8], start: usize, row: usize, number: u8) -> Place
     requires { start < 1024 }
-    ensures { result ≡ place_at row (place_by_stepping row number (block_at start blocks.now)) }
+    ensures { result ≡ place_at row (place_by_stepping row start number blocks.now) }
 {
     let mut rest = blocks;
     let mut at = start;

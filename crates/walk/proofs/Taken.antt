@@ -39,7 +39,7 @@ same-medium c row level s =
     ap₂ (λ (way : Way) (d : ℕ). is_listed row level s && (is_fixed way && has_medium d facts.code facts.capabilities))
     (same-way-taken c) (taken_twice c)
 
-pub same_flags : (p q : List ℕ → Bool) → ((s : List ℕ) → p s ≡ q s) → (bs : List (List ℕ)) → flags p bs ≡ flags q bs
+same_flags : (p q : List ℕ → Bool) → ((s : List ℕ) → p s ≡ q s) → (bs : List (List ℕ)) → flags p bs ≡ flags q bs
 unfolding flags
 same_flags p q e bs = ap (λ (row : List ℕ). row ++ replicate (row_length - length bs) 0) (go bs)
   where

@@ -11,7 +11,7 @@ use Rattle.rom.specs.Refusal.{first_met}
 use Rattle.walk.specs.declared.Walk.{Walk}
 use Rattle.walk.specs.declared.Way.TheVariants.{EveryLook, Once, Fixed}
 use Rattle.walk.specs.Walk.{way_of, stays, up_in, sensed, fixed_block, chosen, look_causes, stepped, walked_to, look_for}
-use Rattle.walk.specs.Claims.{under, EqualButType, SameWay}
+use Rattle.walk.specs.Claims.{under, EqualButType, SameWay, EmptyAsOnce}
 use Rattle.walk.proofs.Computes.{look-computes}
 
 -- ## The three ways
@@ -88,3 +88,7 @@ same_way c d same v w e (report ∷ reports) =
     let next : EqualButType c d (look_for v report).walk (look_for w report).walk =
     (first.1, (look-first d c (sym same) w v (e.1, e.0) report).1) in
     (first.0, next, same_way c d same (look_for v report).walk (look_for w report).walk next reports)
+
+pub empty-as-once : EmptyAsOnce
+unfolding look-computes
+empty-as-once = same_way 0xFFFF 0x8800 refl

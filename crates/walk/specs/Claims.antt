@@ -79,6 +79,10 @@ LookAlike c d v w (report ∷ reports) =
 abbrev pub SameWay : Type 0
 SameWay = (c d : ℕ) → way_of c ≡ way_of d → (v w : Walk) → EqualButType c d v w → (reports : List (List ℕ)) → LookAlike c d v w reports
 
+-- an empty connection word is walked as 0x8800
+abbrev pub EmptyAsOnce : Type 0
+EmptyAsOnce = (v w : Walk) → EqualButType 0xFFFF 0x8800 v w → (reports : List (List ℕ)) → LookAlike 0xFFFF 0x8800 v w reports
+
 -- ## Fixed connections (document 02, request 5)
 
 -- under a fixed type each accepted look of a list selects this block and settles

@@ -14,7 +14,7 @@ use Rattle.sheet.specs.Form.{is_beyond}
 use Rattle.sheet.specs.Sheet.{head_of, kind_bytes, size_bytes, body_bytes, parts_of, sheet_of, entries_from, plain_from, is_sheet}
 use Rattle.sheet.specs.Image.{front_with, front_of, is_whole, opening_of, encodes, control_bytes, leaf_head_of, leaf_of}
 use Rattle.sheet.specs.Image.{covered_of, board_of, image_of, newest_in}
-use Rattle.sheet.specs.Image.{opening_length, body_of, image_from, leaf_end, is_tidy}
+use Rattle.sheet.specs.Image.{opening_length, body_of, image_from, sizes, leaf_end, is_tidy}
 use Rattle.sheet.specs.Write.{is_other_family, is_bad_body, is_bad, any_bad, stray_control, cannot_hold, record_causes, too_many_blocks}
 use Rattle.sheet.specs.Write.{wrong_output, write_causes, written}
 use Rattle.sheet.specs.Make.{make_causes, make_number, make_length, made}
@@ -46,7 +46,7 @@ unfoldable pub sheet-computes : Unit {0}
 unfolding image-computes word_bytes sum padded over
     head_of kind_bytes size_bytes body_bytes parts_of sheet_of entries_from plain_from is_sheet
     front_with front_of is_whole opening_of encodes control_bytes leaf_head_of leaf_of is_beyond covered_of board_of image_of
-    newest_in opening_length body_of image_from leaf_end is_tidy
+    newest_in opening_length body_of image_from sizes leaf_end is_tidy
     is_other_family is_bad_body is_bad any_bad stray_control cannot_hold record_causes too_many_blocks wrong_output write_causes written
     make_causes make_number make_length made write_apart make_apart
 sheet-computes = tt

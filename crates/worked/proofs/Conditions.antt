@@ -18,7 +18,7 @@ use Rattle.reader.specs.Reading.{blocks_for, judge_causes, judge_answer, answer_
 use Rattle.walk.specs.Walk.{way_of, is_fixed, block_is, fresh_walk}
 use Rattle.older.specs.Calls.{Call, load, look, After, run}
 use Rattle.older.specs.Levels.{removed_block}
-use Rattle.older.specs.Claims.{choice_for}
+use Rattle.older.specs.Claims.{newest_choice}
 use Rattle.older.proofs.Numbered.{flag-none}
 use Rattle.older.proofs.Simulation.{switches_in}
 use Rattle.worked.specs.Cases.{image_with, then, refused_then}
@@ -119,7 +119,7 @@ up-computes :
     × (seen_at up_leaf newest_level one_link ≡ after-load ∷ then true 0 1 1 ∷ [])
     × (seen_at up_leaf 2 one_link ≡ after-load ∷ then false none 1 0 ∷ [])
     × (is_fixed (way_of (accepted_answer (card up_leaf) (for_level newest_level)).connection) ≡ false)
-    × (removed_block (card up_leaf) for21143 2 newest_level (accepted_answer (card up_leaf) (for_level newest_level)).default_number ≡ false)
+    × (removed_block (card up_leaf) for21143 2 (accepted_answer (card up_leaf) (for_level newest_level)).default_number ≡ false)
 unfolding walk-computes
 up-computes = (refl, refl, refl, refl, refl)
 
@@ -135,8 +135,7 @@ removed-up = record {
     way = of-accepted up_leaf up-computes.0 (λ r. is_fixed (way_of r.connection)) ∙ up-computes.3;
     differ = walks-apart up_leaf 2 one_link _ _ up-computes.1 up-computes.2 refl refl;
   };
-  «default» =
-      of-accepted up_leaf up-computes.0 (λ r. removed_block (card up_leaf) for21143 2 newest_level r.default_number) ∙ up-computes.4;
+  «default» = of-accepted up_leaf up-computes.0 (λ r. removed_block (card up_leaf) for21143 2 r.default_number) ∙ up-computes.4;
 }
 
 -- ## A removed choice: that block on a card that is set to 10BaseT, at level 2, and a report with no link
@@ -149,10 +148,8 @@ choice-computes :
     × (seen_at choice_leaf newest_level no_link ≡ after-load ∷ then true 0 1 1 ∷ [])
     × (seen_at choice_leaf 2 no_link ≡ after-load ∷ refused_then 32 false none 0 0 ∷ [])
     × (is_fixed (way_of (accepted_answer (card choice_leaf) (for_level newest_level)).connection) ≡ true)
-    × (block_is (is_listed (row_for for21143) 2) (blocks_for (card choice_leaf) for21143) (choice_for (card choice_leaf) (for_level newest_level))
-    ≡ false)
-    × (removed_block (card choice_leaf) for21143 2 newest_level (accepted_answer (card choice_leaf) (for_level newest_level)).default_number
-    ≡ false)
+    × (block_is (is_listed (row_for for21143) 2) (blocks_for (card choice_leaf) for21143) (newest_choice (card choice_leaf) for21143) ≡ false)
+    × (removed_block (card choice_leaf) for21143 2 (accepted_answer (card choice_leaf) (for_level newest_level)).default_number ≡ false)
 unfolding walk-computes
 choice-computes = (refl, refl, refl, refl, refl, refl)
 
@@ -170,8 +167,7 @@ removed-choice = record {
   };
   unlisted = choice-computes.4;
   none-removed = (
-    of-accepted choice_leaf choice-computes.0 (λ r. removed_block (card choice_leaf) for21143 2 newest_level r.default_number)
-        ∙ choice-computes.5,
+    of-accepted choice_leaf choice-computes.0 (λ r. removed_block (card choice_leaf) for21143 2 r.default_number) ∙ choice-computes.5,
     (tt, (λ e k r. flag-none 1 k, tt)),
   );
 }

@@ -15,8 +15,8 @@ use Rattle.sheet.specs.Sheet.{sheet_from}
 use Rattle.sheet.specs.Image.{image_of}
 use Rattle.sheet.specs.Write.{written}
 use Rattle.sheet.specs.Make.{sheet_for, made}
-use Rattle.worked.specs.Sheets.{SheetCase, case21143, case21140, case21041, case_no_block, case_power, run_sheet, sheet_cases, try}
-use Rattle.worked.specs.Sheets.{all_ones, changes, long, unknown_body, untidy, repeated_mode, case_magic, untidy_magic}
+use Rattle.worked.specs.Sheets.{SheetCase, case21143, case21140, case21041, case_no_block, run_sheet, sheet_cases, try}
+use Rattle.worked.specs.Sheets.{all_ones, changes, long, unknown_body, untidy, case_magic, untidy_magic}
 use Rattle.worked.specs.Claims.{SheetsWorked, MagicSheetsWorked}
 use Rattle.worked.proofs.Computes.{sheet-computes}
 use Rattle.worked.proofs.Sealed.{Sealed}
@@ -55,15 +55,14 @@ runs : (c : SheetCase) → EachOthers without_magic c all_ones → run_sheet c �
 unfolding run_sheet
 runs c e = λ i. record { chip = c.chip; sheet = is_made without_magic c all_ones e i; image = is-written without_magic c all_ones e i }
 
--- the cases: their images, with their CRCs, and the rest without
+-- the four cases: their images, with their CRCs, and the rest without
 images :
     (image_of without_magic (sheet_from Narrow case21143.sheet) all_ones ≡ case21143.image)
     × (image_of without_magic (sheet_from Narrow case21140.sheet) all_ones ≡ case21140.image)
     × (image_of without_magic (sheet_from Narrow case21041.sheet) all_ones ≡ case21041.image)
     × (image_of without_magic (sheet_from Narrow case_no_block.sheet) all_ones ≡ case_no_block.image)
-    × (image_of without_magic (sheet_from Narrow case_power.sheet) all_ones ≡ case_power.image)
-unfolding sheet-computes srom_crc id_crc case21143 case21140 case21041 case_no_block case_power all_ones
-images = (refl, refl, refl, refl, refl)
+unfolding sheet-computes srom_crc id_crc case21143 case21140 case21041 case_no_block all_ones
+images = (refl, refl, refl, refl)
 
 pub of21143 : EachOthers without_magic case21143 all_ones
 unfolding sheet-computes case21143 all_ones
@@ -81,15 +80,9 @@ of_no_block : EachOthers without_magic case_no_block all_ones
 unfolding sheet-computes case_no_block all_ones
 of_no_block = record { writes = refl; image = images.3; makes = refl; sheet = refl }
 
-of_power : EachOthers without_magic case_power all_ones
-unfolding sheet-computes case_power all_ones
-of_power = record { writes = refl; image = images.4; makes = refl; sheet = refl }
-
 all-run : map run_sheet sheet_cases ≡ sheet_cases
 unfolding sheet_cases
-all-run = λ i.
-    runs case21143 of21143 i ∷ runs case21140 of21140 i ∷ runs case21041 of21041 i ∷ runs case_no_block of_no_block i
-    ∷ runs case_power of_power i ∷ []
+all-run = λ i. runs case21143 of21143 i ∷ runs case21140 of21140 i ∷ runs case21041 of21041 i ∷ runs case_no_block of_no_block i ∷ []
 
 -- ## Changes
 
@@ -98,13 +91,8 @@ untidy-sealed : Sealed without_magic untidy
 unfolding sheet-computes srom_crc id_crc case21143 untidy
 untidy-sealed = record { srom = refl; id = refl }
 
--- and one with a mode set twice
-repeated-sealed : Sealed without_magic repeated_mode
-unfolding sheet-computes srom_crc id_crc case_power repeated_mode
-repeated-sealed = record { srom = refl; id = refl }
-
 pub sheets-worked : SheetsWorked
-unfolding sheet-computes case21143 case21140 case21041 case_power try changes all_ones long unknown_body untidy repeated_mode
+unfolding sheet-computes case21143 case21140 case21041 try changes all_ones long unknown_body untidy
 sheets-worked =
     let s = is-sealed without_magic case21143 all_ones of21143 in
     let i = case21143.image in (
@@ -117,7 +105,6 @@ sheets-worked =
       made-apart Narrow without_magic the_later_edition i 21143 s (replicate 57 1) refl ∙ refl,
       make-apart Narrow without_magic the_later_edition i 21143 s 54 ∙ refl,
       make-apart Narrow without_magic the_later_edition untidy 21143 untidy-sealed 57 ∙ refl,
-      make-apart Narrow without_magic the_later_edition repeated_mode 21143 repeated-sealed 57 ∙ refl,
     )
 
 -- ## Before a Magic Packet block

@@ -10,13 +10,13 @@ use Rattle.reader.specs.Reading.{blocks_for, judge_causes, judge_answer}
 use Rattle.walk.specs.Walk.{is_fixed, block_is, fresh_walk}
 use Rattle.older.specs.Calls.{Call, Down, run}
 use Rattle.older.specs.Levels.{removed_block}
-use Rattle.older.specs.Claims.{NoneRemoved, choice_for, way_for}
+use Rattle.older.specs.Claims.{NoneRemoved, newest_choice, way_for}
 use Rattle.sheet.specs.declared.Form.TheVariants.{Narrow}
 use Rattle.sheet.specs.Write.{write_number, written}
 use Rattle.sheet.specs.Make.{make_number, make_length, made}
 use Rattle.worked.specs.Cases as whole
 use Rattle.worked.specs.Sheets as sheets
-use Rattle.worked.specs.Sheets.{changes, try, all_ones, long, unknown_body, case21143, untidy, repeated_mode, case_magic, untidy_magic}
+use Rattle.worked.specs.Sheets.{changes, try, all_ones, long, unknown_body, case21143, untidy, case_magic, untidy_magic}
 
 -- cases a to k, as whole images: each is answered as it says
 abbrev pub ImagesWorked : Type 0
@@ -29,14 +29,6 @@ MagicImagesWorked = map whole.worked whole.magic_image_cases ≡ whole.magic_ima
 -- and so is a card with a power block
 abbrev pub PowerImagesWorked : Type 0
 PowerImagesWorked = map whole.worked whole.power_image_cases ≡ whole.power_image_cases
-
--- and so is one that is refused with 31 at the newest level and read below it
-abbrev pub RepeatedWorked : Type 0
-RepeatedWorked = map whole.worked whole.repeated_image_cases ≡ whole.repeated_image_cases
-
--- and so are cards at the newest level and at an older one: with an empty connection word, and in the other layouts
-abbrev pub OlderWorked : Type 0
-OlderWorked = map whole.worked whole.older_cases ≡ whole.older_cases
 
 -- and so are cards under fixed types
 abbrev pub FixedImagesWorked : Type 0
@@ -58,7 +50,6 @@ SheetsWorked =
     × (made Narrow without_magic the_later_edition case21143.image 21143 (replicate 57 1) ≡ case21143.sheet ++ 1 ∷ 1 ∷ [])
     × (make_number Narrow without_magic the_later_edition case21143.image 21143 54 ≡ 12)
     × (make_number Narrow without_magic the_later_edition untidy 21143 57 ≡ 27)
-    × (make_number Narrow without_magic the_later_edition repeated_mode 21143 57 ≡ 31)
 
 -- and before a Magic Packet block: it is kept, and judged; leaves end before it, and tidiness does
 abbrev pub MagicSheetsWorked : Type 0
@@ -80,24 +71,24 @@ pub record Differ (fixed : Bool) : Type 0 where
   pub calls : List Call
   pub below : older < newest_level
   pub accepted : first_met (judge_causes image (at_level arguments newest_level)) ≡ 0
-  pub way : is_fixed (way_for image (at_level arguments newest_level)) ≡ fixed
+  pub way : is_fixed (way_for image arguments) ≡ fixed
   pub differ : run image (at_level arguments newest_level) fresh_walk calls ≡ run image (at_level arguments older) fresh_walk calls → ⊥
 
 -- a removed default, though no removed entry is up at a look that the newest walk accepts
 pub record RemovedDefault : Type 0 where
   pub walks : Differ false
-  pub down : Down (removed_block walks.image walks.arguments walks.older newest_level) walks.image
+  pub down : Down (removed_block walks.image walks.arguments walks.older) walks.image
       (at_level walks.arguments newest_level) fresh_walk walks.calls
 
 -- a removed entry up, though the default is none
 pub record RemovedUp : Type 0 where
   pub walks : Differ false
-  pub «default» : removed_block walks.image walks.arguments walks.older newest_level
+  pub «default» : removed_block walks.image walks.arguments walks.older
       (judge_answer walks.image (at_level walks.arguments newest_level)).default_number ≡ false
 
 -- under a fixed type, a choice that the older level does not list, though the default is none and no removed entry is up
 pub record RemovedChoice : Type 0 where
   pub walks : Differ true
   pub unlisted : block_is (is_listed (row_for walks.arguments) walks.older) (blocks_for walks.image walks.arguments)
-      (choice_for walks.image (at_level walks.arguments newest_level)) ≡ false
-  pub none-removed : NoneRemoved walks.image walks.arguments walks.older newest_level walks.calls
+      (newest_choice walks.image walks.arguments) ≡ false
+  pub none-removed : NoneRemoved walks.image walks.arguments walks.older walks.calls

@@ -98,30 +98,6 @@ case_no_block = record {
       ++ (replicate 91 0 ++ 0 ∷ 0 ∷ 0x93 ∷ 0x94 ∷ []);
 }
 
--- two power blocks, which have no mode in common, around one of type 2
-unfoldable pub case_power : SheetCase
-case_power = record {
-  chip = 21143;
-  sheet =
-      3 ∷ 11
-      ∷ 0x11 ∷ 0x22 ∷ 0x33 ∷ 0x44 ∷ 0x55 ∷ 0x66 ∷ 0x77 ∷ 0x88 ∷ 0 ∷ 0 ∷ 0 ∷ 0 ∷ 0 ∷ 0 ∷ 0x99 ∷ 0xAA ∷ 0xBB
-      ∷ 4 ∷ 0 ∷ 0 ∷ 0xF8 ∷ 1 ∷ 2 ∷ 3 ∷ 5
-      ∷ 0x97 ∷ 0x52 ∷ 0 ∷ 8 ∷ 0 ∷ 0xCC ∷ 0xDD
-      ∷ 6 ∷ 0 ∷ 2 ∷ 0 ∷ 6 ∷ 0
-      ∷ 4 ∷ 5 ∷ 2
-      ∷ 1 ∷ 1 ∷ 0x34 ∷ 0x12
-      ∷ 0 ∷ 1 ∷ 0 ∷ 2 ∷ 0
-      ∷ 6 ∷ 0 ∷ [];
-  image =
-      (0x11 ∷ 0x22 ∷ 0x33 ∷ 0x44 ∷ 0x55 ∷ 0x66 ∷ 0x77 ∷ 0x88 ∷ 0 ∷ 0 ∷ 0 ∷ 0 ∷ 0 ∷ 0 ∷ 0x99 ∷ 0xAA ∷ 0x55 ∷ 0xBB
-      ∷ 4 ∷ 1 ∷ 0 ∷ 0 ∷ 0xF8 ∷ 1 ∷ 2 ∷ 3 ∷ 5 ∷ 30 ∷ 0 ∷ 0
-      ∷ 0 ∷ 8 ∷ 3
-      ∷ 0x85 ∷ 6 ∷ 1 ∷ 1 ∷ 0x34 ∷ 0x12
-      ∷ 0x86 ∷ 2 ∷ 0 ∷ 1 ∷ 0 ∷ 2 ∷ 0
-      ∷ 0x83 ∷ 6 ∷ 6 ∷ 0 ∷ [])
-      ++ (replicate 74 0 ++ 0xCC ∷ 0xDD ∷ 0x92 ∷ 0x7B ∷ []);
-}
-
 -- an image of ones
 unfoldable pub all_ones : List ℕ
 all_ones = replicate small_size 1
@@ -135,7 +111,7 @@ run_sheet c = record {
 }
 
 unfoldable pub sheet_cases : List SheetCase
-sheet_cases = case21143 ∷ case21140 ∷ case21041 ∷ case_no_block ∷ case_power ∷ []
+sheet_cases = case21143 ∷ case21140 ∷ case21041 ∷ case_no_block ∷ []
 
 -- ## Changes
 
@@ -170,9 +146,7 @@ changes =
     -- a 21041 kind, a compact body's top bit
     ∷ change case21140 34 1 25 ∷ change case21140 40 0x85 25
     -- a compact kind, EXT of a body of seven bytes, the reserved bit
-    ∷ change case21041 34 0 25 ∷ change case21041 40 1 25 ∷ change case21041 40 0xC1 16
-    -- the second power block's mode, where the first has one of its bits
-    ∷ change case_power 52 3 31 ∷ []
+    ∷ change case21041 34 0 25 ∷ change case21041 40 1 25 ∷ change case21041 40 0xC1 16 ∷ []
 
 -- so many 21041 blocks of one byte
 unfoldable pub long : ℕ → List ℕ
@@ -185,10 +159,6 @@ unknown_body n = 1 ∷ n ∷ (drop 2 (take 34 case21143.sheet) ++ 9 ∷ 0 ∷ n 
 -- case21143's image with byte 123 set, and its CRC
 unfoldable pub untidy : List ℕ
 untidy = set (take 124 case21143.image) 123 1 ++ 0xCC ∷ 0xDD ∷ 0x06 ∷ 0xFF ∷ []
-
--- casePower's image with that mode, and its CRC
-unfoldable pub repeated_mode : List ℕ
-repeated_mode = set (take 124 case_power.image) 48 3 ++ 0xCC ∷ 0xDD ∷ 0xA1 ∷ 0x39 ∷ []
 
 -- ## Before a Magic Packet block
 

@@ -44,12 +44,12 @@ in_its_edition c =
     }
 
 -- read, and block 1 has the fixed medium
-abbrev read_in : ℕ → Bool → ℕ → ℕ → List ℕ → EditionCard
-read_in version edition chip level leaf = record {
+abbrev read_in : ℕ → Bool → ℕ → List ℕ → EditionCard
+read_in version edition chip leaf = record {
   version = version;
   edition = edition;
   chip = chip;
-  level = level;
+  level = 7;
   leaf = leaf;
   seen = then false none 0 0 ∷ then true 1 1 1 ∷ [];
 }
@@ -73,21 +73,19 @@ compacts connection one other =
 abbrev sias : ℕ → ℕ → ℕ → List ℕ
 sias connection one other = connection % 256 ∷ connection / 256 ∷ 0x02 ∷ one ∷ other ∷ []
 
--- each edition reads its own codes, and what one is taken as is walked alike; the 21041's row has 0x0204 alone; the lowest level reads
--- and walks as the newest does
+-- each edition reads its own codes, and what one is taken as is walked alike; the 21041's row has 0x0204 alone
 unfoldable pub edition_cards : List EditionCard
 edition_cards =
-    read_in 1 the_first_edition 21140 7 (compacts 0x0203 3 5) ∷ refused_in 1 the_later_edition 21140 7 (compacts 0x0203 3 5) 11
-    ∷ read_in 1 the_later_edition 21140 7 (compacts 0x0205 3 5) ∷ refused_in 1 the_first_edition 21140 7 (compacts 0x0205 3 5) 11
-    ∷ read_in 1 the_first_edition 21041 7 (sias 0x0200 0 4) ∷ refused_in 1 the_first_edition 21041 7 (sias 0x0203 0 4) 11
-    ∷ read_in 1 the_first_edition 21140 0 (compacts 0x0203 3 5) ∷ read_in 1 the_first_edition 21041 0 (sias 0x0200 0 4)
+    read_in 1 the_first_edition 21140 (compacts 0x0203 3 5) ∷ refused_in 1 the_later_edition 21140 7 (compacts 0x0203 3 5) 11
+    ∷ read_in 1 the_later_edition 21140 (compacts 0x0205 3 5) ∷ refused_in 1 the_first_edition 21140 7 (compacts 0x0205 3 5) 11
+    ∷ read_in 1 the_first_edition 21041 (sias 0x0200 0 4) ∷ refused_in 1 the_first_edition 21041 7 (sias 0x0203 0 4) 11
     ∷ []
 
 -- versions 3 and 4 ignore the edition; 38 stands after 7 and before 8; an unknown type gets 14 in version 1, also where no type is
 -- known; version 2 is none
 unfoldable pub version_cards : List EditionCard
 version_cards =
-    read_in 3 the_first_edition 21140 7 (compacts 0x0205 3 5) ∷ refused_in 4 the_first_edition 21140 7 (compacts 0x0203 3 5) 11
+    read_in 3 the_first_edition 21140 (compacts 0x0205 3 5) ∷ refused_in 4 the_first_edition 21140 7 (compacts 0x0203 3 5) 11
     ∷ refused_in 1 the_first_edition 21144 8 (sias 0x0200 0 4) 7 ∷ refused_in 1 the_first_edition 21143 8 (sias 0x0200 0 4) 38
     ∷ refused_in 1 the_first_edition 21041 8 (sias 0x0200 0 4) 8
     ∷ refused_in 1 the_first_edition 21140 0 (0x00 ∷ 0x08 ∷ 0x00 ∷ 0x01 ∷ 0x81 ∷ 0x09 ∷ []) 14

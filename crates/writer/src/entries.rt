@@ -65,7 +65,7 @@ pub(crate) fn opening_size(kind: u16) -> usize
 // Refusals 25 and 26 of so many entries, from their kinds, body sizes and bodies, where the first block stands at `start` and
 // leaves end before `limit`.
 pub(crate) fn refusal_of(
-    limit: ByteOffset,
+    limit: usize,
     row: usize,
     start: usize,
     count: usize,
@@ -76,7 +76,7 @@ pub(crate) fn refusal_of(
     requires parts { Parts count kinds.now sizes.now bodies.now }
     requires count_bound { (count < 256) × (start < 256) }
     ensures { result ≡
-        first_met (entry_causes limit.0 row start (entries_from count kinds.now sizes.now bodies.now)) }
+        first_met (entry_causes limit row start (entries_from count kinds.now sizes.now bodies.now)) }
 {
     let mut left = count;
     let mut kind_rest = kinds;
@@ -85,7 +85,7 @@ pub(crate) fn refusal_of(
     let mut end = start;
     while 0 < left {
         let kind = rom::word_at(kind_rest, ByteOffset(0));
-        let size = rom::count_at(size_rest, ByteOffset(0));
+        let size = rom::count_at(size_rest, 0);
         let bad = is_bad(row, kind, &body_rest[..size]);
         if bad {
             return refusal::SHEET_ENTRY;
@@ -96,7 +96,7 @@ pub(crate) fn refusal_of(
         body_rest = &body_rest[size..];
         left -= 1;
     }
-    if limit.0 < end {
+    if limit < end {
         return refusal::LEAF_END;
     }
     refusal::ACCEPTED

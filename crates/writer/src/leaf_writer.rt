@@ -59,7 +59,7 @@ fn put_entries(
     let mut to = start;
     while 0 < left {
         let kind = rom::word_at(kind_rest, ByteOffset(0));
-        let size = rom::count_at(size_rest, ByteOffset(0));
+        let size = rom::count_at(size_rest, 0);
         to = put_block(room, to, kind, &body_rest[..size]);
         kind_rest = &kind_rest[2..];
         size_rest = &size_rest[1..];

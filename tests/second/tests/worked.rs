@@ -67,8 +67,8 @@ fn sheets_are_as_second_has_them() {
         .collect();
     assert_eq!(
         cases.len(),
-        5,
-        "a case for each chip's form, one without a block, and one with power blocks"
+        4,
+        "a case for each chip's form, and one without a block"
     );
     for case in &cases {
         let chip = case.split_once(';').unwrap().0.parse().unwrap();
@@ -168,9 +168,6 @@ fn case_k_is_walked_as_second_walks_it() {
 
 /// Where a walk stands after a call that answered a number, as the lists have it.
 fn stands(number: u8, walk: &Autosense) -> String {
-    if walk.blocks().is_none() {
-        return format!("still_fresh {number}");
-    }
     let walk = walk.walk();
     let selected = match walk.selected {
         NONE => "none".to_string(),
@@ -207,19 +204,15 @@ fn cards_under_fixed_types_are_walked_as_second_walks_them() {
         let mut walk = Autosense::default();
         assert_eq!(walk.load(&image, reader), 0);
         let mut found = Vec::new();
-        for report in reports(calls) {
-            let number = walk.look(&report);
-            found.push(stands(number, &walk));
+        let mut words = arguments(calls).into_iter();
+        while let Some(word) = words.next() {
+            if word == "look" {
+                let number = walk.look(&bytes(words.next().unwrap()));
+                found.push(stands(number, &walk));
+            }
         }
         assert_eq!(found.join(" ∷ ") + " ∷ []", seen, "{case}");
     }
-}
-
-/// The reports of the looks in a list of calls.
-fn reports(calls: &str) -> Vec<Vec<u8>> {
-    let words = arguments(calls);
-    let looks = words.windows(2).filter(|pair| pair[0] == "look");
-    looks.map(|pair| bytes(pair[1])).collect()
 }
 
 /// The records of a list of crates/worked_large, each as one line: those that it has, and those that a name with arguments
@@ -265,7 +258,12 @@ fn large_cards_are_read_and_walked_as_second_does() {
             let (_, behind) = card.split_once(&format!("{name} = ")).unwrap();
             behind.split_once(';').unwrap().0.trim()
         };
-        let layout = laid_out(field("layout"));
+        let layout = match field("layout") {
+            "with_magic" => Layout::MAGIC,
+            "large without_magic" => Layout::LARGE_PLAIN,
+            "large with_magic" => Layout::LARGE_MAGIC,
+            other => panic!("{other} is no layout"),
+        };
         let (controllers, start) = (number(field("controllers")), number(field("start")));
         let reading = arguments(field("reading"));
         let (chip, level) = (number(reading[1]) as u16, number(reading[2]) as u8);
@@ -366,97 +364,10 @@ fn stated_sizes_are_refused_as_second_refuses_them() {
 
 /// A card for the chip, with these bytes as its leaf.
 fn with_leaf(chip: u16, leaf: &[u8]) -> Image {
-    laid_out_with(Layout::PLAIN, chip, leaf)
-}
-
-/// The same in a layout.
-fn laid_out_with(layout: Layout, chip: u16, leaf: &[u8]) -> Image {
-    let card = Card::tidy(chip, 0x0800, vec![]);
-    let mut image = card.laid_out(&mut Random::new(1), layout).image();
+    let mut image = Card::tidy(chip, 0x0800, vec![]).image();
     image[TIDY_LEAF..][..leaf.len()].copy_from_slice(leaf);
-    lay_crcs(&mut image, layout);
+    lay_crcs(&mut image, Layout::PLAIN);
     image
-}
-
-/// A card with a mode set twice, at the newest level and below it, and cards at two levels in every layout.
-#[test]
-fn cards_are_walked_below_the_newest_level_as_second_walks_them() {
-    let text = text("worked/specs/Cases.antt");
-    let repeated = specification::cases(&text, "repeated_image_cases");
-    for (made_by, words) in &repeated {
-        walked_as_said(&text, Layout::PLAIN, made_by, words[0], words[1]);
-    }
-    let levels = specification::cases(&text, "both_levels l connection last");
-    let (_, older) = text.split_once("\nolderCases =\n").unwrap();
-    let (older, _) = older.split_once("\n\n").unwrap();
-    let cards: Vec<_> = older
-        .split("++")
-        .map(|card| arguments(card.trim()))
-        .collect();
-    assert_eq!((repeated.len(), levels.len(), cards.len()), (3, 2, 4));
-    for card in cards {
-        let [_, layout, connection, last] = card[..] else {
-            panic!("{card:?}");
-        };
-        for (made_by, words) in &levels {
-            let seen = field(record(&text, made_by), "seen").trim();
-            let reading = words[1].replace("connection", connection);
-            walked_as_said(
-                &text,
-                laid_out(layout),
-                made_by,
-                &reading,
-                &seen.replace("last", last),
-            );
-        }
-    }
-}
-
-/// The layout that a specification names.
-fn laid_out(name: &str) -> Layout {
-    match name {
-        "without_magic" => Layout::PLAIN,
-        "with_magic" => Layout::MAGIC,
-        "large without_magic" => Layout::LARGE_PLAIN,
-        "large with_magic" => Layout::LARGE_MAGIC,
-        _ => panic!("{name} is no layout"),
-    }
-}
-
-/// The record that a name with arguments stands for.
-fn record<'a>(text: &'a str, made_by: &str) -> &'a str {
-    let (_, behind) = text.split_once(&format!("\n{made_by} ")).unwrap();
-    behind.split_once("\n}").unwrap().0
-}
-
-/// A leaf in a layout is read as `reading` says, and walked by the calls of `made_by` as `seen` says.
-fn walked_as_said(text: &str, layout: Layout, made_by: &str, reading: &str, seen: &str) {
-    let words = arguments(reading);
-    let (chip, level) = (number(words[1]) as u16, number(words[2]) as u8);
-    let leaf = bytes(&opened(words[3], text, &["leaf_repeated", "leaf_newer"]));
-    let image = laid_out_with(layout, chip, &leaf);
-    let reader = Arguments::at_level(chip, level).laid_out(layout);
-    let (answer, entries) = read_all(&image, reader);
-    let found = match answer.number {
-        0 => {
-            let counts = [answer.listed, answer.resets, answer.skipped];
-            [
-                counts.map(|it| it.to_string()).to_vec(),
-                tables(&entries).to_vec(),
-            ]
-            .concat()
-        }
-        number => vec![number.to_string()],
-    };
-    assert_eq!(found, words[4..], "{reading}");
-    let mut walk = Autosense::default();
-    let load = walk.load(&image, reader);
-    let mut stood = vec![stands(load, &walk)];
-    for report in reports(field(record(text, made_by), "calls")) {
-        let look = walk.look(&report);
-        stood.push(stands(look, &walk));
-    }
-    assert_eq!(stood.join(" ∷ ") + " ∷ []", seen, "{reading}");
 }
 
 /// The names of crates/image/specs/Cases.antt that its headers use.
@@ -581,8 +492,8 @@ fn cards_of_both_editions_are_walked_as_second_walks_them() {
         for case in specification::elements(&text, list) {
             let case: Vec<_> = case.iter().map(String::as_str).collect();
             let (reading, seen) = match case[..] {
-                ["read_in", version, edition, chip, level, leaf] => (
-                    [version, edition, chip, level, leaf],
+                ["read_in", version, edition, chip, leaf] => (
+                    [version, edition, chip, "7", leaf],
                     "0 then false none 0 0, 0 then true 1 1 1".to_owned(),
                 ),
                 ["refused_in", version, edition, chip, level, leaf, number] => (
@@ -607,7 +518,7 @@ fn cards_of_both_editions_are_walked_as_second_walks_them() {
             cards += 1;
         }
     }
-    assert!(cards >= 15, "only {cards} cards");
+    assert!(cards >= 13, "only {cards} cards");
 }
 
 /// The edition that a specification names.
@@ -685,7 +596,7 @@ fn every_list_is_named() {
 
 /// The other lists, which tests of their own read; but for the Magic Packet block before cases a and j and for the walk with a power
 /// block, of which only the leaves are read.
-const OTHER_LISTS: [&str; 18] = [
+const OTHER_LISTS: [&str; 16] = [
     "header_cases",
     "block_cases",
     "starts_cases",
@@ -695,8 +606,6 @@ const OTHER_LISTS: [&str; 18] = [
     "image_cases",
     "magic_image_cases",
     "power_image_cases",
-    "repeated_image_cases",
-    "older_cases",
     "fixed_image_cases",
     "order_cases",
     "sheet_cases",

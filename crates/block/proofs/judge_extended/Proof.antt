@@ -28,8 +28,8 @@ returns-2 c =
 shared-slice-read-kind : tie.Need-shared-slice-read-kind
 shared-slice-read-kind c = search rules
 
-add-t12 : tie.Need-overflow-add-t12
-add-t12 c = search rules
+add-t11 : tie.Need-overflow-add-t11
+add-t11 c = search rules
 
 returns-3 : tie.Need-returns-3
 unfolding length_of
@@ -89,7 +89,7 @@ judge-extended-spec =
     returns
     returns-2
     shared-slice-read-kind
-    add-t12
+    add-t11
     returns-3
     cast-is-permitted
     is-permitted-requires

@@ -15,8 +15,8 @@ count-at-requires c κs = search rules
 mul-general : tie.Need-overflow-mul-general
 mul-general c = omega (arith, few c.before.before.requires.1.0 c.count_at.ensures.1)
 
-add-sequences : tie.Need-overflow-add-sequences
-add-sequences c = omega (arith, few c.before.before.requires.1.0 c.count_at.ensures.1)
+add-count-at : tie.Need-overflow-add-count-at
+add-count-at c = omega (arith, few c.before.before.requires.1.0 c.count_at.ensures.1)
 
 count-at-requires-2 : tie.Need-count-at-requires-2
 count-at-requires-2 c κs = search rules
@@ -24,8 +24,8 @@ count-at-requires-2 c κs = search rules
 mul-sequences : tie.Need-overflow-mul-sequences
 mul-sequences c = omega (arith, few c.before.before.before.requires.1.0 c.count-at2.ensures.1)
 
-add-sequences-2 : tie.Need-overflow-add-sequences-2
-add-sequences-2 c =
+add-sequences : tie.Need-overflow-add-sequences
+add-sequences c =
     omega (
       arith,
       few c.before.before.before.requires.1.0 c.before.count_at.ensures.1,
@@ -56,8 +56,8 @@ add-t11 c = search rules
 word-at-requires : tie.Need-word-at-requires
 word-at-requires c κs = search rules
 
-add-t13 : tie.Need-overflow-add-t13
-add-t13 c = search rules
+add-t12 : tie.Need-overflow-add-t12
+add-t12 c = search rules
 
 word-at-requires-2 : tie.Need-word-at-requires-2
 word-at-requires-2 c κs = search rules
@@ -100,16 +100,16 @@ judge-phy-spec =
     (tie.spec
     count-at-requires
     mul-general
-    add-sequences
+    add-count-at
     count-at-requires-2
     mul-sequences
-    add-sequences-2
+    add-sequences
     add-if1
     add-if1-2
     returns
     add-t11
     word-at-requires
-    add-t13
+    add-t12
     word-at-requires-2
     advertises-more-requires
     returns-2

@@ -20,12 +20,12 @@ returns : tie.Need-returns
 unfolding sequence length_for pick
 returns c = wrong-length _ _ (is-wrong 5 _ c.before.before.before.requires.0 (rw c.before.count_at.ensures.0 at c.if1.true))
 
-add-t5 : tie.Need-overflow-add-t5
-add-t5 c = search rules
+add-t4 : tie.Need-overflow-add-t4
+add-t4 c = search rules
 
 returns-2 : tie.Need-returns-2
 unfolding sequence length_for pick
 returns-2 c = fine _ _ (is_right 5 _ c.before.before.before.requires.0 (rw c.before.count_at.ensures.0 at c.if1.false)) refl refl
 
 pub judge-type-5-spec : {M : Type 1} → statement M
-judge-type-5-spec = tie.close (tie.spec count-at-requires mul-if1 add-if1 returns add-t5 returns-2)
+judge-type-5-spec = tie.close (tie.spec count-at-requires mul-if1 add-if1 returns add-t4 returns-2)

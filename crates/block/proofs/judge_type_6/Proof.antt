@@ -23,8 +23,8 @@ returns c = wrong-length _ _ (is-wrong 6 _ c.before.before.before.requires.0 (rw
 byte-at-requires : tie.Need-byte-at-requires
 byte-at-requires c κs = search rules
 
-add-t6 : tie.Need-overflow-add-t6
-add-t6 c = search rules
+add-t5 : tie.Need-overflow-add-t5
+add-t5 c = search rules
 
 returns-2 : tie.Need-returns-2
 unfolding sequence length_for g_count pick
@@ -35,4 +35,4 @@ returns-2 c =
     (rw c.before.before.count_at.ensures.0 at c.before.if1.false)) refl refl)
 
 pub judge-type-6-spec : {M : Type 1} → statement M
-judge-type-6-spec = tie.close (tie.spec count-at-requires mul-if1 add-if1 returns byte-at-requires add-t6 returns-2)
+judge-type-6-spec = tie.close (tie.spec count-at-requires mul-if1 add-if1 returns byte-at-requires add-t5 returns-2)

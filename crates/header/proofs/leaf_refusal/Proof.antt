@@ -32,7 +32,7 @@ add-if2 c = search rules
 returns-2 : tie.Need-returns-2
 unfolding leaf_header_causes blocks_at
 returns-2 c =
-    let a = c.before.before.before.before.before.before.before.args in
+    let a = c.before.before.before.before.before.before.args in
     reached (stop (too-late (leaves_end a.layout) a.leaf (reserved_at a.image.now) a.row (omega arith) (omega arith)))
 
 word-at-requires : tie.Need-word-at-requires
@@ -44,7 +44,7 @@ is-read-requires c κs = search rules
 returns-3 : tie.Need-returns-3
 unfolding leaf_header_causes blocks_at
 returns-3 c =
-    let a = c.before.before.before.before.before.before.before.before.before.before.args in
+    let a = c.before.before.before.before.before.before.before.before.before.args in
     reached
     (skip (in_bounds (leaves_end a.layout) a.leaf (reserved_at a.image.now) a.row (omega arith) (omega arith))
     (stop (ap not
@@ -53,7 +53,7 @@ returns-3 c =
 returns-4 : tie.Need-returns-4
 unfolding leaf_header_causes blocks_at
 returns-4 c =
-    let a = c.before.before.before.before.before.before.before.before.before.before.args in
+    let a = c.before.before.before.before.before.before.before.before.before.args in
     reached
     (skip (in_bounds (leaves_end a.layout) a.leaf (reserved_at a.image.now) a.row (omega arith) (omega arith))
     (skip (ap not

@@ -8,11 +8,11 @@ use Rattle.magic.proofs.field_at.Tie as tie
 magic-at-requires : tie.Need-magic-at-requires
 magic-at-requires c κs = search rules
 
-add-t5 : tie.Need-overflow-add-t5
-add-t5 c = let m = sized c.before.before.args.size in omega arith
+add-result : tie.Need-overflow-add-result
+add-result c = let m = sized c.before.args.size in omega arith
 
 returns : tie.Need-returns
 returns c = search rules
 
 pub field-at-spec : {M : Type 1} → statement M
-field-at-spec = tie.close (tie.spec magic-at-requires add-t5 returns)
+field-at-spec = tie.close (tie.spec magic-at-requires add-result returns)

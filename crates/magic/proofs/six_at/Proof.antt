@@ -26,7 +26,7 @@ put-bytes-requires c κs = search rules
 returns : tie.Need-returns
 returns c =
     let e = c.before.before.before.before.before in
-    c.before.put-bytes.ensures ∙ six-laid e.args.image.now _ e.args.at.0 _ refl refl e.requires
+    c.before.put-bytes.ensures ∙ six-laid e.args.image.now _ e.args.at _ refl refl e.requires
 
 pub six-at-spec : {M : Type 1} → statement M
 six-at-spec =

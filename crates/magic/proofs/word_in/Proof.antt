@@ -7,8 +7,8 @@ use Rattle.magic.proofs.word_in.Tie as tie
 byte-in-requires : tie.Need-byte-in-requires
 byte-in-requires c κs = search rules
 
-add-t5 : tie.Need-overflow-add-t5
-add-t5 c = search rules
+add-byte-in : tie.Need-overflow-add-byte-in
+add-byte-in c = search rules
 
 byte-in-requires-2 : tie.Need-byte-in-requires-2
 byte-in-requires-2 c κs = search rules
@@ -34,7 +34,7 @@ word-in-spec =
     tie.close
     (tie.spec
     byte-in-requires
-    add-t5
+    add-byte-in
     byte-in-requires-2
     cast-result
     cast-result-2

@@ -102,7 +102,7 @@ returns-2 c =
     magic-crc.magic-crc.ensures in (
       write-accepted size m image n,
       c.before.before.put_byte.ensures
-          ∙ ap (λ (s : List ℕ). laid s crc-at.place-in2.result.0 (magic-crc.magic-crc.result.value ∷ [])) laid-down
+          ∙ ap (λ (s : List ℕ). laid s crc-at.place-in2.result (magic-crc.magic-crc.result.value ∷ [])) laid-down
           ∙ crc-laid size m w image l _ _ (v ∙ ap (magic_crc size) laid-down) (placed size image n block_crc_at crc-at.place-in2.ensures)
           ∙ changed size m image n,
     )

@@ -1,16 +1,20 @@
--- The size is the larger one, or counts as the smaller. Assumes nothing.
-use mathlib.Core.Path.{sym, ◌∙◌}
-use borrow.Author.Tests.{eq-eqb, ne_eqb}
-use Rattle.rom.proofs.Truth.{pick_true, pick-false}
-use Rattle.rom.proofs.Layouts.{word-by-size}
+-- A word has two bytes. Assumes nothing.
+use native.Mathlib.Omega.{arith}
+use borrow.Author.Rules.{rules}
+use Rattle.rom.specs.Geometry.{magic_word}
+use Rattle.rom.proofs.Layouts.{sized}
 use Rattle.rom.proofs.magic_word.Statement.{statement}
 use Rattle.rom.proofs.magic_word.Tie as tie
 
-returns : tie.Need-returns
-returns c = sym (word-by-size c.before.args.size ∙ pick_true _ _ _ (eq-eqb _ _ c.if1.true))
+magic-at-requires : tie.Need-magic-at-requires
+magic-at-requires c κs = search rules
 
-returns-2 : tie.Need-returns-2
-returns-2 c = sym (word-by-size c.before.args.size ∙ pick-false _ _ _ (ne_eqb _ _ c.if1.false))
+cast-t4 : tie.Need-overflow-cast-t4
+cast-t4 c = let m = sized c.before.args.size in omega arith
+
+returns : tie.Need-returns
+unfolding magic_word
+returns c = omega arith
 
 pub magic-word-spec : {M : Type 1} → statement M
-magic-word-spec = tie.close (tie.spec returns returns-2)
+magic-word-spec = tie.close (tie.spec magic-at-requires cast-t4 returns)

@@ -3,21 +3,20 @@ use borrow.Author.Rules.{rules}
 use Prim.Native.Nat.{◌+◌, ◌-◌, ◌*◌, ◌≤◌}
 use native.Mathlib.Omega.{arith}
 use Rattle.block.proofs.Whole.{size_small}
-use Rattle.leaf.specs.Leaf.{block_at, Running, begun}
-use Rattle.leaf.proofs.Stepping.{running_more}
+use Rattle.leaf.proofs.Stepping.{Stands, stands-first, stands-more}
 use Rattle.survey.proofs.Stepping.{find-done}
 use Rattle.survey.proofs.find_place.Statement.{statement}
 use Rattle.survey.proofs.find_place.Tie as tie
 
 abbrev invariant-loop : tie.invariant-loop
 invariant-loop blocks start row number rest₀ at₀ k₀ rest at k =
-    Running row (block_at start blocks) k (block_at at rest) × (k ≤ number) × (at ≤ 1024 + 128 * k)
+    Stands row start blocks k at rest × (k ≤ number) × (at ≤ 1024 + 128 * k)
 
 abbrev decreases-loop : tie.decreases-loop
 decreases-loop blocks start row number rest₀ at₀ k₀ rest at k = number - k
 
 loop-holds : tie.Need-loop-init invariant-loop decreases-loop
-loop-holds c = (begun, search rules, search rules)
+loop-holds c = (stands-first _ _ _, search rules, search rules)
 
 size-at-requires : tie.Need-size-at-requires invariant-loop decreases-loop
 size-at-requires c κs = search rules
@@ -39,7 +38,7 @@ loop-less c = search rules
 loop-again : tie.Need-loop-preserved invariant-loop decreases-loop
 loop-again c =
     let l = c.before.before.before in (
-      running_more l.loop.invariant.0 c.before.size-at.ensures c.behind.ensures,
+      stands-more _ _ _ _ _ _ l.loop.invariant.0 c.before.size-at.ensures c.behind.ensures,
       search rules,
       omega (arith, c.before.size-at.ensures, size_small l.before.before.args.row l.loop.rest.now),
     )
@@ -61,7 +60,7 @@ kind-at-requires c κs = search rules
 returns : tie.Need-returns invariant-loop decreases-loop
 returns c =
     let t = c.before.before in
-    find-done _ _ _ t.before.loop.invariant.0 (omega (arith, t.before.loop.invariant.1, t.loop-test.false)) c.before.size-at2.ensures
+    find-done _ _ _ _ t.before.loop.invariant.0 (omega (arith, t.before.loop.invariant.1, t.loop-test.false)) c.before.size-at2.ensures
     c.kind_at.ensures
 
 pub find-place-spec : {M : Type 1} → statement M

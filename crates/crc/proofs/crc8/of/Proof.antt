@@ -12,60 +12,58 @@ use Rattle.crc.proofs.crc8.of.Tie as tie
 
 abbrev invariant-loop : tie.invariant-loop
 invariant-loop image count table end register₀ even w₀ register w =
-    (w.0 ≤ even.0) × ((even.0 - w.0) % 2 ≡ 0)
-    × (crc8_words (end.0 - w.0) w.0 register image ≡ crc8_words (end.0 - w₀.0) w₀.0 (ones 8) image)
+    (w ≤ even) × ((even - w) % 2 ≡ 0) × (crc8_words (end - w) w register image ≡ crc8_words (end - w₀) w₀ (ones 8) image)
     × (table ≡ crc8_table)
 
 abbrev decreases-loop : tie.decreases-loop
-decreases-loop image count table end register₀ even w₀ register w = even.0 - w.0
+decreases-loop image count table end register₀ even w₀ register w = even - w
 
 table-requires : tie.Need-table-requires invariant-loop decreases-loop
 table-requires c κs = search rules
 
-add-t12 : tie.Need-overflow-add-t12 invariant-loop decreases-loop
-add-t12 c = search rules
+add-end : tie.Need-overflow-add-end invariant-loop decreases-loop
+add-end c = search rules
 
-mul-t13 : tie.Need-overflow-mul-t13 invariant-loop decreases-loop
-mul-t13 c = omega arith
+mul-even : tie.Need-overflow-mul-even invariant-loop decreases-loop
+mul-even c = omega arith
 
-add-t14 : tie.Need-overflow-add-t14 invariant-loop decreases-loop
-add-t14 c = omega arith
+add-even : tie.Need-overflow-add-even invariant-loop decreases-loop
+add-even c = omega arith
 
 loop-holds : tie.Need-loop-init invariant-loop decreases-loop
 loop-holds c = (omega arith, omega arith, refl, c.before.before.table.ensures)
 
 feed-word-requires : tie.Need-feed-word-requires invariant-loop decreases-loop
-feed-word-requires c κs = let l = c.before.before.before.before.loop in (l.invariant.3, omega (arith, l.invariant.0, l.invariant.1))
+feed-word-requires c κs = let l = c.before.before.loop in (l.invariant.3, omega (arith, l.invariant.0, l.invariant.1))
 
 add-t18 : tie.Need-overflow-add-t18 invariant-loop decreases-loop
-add-t18 c = let l = c.before.before.before.before.before.before.before.loop in omega (arith, l.invariant.0, l.invariant.1)
+add-t18 c = let l = c.before.before.before.before.loop in omega (arith, l.invariant.0, l.invariant.1)
 
 feed-word-requires-2 : tie.Need-feed-word-requires-2 invariant-loop decreases-loop
-feed-word-requires-2 c κs =
-    let l = c.before.before.before.before.before.before.before.loop in (l.invariant.3, omega (arith, l.invariant.0, l.invariant.1))
+feed-word-requires-2 c κs = let l = c.before.before.before.before.loop in (l.invariant.3, omega (arith, l.invariant.0, l.invariant.1))
 
-add-t18-2 : tie.Need-overflow-add-t18-2 invariant-loop decreases-loop
-add-t18-2 c = let l = c.before.before.before.before.before.before.before.before.before.loop in omega (arith, l.invariant.0, l.invariant.1)
+add-w : tie.Need-overflow-add-w invariant-loop decreases-loop
+add-w c = let l = c.before.before.before.before.before.loop in omega (arith, l.invariant.0, l.invariant.1)
 
 loop-less : tie.Need-loop-smaller invariant-loop decreases-loop
-loop-less c = let l = c.before.before.before.before.before.before.before.before.before.loop in omega (arith, l.invariant.0, l.invariant.1)
+loop-less c = let l = c.before.before.before.before.before.loop in omega (arith, l.invariant.0, l.invariant.1)
 
 loop-again : tie.Need-loop-preserved invariant-loop decreases-loop
 loop-again c =
-    let first = c.before.before.before.before in
-    let turn = first.before.before.before.before.before in
-    let l = turn.loop in
-    let e = turn.before.before.before.before.before in (
+    let first = c.before.before in
+    let t = first.before.before in
+    let l = t.before.loop in
+    let e = t.before.before.before.before.before.before in (
       omega (arith, l.invariant.0, l.invariant.1),
       omega (arith, l.invariant.0, l.invariant.1),
-      pair-next e.args.image.now _ l.w.0 l.register _ _ _ (omega (arith, l.invariant.0, l.invariant.1)) first.feed-word.ensures
-          c.before.feed-word2.ensures l.invariant.2,
+      pair-next e.args.image.now _ l.w l.register _ _ _ (omega (arith, l.invariant.0, l.invariant.1)) first.feed-word.ensures
+          c.feed-word2.ensures l.invariant.2,
       l.invariant.3,
     )
 
 feed-rest-requires : tie.Need-feed-rest-requires invariant-loop decreases-loop
 feed-rest-requires c κs =
-    let l = c.before.before.before.before.loop in (l.invariant.3, omega arith, omega arith, omega arith)
+    let l = c.before.before.loop in (l.invariant.3, omega arith, omega arith, omega arith)
 
 high-byte-requires : tie.Need-high-byte-requires invariant-loop decreases-loop
 high-byte-requires c κs = search rules
@@ -79,13 +77,13 @@ feed-requires c κs = search rules
 returns : tie.Need-returns invariant-loop decreases-loop
 returns c =
     let rest = c.before.before.before.before in
-    let turn = rest.before.before.before.before.before in
-    let l = turn.loop in
-    let e = turn.before.before.before.before.before in
+    let t = rest.before.before in
+    let l = t.before.loop in
+    let e = t.before.before.before.before.before.before in
     let s = e.args.image.now in
     let count = e.args.count in
     let first = e.args.first.0 in
-    let even : first + count / 2 * 2 ≡ l.w.0 = omega (arith, l.invariant.0) in
+    let even : first + count / 2 * 2 ≡ l.w = omega (arith, l.invariant.0) in
     let n : (first + count) - first ≡ count = omega arith in
     let all : rest.feed-rest.result ≡ crc8_words count first (ones 8) s
     = rest.feed-rest.ensures
@@ -101,14 +99,14 @@ of_spec =
     invariant-loop
     decreases-loop
     table-requires
-    add-t12
-    mul-t13
-    add-t14
+    add-end
+    mul-even
+    add-even
     loop-holds
     feed-word-requires
     add-t18
     feed-word-requires-2
-    add-t18-2
+    add-w
     loop-less
     loop-again
     feed-rest-requires

@@ -15,13 +15,12 @@ use Rattle.crc.proofs.srom.register_of.Tie as tie
 
 abbrev invariant-loop : tie.invariant-loop
 invariant-loop image table checked mixed₀ at₀ mixed at =
-    (at.0 ≤ checked.0)
-    × (bytes_in reflected (turns reflected 8 mixed) (drop at.0 (take checked.0 image))
-    ≡ bytes_in reflected (ones 32) (take checked.0 image))
+    (at ≤ checked)
+    × (bytes_in reflected (turns reflected 8 mixed) (drop at (take checked image)) ≡ bytes_in reflected (ones 32) (take checked image))
     × (table ≡ srom_table)
 
 abbrev decreases-loop : tie.decreases-loop
-decreases-loop image table checked mixed₀ at₀ mixed at = checked.0 - at.0
+decreases-loop image table checked mixed₀ at₀ mixed at = checked - at
 
 table-requires : tie.Need-table-requires invariant-loop decreases-loop
 table-requires c κs = search rules
@@ -43,7 +42,7 @@ loop-holds c =
     let g = geometry e.args.layout in
     let n = made.checked-length.ensures in (
       omega arith,
-      first_byte reflected made.checked-length.result.0 e.args.image.now (omega arith) (ones 32) _ (omega arith)
+      first_byte reflected made.checked-length.result e.args.image.now (omega arith) (ones 32) _ (omega arith)
           (known.shared-slice-known.given 0).fits refl,
       made.before.table.ensures,
     )
@@ -54,22 +53,21 @@ shared-slice-read-turned c = search rules
 turned-requires : tie.Need-turned-requires invariant-loop decreases-loop
 turned-requires c κs = search rules
 
-add-t16 : tie.Need-overflow-add-t16 invariant-loop decreases-loop
-add-t16 c = search rules
+add_at : tie.Need-overflow-add-at invariant-loop decreases-loop
+add_at c = search rules
 
 loop-less : tie.Need-loop-smaller invariant-loop decreases-loop
 loop-less c = search rules
 
 loop-again : tie.Need-loop-preserved invariant-loop decreases-loop
 loop-again c =
-    let turn = c.before.before.before.before.before.before in
-    let l = turn.loop in
-    let made = turn.before.before in
+    let l = c.before.before.before.before.loop in
+    let made = c.before.before.before.before.before.before in
     let known = made.before.before in
     let e = known.before in (
       omega arith,
-      next-byte reflected made.checked-length.result.0 e.args.image.now (omega arith) l.at.0 l.mixed c.turned.result _
-          (omega arith) (known.shared-slice-known.given l.at.0).fits c.turned.ensures l.invariant.1,
+      next-byte reflected made.checked-length.result e.args.image.now (omega arith) l.at l.mixed c.turned.result _
+          (omega arith) (known.shared-slice-known.given l.at).fits c.turned.ensures l.invariant.1,
       l.invariant.2,
     )
 
@@ -78,13 +76,12 @@ turned-requires-2 c κs = search rules
 
 returns : tie.Need-returns invariant-loop decreases-loop
 returns c =
-    let turn = c.before.before.before.before.before in
-    let l = turn.loop in
-    let made = turn.before.before in
+    let l = c.before.before.before.loop in
+    let made = c.before.before.before.before.before in
     let e = made.before.before.before in
-    let checked = made.checked-length.result.0 in
+    let checked = made.checked-length.result in
     c.turned2.ensures ∙ xor_zero_r (turns reflected 8 l.mixed)
-    ∙ last_byte reflected checked e.args.image.now (omega arith) l.at.0 (turns reflected 8 l.mixed) l.invariant.0 (omega arith)
+    ∙ last_byte reflected checked e.args.image.now (omega arith) l.at (turns reflected 8 l.mixed) l.invariant.0 (omega arith)
     ∙ l.invariant.1 ∙ mirror-ones (take checked e.args.image.now)
     ∙ ap (λ (n : ℕ). reversed 32 0 (srom_bytes (ones 32) (take n e.args.image.now))) made.checked-length.ensures
 
@@ -101,7 +98,7 @@ register-of-spec =
     loop-holds
     shared-slice-read-turned
     turned-requires
-    add-t16
+    add_at
     loop-less
     loop-again
     turned-requires-2

@@ -9,12 +9,12 @@ use Rattle.rom.proofs.Layout.checked_length.Tie as tie
 board-length-requires : tie.Need-board-length-requires
 board-length-requires c κs = search rules
 
-sub-t3 : tie.Need-overflow-sub-t3
-sub-t3 c = let s = geometry c.before.before.args.self in omega arith
+sub-result : tie.Need-overflow-sub-result
+sub-result c = let s = geometry c.before.args.self in omega arith
 
 returns : tie.Need-returns
 unfolding checked_length
 returns c = omega arith
 
 pub checked-length-spec : {M : Type 1} → statement M
-checked-length-spec = tie.close (tie.spec board-length-requires sub-t3 returns)
+checked-length-spec = tie.close (tie.spec board-length-requires sub-result returns)

@@ -9,12 +9,12 @@ use Rattle.rom.proofs.Layout.leaves_end.Tie as tie
 board-length-requires : tie.Need-board-length-requires
 board-length-requires c κs = search rules
 
-sub-t3 : tie.Need-overflow-sub-t3
-sub-t3 c = let s = geometry c.before.before.args.self in omega arith
+sub-result : tie.Need-overflow-sub-result
+sub-result c = let s = geometry c.before.args.self in omega arith
 
 returns : tie.Need-returns
 unfolding leaves_end
 returns c = omega arith
 
 pub leaves-end-spec : {M : Type 1} → statement M
-leaves-end-spec = tie.close (tie.spec board-length-requires sub-t3 returns)
+leaves-end-spec = tie.close (tie.spec board-length-requires sub-result returns)

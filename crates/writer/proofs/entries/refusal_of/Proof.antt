@@ -109,10 +109,10 @@ loop-again c =
     (sym c.before.before.before.before.if1.false ∙ c.before.before.before.before.before.is-bad.ensures)
 
 returns-2 : tie.Need-returns-2 invariant-loop decreases-loop
-returns-2 c = sized-long c.before.before.before.loop.invariant c.before.before.loop-test.false _ c.if2.true
+returns-2 c = sized-long c.before.before.loop.invariant c.before.loop-test.false _ c.if2.true
 
 returns-3 : tie.Need-returns-3 invariant-loop decreases-loop
-returns-3 c = sized-none c.before.before.before.loop.invariant c.before.before.loop-test.false _ c.if2.false
+returns-3 c = sized-none c.before.before.loop.invariant c.before.loop-test.false _ c.if2.false
 
 pub refusal-of-spec : {M : Type 1} → statement M
 refusal-of-spec =
