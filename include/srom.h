@@ -1,7 +1,7 @@
 /*
  * The 21X4 serial ROM of Ethernet cards: reading, writing and the autosense walk.
  *
- * Link libsrom.a, which `rt staticlib srom` writes to target/staticlib. Every function below is proved to end and to answer
+ * Link libsrom.a, which `rt lib` in crates/srom writes to crates/srom/out. Every function below is proved to end and to answer
  * exactly what documents 01 and 02 define, for every input: any bytes, any length, any arguments. None keeps a pointer,
  * allocates, or reads or writes anything but what it is lent.
  *

@@ -4,13 +4,13 @@ use std::path::Path;
 
 fn main() {
     let root = Path::new(env!("CARGO_MANIFEST_DIR")).join("../..");
-    let directory = root.join("target/staticlib");
+    let directory = root.join("crates/srom/out");
     let archive = directory.join("libsrom.a");
     println!("cargo::rerun-if-changed={}", archive.display());
     if !archive.is_file() {
         println!(
-            "cargo::error=target/staticlib/libsrom.a is missing: \
-             run `rt staticlib srom` at the repository's root"
+            "cargo::error=crates/srom/out/libsrom.a is missing: \
+             run `rt lib` in crates/srom"
         );
         return;
     }

@@ -1,5 +1,7 @@
 // The autosense walk: which medium of an image's table a controller stands on (document 01, 'The walk'; document 02, requests
 // 4, 5 and 12).
+#![tactic(auto)]
+
 ghost use Rattle.std.specs.Prelude.{◌≡◌, ◌||◌, ◌&&◌, eqb};
 ghost use Rattle.rom.specs.Geometry.{none};
 ghost use Rattle.rom.specs.Refusal.{first_met};
@@ -7,7 +9,8 @@ ghost use Rattle.format.specs.Block.{the_later_version};
 ghost use Rattle.rom.specs.Bytes.{one};
 ghost use Rattle.leaf.specs.Leaf.{cut, block_causes};
 ghost use Rattle.autosense.specs.Inside.{flags_in, aim_of};
-ghost use Rattle.walk.specs.Walk.{no_flags, no_rows, rows_of, fresh_walk, way_of, is_once, is_fixed, is_capable, has_medium, flag_at, is_up};
+ghost use Rattle.walk.specs.Walk.{no_flags, no_rows, rows_of, fresh_walk, way_of, is_once, is_fixed, is_capable, has_medium};
+ghost use Rattle.walk.specs.Walk.{flag_at, is_up};
 ghost use Rattle.walk.specs.Walk.{bad_report, is_candidate, last_below, first_up, stays, sensed, fixed_block, chosen, switched, stepped};
 ghost use Rattle.walk.specs.Walk.{look_causes, load_for, look_for, clear_for};
 
@@ -152,7 +155,7 @@ fn has_fixed_medium(medium: Medium, connection: u16) -> bool
 }
 
 // A block's flag in each row.
-#[derive(Drop)]
+#[derive(Clone, Copy)]
 struct BlockFlags {
     listed: u8,
     active_invalid: u8,
@@ -328,7 +331,7 @@ pub fn fixed_block(walk: Walk) -> u8
 }
 
 // What a look goes by: whether the type is fixed, and the block that then has its medium, or NONE.
-#[derive(Drop)]
+#[derive(Clone, Copy)]
 struct Aim {
     fixed: bool,
     block: u8,

@@ -12,7 +12,8 @@ use Rattle.rom.specs.Bytes.{pick, byte_at, word_at, Bytes}
 use Rattle.rom.proofs.First.{none_here}
 use Rattle.rom.proofs.Truth.{or-false}
 use Rattle.format.specs.Chips.{kind_compact, kind21041}
-use Rattle.format.specs.Block.{Facts, is21041, is_extended, length_of, sia_size, size_of, kind_of, is_known, g_count, r_count, capabilities_at}
+use Rattle.format.specs.Block.{Facts, is21041, is_extended, length_of, sia_size, size_of, kind_of, is_known, g_count}
+use Rattle.format.specs.Block.{r_count, capabilities_at}
 use Rattle.format.specs.Block.{length_for, is_wrong, sia, port, symbol, phy, sequence, facts_of, causes, refusal_of}
 use Rattle.block.specs.Answer.{block_of}
 use Rattle.block.specs.Inside.{phy_length}

@@ -1,5 +1,5 @@
 -- What a block is found to be, as the enum `Block`, and the number and values of documents 01 and 02 for each of its cases.
-use Rattle.std.specs.Prelude.{ℕ, List, Bool, eqb}
+use Rattle.std.specs.Prelude.{ℕ, List, Bool, false, eqb}
 use Rattle.rom.specs.Geometry.{none}
 use Rattle.rom.specs.Bytes.{pick}
 use Rattle.block.specs.declared.Block.{Block}
@@ -76,6 +76,30 @@ kind_in (Reset size) = 0
 kind_in (Power size mode) = 0
 kind_in (Unknown size) = 0
 kind_in (Refused n) = 0
+
+-- whether it has Active_Invalid
+abbrev pub invalid_in : Block → Bool
+invalid_in (Listed m) = m.active_invalid
+invalid_in (Reset size) = false
+invalid_in (Power size mode) = false
+invalid_in (Unknown size) = false
+invalid_in (Refused n) = false
+
+-- whether it is a default
+abbrev pub default_in : Block → Bool
+default_in (Listed m) = m.is_default
+default_in (Reset size) = false
+default_in (Power size mode) = false
+default_in (Unknown size) = false
+default_in (Refused n) = false
+
+-- whether it is a PHY block with r above 0
+abbrev pub phy_reset_in : Block → Bool
+phy_reset_in (Listed m) = m.resets_phy
+phy_reset_in (Reset size) = false
+phy_reset_in (Power size mode) = false
+phy_reset_in (Unknown size) = false
+phy_reset_in (Refused n) = false
 
 -- its media code, none where it has none
 abbrev pub code_in : Block → ℕ

@@ -1,9 +1,11 @@
 -- What is claimed of what a block is found to be.
-use Rattle.std.specs.Prelude.{ℕ, ◌≡◌, Bool, true, List, take}
+use Rattle.std.specs.Prelude.{ℕ, ◌≡◌, Bool, true, ◌&&◌, List, take}
 use Rattle.rom.specs.Geometry.{none}
 use Rattle.rom.specs.Bytes.{pick, one, byte_at, Bytes}
-use Rattle.format.specs.Block.{size_of, kind_of, is_known, facts_of, is_listed, is_power, refusal_in, refusal_of}
-use Rattle.block.specs.Answer.{block_in, block_of, number_of, size_in, listed_in, kind_in, code_in, capabilities_in, mode_in}
+use Rattle.block.specs.declared.Block.TheVariants.{Refused}
+use Rattle.format.specs.Block.{size_of, kind_of, is_known, facts_of, is_listed, is_power, is_default, resets_a_phy, refusal_in, refusal_of}
+use Rattle.block.specs.Answer.{block_in, block_of, number_of, size_in, listed_in, kind_in, invalid_in, default_in, phy_reset_in}
+use Rattle.block.specs.Answer.{code_in, capabilities_in, mode_in}
 
 -- the answer's number is the block's refusal, and an accepted block has its size
 abbrev pub AnswersRefusal : Type 0
@@ -23,10 +25,23 @@ AnswersMedium = (row level : ℕ) (s : List ℕ) → refusal_of row level s ≡ 
     (code_in (block_of row level s) ≡ pick (is_listed row level s) (facts_of (kind_of row s) s).code none)
     × (capabilities_in (block_of row level s) ≡ pick (is_listed row level s) (facts_of (kind_of row s) s).capabilities 0)
 
+-- and its flags
+abbrev pub AnswersFlags : Type 0
+AnswersFlags = (row level : ℕ) (s : List ℕ) → refusal_of row level s ≡ 0 →
+    (invalid_in (block_of row level s) ≡ (is_listed row level s && (facts_of (kind_of row s) s).active_invalid))
+    × (default_in (block_of row level s) ≡ is_default row level s)
+    × (phy_reset_in (block_of row level s) ≡ resets_a_phy row level s)
+
 -- and the mode byte of a power block, which is behind its type
 abbrev pub AnswersMode : Type 0
 AnswersMode = (row level : ℕ) (s : List ℕ) → refusal_of row level s ≡ 0
     → mode_in (block_of row level s) ≡ pick (is_power row level s) (byte_at s 2) 0
+
+-- a refused block has its number and no more, in every version
+abbrev pub AnswersRefused : Type 0
+AnswersRefused = (first : Bool) (row level n : ℕ) (s : List ℕ) → (n ≡ 0 → ⊥) →
+    (refusal_of row level s ≡ n → block_of row level s ≡ Refused n)
+    × (refusal_in first row level s ≡ n → block_in first row level s ≡ Refused n)
 
 -- a level matters only by whether it knows the block
 abbrev pub OnlyKnown : Type 0

@@ -1,5 +1,7 @@
 // One block of an info leaf: its size, kind, media code or capabilities, flags and refusal (document 01, 'Leaf and blocks';
 // document 02, requests 3, 5 and 12).
+#![tactic(auto)]
+
 pub mod chip;
 mod search;
 pub mod shape;
@@ -7,7 +9,8 @@ pub mod shape;
 ghost use Rattle.std.specs.Prelude.{◌≡◌, false, ℕ, ◌+◌, ◌≤◌, ◌<◌};
 ghost use Rattle.rom.specs.Bytes.{byte_at, bit};
 ghost use Rattle.format.specs.Chips.{row21041, newest_level};
-ghost use Rattle.format.specs.Block.{length_of, sia_size, counts_as_default, exceeds, length_for, is_wrong, sia, port, symbol, phy, sequence};
+ghost use Rattle.format.specs.Block.{length_of, sia_size, counts_as_default, exceeds, length_for, is_wrong, sia, port, symbol};
+ghost use Rattle.format.specs.Block.{phy, sequence};
 ghost use Rattle.block.specs.Inside.{as_medium, as_power, judged, judged_as, phy_length};
 ghost use Rattle.block.specs.Answer.{block_in, block_of, number_of, size_in, listed_in, mode_in};
 
@@ -41,7 +44,7 @@ const SYM_CODES: [u16; 5] = [3, 5, 6, 7, 8];
 const NEVER_DEFAULT: [u16; 3] = [4, 5, 8];
 
 // What is said of a listed block, a medium or a PHY. A PHY has no media code, NONE, and a medium no capabilities, 0.
-#[derive(Drop)]
+#[derive(Clone, Copy)]
 pub struct Medium {
     pub kind: u16,
     pub size: usize,
@@ -53,7 +56,7 @@ pub struct Medium {
 }
 
 // What a block is found to be. A size counts the first byte too.
-#[derive(Drop)]
+#[derive(Clone, Copy)]
 pub enum Block {
     Listed(Medium),
     Reset { size: usize },

@@ -5,6 +5,8 @@ use console::status;
 use hexadecimal::held;
 use rom::refusal;
 use sheet::{Form, Made};
+use std::fs::File;
+use std::rt::{Env, Files};
 use text::line;
 use text::line::say;
 use text::slice::part;
@@ -48,25 +50,33 @@ fn show_refused(sheet: &[u8], form: Form, number: u8) {
 }
 
 // Writes what has been made of a sheet of a form, or says why nothing has.
-fn finish(sheet: &[u8], form: Form, made: Made, room: &[u8], place: usize, force: bool) -> u8 {
+fn finish(
+    rt: &(impl Files<File = File> + Env),
+    sheet: &[u8],
+    form: Form,
+    made: Made,
+    room: &[u8],
+    place: usize,
+    force: bool,
+) -> u8 {
     let number = made.number;
     if number == refusal::ACCEPTED {
-        return save(part(room, 0, made.length), place, force);
+        return save(rt, part(room, 0, made.length), place, force);
     }
     show_refused(sheet, form, number);
     status::REFUSED
 }
 
 // Writes a narrow sheet as a wide one.
-pub fn widen(sheet: &[u8], place: usize, force: bool) -> u8 {
+pub fn widen(rt: &(impl Files<File = File> + Env), sheet: &[u8], place: usize, force: bool) -> u8 {
     let mut room = [0u8; ROOM];
     let made = converter::widen(sheet, &mut room);
-    finish(sheet, Form::Narrow, made, &room, place, force)
+    finish(rt, sheet, Form::Narrow, made, &room, place, force)
 }
 
 // Writes a wide sheet as a narrow one.
-pub fn narrow(sheet: &[u8], place: usize, force: bool) -> u8 {
+pub fn narrow(rt: &(impl Files<File = File> + Env), sheet: &[u8], place: usize, force: bool) -> u8 {
     let mut room = [0u8; ROOM];
     let made = converter::narrow(sheet, &mut room);
-    finish(sheet, Form::Wide, made, &room, place, force)
+    finish(rt, sheet, Form::Wide, made, &room, place, force)
 }

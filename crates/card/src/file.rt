@@ -1,16 +1,16 @@
 // A file that a command writes.
 use console::{output, status};
+use std::fs::File;
+use std::rt::{Env, Files};
 use text::line;
 
 // Writes bytes to the file that a word names.
-pub fn save(bytes: &[u8], place: usize, force: bool) -> u8 {
-    let output = output::begin(place);
-    let file = output.file;
-    if file < 0 {
+pub fn save(rt: &(impl Files<File = File> + Env), bytes: &[u8], place: usize, force: bool) -> u8 {
+    let Some(output) = output::begin(rt, place) else {
         return status::USAGE;
-    }
-    let whole = io::write_all(file, bytes);
-    let done = output::finish(output, place, whole, force);
+    };
+    let whole = io::write_all(output.descriptor, bytes);
+    let done = output::finish(rt, output, place, whole, force);
     if !done {
         return status::USAGE;
     }

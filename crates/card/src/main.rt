@@ -1,5 +1,7 @@
 // The bench tool: what is on a card, and what an older driver would see of it. Everything that it shows is answered by the
 // proved crates below it; this one reads files, and prints.
+#![tactic(auto)]
+
 mod conversion;
 mod file;
 mod sheets;
@@ -9,16 +11,17 @@ use console::arguments::Words;
 use console::input::Input;
 use console::{arguments, command, input, status};
 use drivers::{looks, older};
-use libc::STDOUT_FILENO;
 use reader::Arguments;
 use report::{size, words};
 use rom::{Layout, refusal};
-use text::line::{Line, say};
+use std::fs::File;
+use std::rt::{Env, Files};
+use text::line::{Line, STDOUT, say};
 use text::slice::part;
 
 fn usage() -> u8 {
     io::write_all(
-        STDOUT_FILENO,
+        STDOUT,
         b"usage: ./card COMMAND ..
 
   read FILE CHIP [OPTIONS]            what is on the card, or why it is refused
@@ -71,11 +74,8 @@ cannot be read, or a file that cannot be read or written.
 }
 
 fn show_number(number: u8) {
-    Line::new()
-        .right(number as u64, 4)
-        .to(6)
-        .show(STDOUT_FILENO);
-    words::show_refusal(number, STDOUT_FILENO);
+    Line::new().right(number as u64, 4).to(6).show(STDOUT);
+    words::show_refusal(number, STDOUT);
     say(b"");
 }
 
@@ -118,7 +118,7 @@ fn arguments_of(words: Words, length: usize) -> Arguments {
 }
 
 // A command on the bytes of a file.
-fn run_on(bytes: &[u8], words: Words) -> u8 {
+fn run_on(rt: &(impl Files<File = File> + std::io::Input + Env), bytes: &[u8], words: Words) -> u8 {
     let arguments = arguments_of(words, bytes.len());
     let given = words.sized;
     let force = words.force;
@@ -127,20 +127,21 @@ fn run_on(bytes: &[u8], words: Words) -> u8 {
     match command {
         command::READ => status::of(listing::show(bytes, arguments, given)),
         command::OLDER => status::of(older::show(bytes, arguments, given)),
-        command::WALK => looks::show(bytes, arguments, given, places[2]),
-        command::SHEET => sheets::make(bytes, arguments, words),
-        command::MAP => picture::show(bytes, arguments, given, places[2], force),
-        command::WRITE => sheets::write(bytes, words),
-        command::WIDEN => conversion::widen(bytes, places[1], force),
-        _ => conversion::narrow(bytes, places[1], force),
+        command::WALK => looks::show(rt, bytes, arguments, given, places[2]),
+        command::SHEET => sheets::make(rt, bytes, arguments, words),
+        command::MAP => picture::show(rt, bytes, arguments, given, places[2], force),
+        command::WRITE => sheets::write(rt, bytes, words),
+        command::WIDEN => conversion::widen(rt, bytes, places[1], force),
+        _ => conversion::narrow(rt, bytes, places[1], force),
     }
 }
 
 // `magic`, on what is in a file.
-fn write_magic(input: Input, words: Words) -> u8 {
+fn write_magic(rt: &(impl Files<File = File> + Env), input: Input, words: Words) -> u8 {
     let size = layout_of(words, input.length).size;
     let places = words.places;
     wake::write(
+        rt,
         input,
         size,
         words.sized,
@@ -151,20 +152,20 @@ fn write_magic(input: Input, words: Words) -> u8 {
 }
 
 // A command that takes a file.
-fn run_with_file(words: Words) -> u8 {
+fn run_with_file(rt: &(impl Files<File = File> + std::io::Input + Env), words: Words) -> u8 {
     let places = words.places;
-    let input = input::read_file(places[0]);
+    let input = input::read_file(rt, places[0]);
     if !input.found {
         return status::USAGE;
     }
     if words.command == command::MAGIC {
-        return write_magic(input, words);
+        return write_magic(rt, input, words);
     }
     let bytes = input.bytes;
-    run_on(part(&bytes, 0, input.length), words)
+    run_on(rt, part(&bytes, 0, input.length), words)
 }
 
-fn run(words: Words) -> u8 {
+fn run(rt: &(impl Files<File = File> + std::io::Input + Env), words: Words) -> u8 {
     if !words.fine {
         return status::USAGE;
     }
@@ -175,9 +176,9 @@ fn run(words: Words) -> u8 {
     if command == command::REFUSALS {
         return refusals();
     }
-    run_with_file(words)
+    run_with_file(rt, words)
 }
 
-fn main() {
-    status::report(run(arguments::read()));
+fn main(rt: HostRuntime) {
+    status::report(run(&rt, arguments::read(&rt)));
 }

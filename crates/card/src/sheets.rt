@@ -7,6 +7,8 @@ use hexadecimal::held;
 use reader::Arguments;
 use rom::{Layout, refusal};
 use sheet::Form;
+use std::fs::File;
+use std::rt::{Env, Files};
 use text::line;
 use text::line::say;
 use text::slice::{byte_at, part};
@@ -77,7 +79,12 @@ fn show_unmade(image: &[u8], arguments: Arguments, given: bool, form: Form, numb
 }
 
 // Makes the sheet of an image, as the newest reader reads it for controller 0.
-pub fn make(image: &[u8], arguments: Arguments, words: Words) -> u8 {
+pub fn make(
+    rt: &(impl Files<File = File> + Env),
+    image: &[u8],
+    arguments: Arguments,
+    words: Words,
+) -> u8 {
     let form = forms::form_of(words.wide);
     let mut room = [0u8; ROOM];
     let made = maker::make(
@@ -91,7 +98,7 @@ pub fn make(image: &[u8], arguments: Arguments, words: Words) -> u8 {
     let number = made.number;
     if number == refusal::ACCEPTED {
         let places = words.places;
-        return save(part(&room, 0, made.length), places[2], words.force);
+        return save(rt, part(&room, 0, made.length), places[2], words.force);
     }
     show_unmade(image, arguments, words.sized, form, number);
     status::REFUSED
@@ -100,7 +107,7 @@ pub fn make(image: &[u8], arguments: Arguments, words: Words) -> u8 {
 // ## A sheet to its image
 
 // What is asked for beside a sheet: its form, the image's layout, and the edition that an image of version 1 is of.
-#[derive(Drop)]
+#[derive(Clone, Copy)]
 struct Asked {
     form: Form,
     layout: Layout,
@@ -244,9 +251,9 @@ fn show_image(sheet: &[u8], over: Input, asked: Asked, number: u8) {
 }
 
 // What an image is written over: zeros, or the image that a word names, whose block is kept.
-fn output_of(words: Words) -> Input {
+fn output_of(rt: &(impl Files + std::io::Input + Env), words: Words) -> Input {
     if words.layout.magic {
-        return input::read_file(words.from);
+        return input::read_file(rt, words.from);
     }
     Input {
         found: true,
@@ -264,8 +271,12 @@ fn is_of_sheet(number: u8) -> bool {
 }
 
 // Writes the image of a sheet.
-pub fn write(sheet: &[u8], words: Words) -> u8 {
-    let output = output_of(words);
+pub fn write(
+    rt: &(impl Files<File = File> + std::io::Input + Env),
+    sheet: &[u8],
+    words: Words,
+) -> u8 {
+    let output = output_of(rt, words);
     if !output.found {
         return status::USAGE;
     }
@@ -280,7 +291,7 @@ pub fn write(sheet: &[u8], words: Words) -> u8 {
     let number = write_front(sheet, asked, &mut room, length);
     if number == refusal::ACCEPTED {
         let places = words.places;
-        return save(part(&room, 0, length), places[1], words.force);
+        return save(rt, part(&room, 0, length), places[1], words.force);
     }
     if is_of_sheet(number) {
         show_sheet(sheet, form, number);

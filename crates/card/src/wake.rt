@@ -4,6 +4,8 @@ use console::input::Input;
 use console::status;
 use magic::Magic;
 use rom::{Layout, refusal};
+use std::fs::File;
+use std::rt::{Env, Files};
 use text::line::say;
 use text::slice::part;
 
@@ -27,7 +29,15 @@ fn show(image: &[u8], size: u16) {
 }
 
 // Writes the block to the image of a size, which may have been given.
-pub fn write(input: Input, size: u16, given: bool, magic: Magic, place: usize, force: bool) -> u8 {
+pub fn write(
+    rt: &(impl Files<File = File> + Env),
+    input: Input,
+    size: u16,
+    given: bool,
+    magic: Magic,
+    place: usize,
+    force: bool,
+) -> u8 {
     let length = input.length;
     let mut room = input.bytes;
     let number = write_front(magic, &mut room, length, size);
@@ -37,7 +47,7 @@ pub fn write(input: Input, size: u16, given: bool, magic: Magic, place: usize, f
         report::show_length(image);
         return status::REFUSED;
     }
-    let status = save(image, place, force);
+    let status = save(rt, image, place, force);
     if status == status::ACCEPTED {
         show(image, size);
     }

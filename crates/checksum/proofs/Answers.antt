@@ -18,7 +18,8 @@ module _ (size : ℕ) (image : List ℕ) (crc : ℕ) where
   unfolding answer first_met crc_causes pick
   refused h = rw h
 
-  pub accepted : wrong_length size (length image) ≡ false → record { number = 0; value = crc } ≡ answer (first_met (crc_causes size image)) crc
+  pub accepted : wrong_length size (length image) ≡ false → record { number = 0; value = crc }
+      ≡ answer (first_met (crc_causes size image)) crc
   unfolding answer first_met crc_causes pick
   accepted h = rw h
 

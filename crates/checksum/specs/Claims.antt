@@ -33,7 +33,8 @@ IdLeavesZero = (image : List ℕ) → byte_at image id_crc_at ≡ id_crc image �
 -- the Magic Packet block: where its byte 30 is its CRC, its 16 words leave 0
 abbrev pub MagicLeavesZero : Type 0
 MagicLeavesZero =
-    (size : ℕ) (image : List ℕ) → byte_at image (magic_at size + 30) ≡ magic_crc size image → crc8_words 16 (magic_word size) (ones 8) image ≡ 0
+    (size : ℕ) (image : List ℕ) → byte_at image (magic_at size + 30) ≡ magic_crc size image → crc8_words 16 (magic_word size) (ones 8) image
+    ≡ 0
 
 -- the image of a size whose bytes are 0, 1, 2 and so on, beginning again behind 255
 abbrev pub counting : ℕ → List ℕ

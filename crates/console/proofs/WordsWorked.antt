@@ -45,8 +45,11 @@ use Rattle.console.specs.Cases.{
 use Rattle.console.specs.Claims.{WordsWorked}
 
 pub words-worked : WordsWorked
-unfolding pick same_bytes lines_of digit_of read_on decimal_number has_key words_in is_of run_of is_marked behind_mark value_from option_table
-    option_of command_table command_of fewest_of most_of takes_arguments takes_force takes_chip takes_size takes_wide takes_option takes_value
-    role_of is_in_place are_in_place is_six_bytes byte_named six_bytes spells_word command_word names_first names_edition taken_of command_again
+unfolding pick same_bytes lines_of digit_of read_on decimal_number has_key words_in is_of run_of is_marked behind_mark value_from
+    option_table
+    option_of command_table command_of fewest_of most_of takes_arguments takes_force takes_chip takes_size takes_wide takes_option
+    takes_value
+    role_of is_in_place are_in_place is_six_bytes byte_named six_bytes spells_word command_word names_first names_edition taken_of
+    command_again
     command_cases role_again role_cases value_again value_cases edition_name_again edition_name_cases
 words-worked = (refl, refl, refl, refl)

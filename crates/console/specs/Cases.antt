@@ -160,13 +160,13 @@ saying_nothing word = record { word = word; bytes = []; number = no_word }
 
 unfoldable pub value_cases : List ValueCase
 value_cases =
-    saying_bytes "00:a0:CC:12:34:f_e" (0x00 ∷ 0xa0 ∷ 0xcc ∷ 0x12 ∷ 0x34 ∷ 0xfe ∷ [])
+    saying_bytes "00:a0:CC:12:34:fE" (0x00 ∷ 0xa0 ∷ 0xcc ∷ 0x12 ∷ 0x34 ∷ 0xfe ∷ [])
     ∷ saying_nothing "00:a0:CC:12:34:f"
-    ∷ saying_nothing "00:a0:CC:12:34:f_e:"
+    ∷ saying_nothing "00:a0:CC:12:34:fE:"
     ∷ saying_nothing "00:a0:CC:12:34"
     ∷ saying_nothing "00:a0:CC:12:34:fg"
-    ∷ saying_nothing "00-a0-CC-12-34-f_e"
-    ∷ saying_nothing ":00a0:CC:12:34:f_e"
+    ∷ saying_nothing "00-a0-CC-12-34-fE"
+    ∷ saying_nothing ":00a0:CC:12:34:fE"
     ∷ saying_number "0" 0
     ∷ saying_number "1F" 0x1f
     ∷ saying_number "0x1f" 0x1f

@@ -1,7 +1,13 @@
 // A file that holds an image or a sheet: raw, or as hexadecimal text, which is told apart by itself.
+ghost use Rattle.io.specs.Counts.{IsPrefixLen};
+
 use crate::arguments::{complain, is_word, suggest};
+use crate::typed::PATH_MAX;
+use crate::{failure, typed};
 use hexadecimal::held::ROOM;
-use libc::STDIN_FILENO;
+use std::fs;
+use std::io::{Read, Result};
+use std::rt::{Env, Files};
 use text::line;
 use text::slice::part;
 
@@ -24,26 +30,26 @@ fn nothing() -> Input {
     }
 }
 
-fn refuse(what: &[u8], place: usize) -> Input {
-    complain(what, place);
+fn refuse(rt: &impl Env, what: &[u8], place: usize) -> Input {
+    complain(rt, what, place);
     suggest(b"expected raw bytes, or hexadecimal text; ./card help names its forms");
     nothing()
 }
 
-fn refuse_text(problem: u8, place: usize) -> Input {
+fn refuse_text(rt: &impl Env, problem: u8, place: usize) -> Input {
     if problem == hexadecimal::NO_OFFSET {
-        return refuse(b"found a line that no offset begins", place);
+        return refuse(rt, b"found a line that no offset begins", place);
     }
     if problem == hexadecimal::WRONG_OFFSET {
-        return refuse(b"found an offset that is not the next byte's", place);
+        return refuse(rt, b"found an offset that is not the next byte's", place);
     }
     if problem == hexadecimal::NO_BYTE {
-        return refuse(b"found no byte or word where one belongs", place);
+        return refuse(rt, b"found no byte or word where one belongs", place);
     }
     if problem == hexadecimal::NO_BYTES {
-        return refuse(b"found text that is not hexadecimal", place);
+        return refuse(rt, b"found text that is not hexadecimal", place);
     }
-    refuse(b"found more than 2,048 bytes", place)
+    refuse(rt, b"found more than 2,048 bytes", place)
 }
 
 fn raw(source: &[u8]) -> Input {
@@ -68,7 +74,7 @@ fn show_line(source: &[u8], number: u32) {
         .complain();
 }
 
-fn decoded(source: &[u8], place: usize) -> Input {
+fn decoded(rt: &impl Env, source: &[u8], place: usize) -> Input {
     let reading = hexadecimal::decode(source);
     let held = reading.held;
     let problem = held.problem;
@@ -80,64 +86,100 @@ fn decoded(source: &[u8], place: usize) -> Input {
             length: held.length,
         };
     }
-    let input = refuse_text(problem, place);
+    let input = refuse_text(rt, problem, place);
     if problem != hexadecimal::NO_BYTES {
         show_line(source, reading.line);
     }
     input
 }
 
-fn told_apart(source: &[u8], place: usize) -> Input {
+fn told_apart(rt: &impl Env, source: &[u8], place: usize) -> Input {
     if source.len() == 0 {
-        return refuse(b"found an empty file", place);
+        return refuse(rt, b"found an empty file", place);
     }
     if text::is_text(source) {
-        return decoded(source, place);
+        return decoded(rt, source, place);
     }
     if ROOM < source.len() {
-        return refuse(b"found more than 2,048 bytes", place);
+        return refuse(rt, b"found more than 2,048 bytes", place);
     }
     raw(source)
 }
 
 // A read of no bytes tells a file from what is none, as a directory.
-fn is_readable(file: i32) -> bool {
+fn is_readable(file: &mut impl Read) -> bool {
     let mut nothing = [0u8; 0];
-    0 <= libc::read(file, &mut nothing)
+    file.read(&mut nothing).is_ok()
+}
+
+// How many bytes a read brings to the front of the room: none where it fails.
+fn bytes_read(file: &mut impl Read, room: &mut [u8]) -> usize
+    ensures { IsPrefixLen result room.new }
+{
+    match file.read(room) {
+        Ok(length) => length,
+        Err(_) => 0,
+    }
+}
+
+// Fills the front of the room, up to the file's end, and answers how far.
+fn fill(file: &mut impl Read, room: &mut [u8]) -> usize
+    ensures { IsPrefixLen result room.new }
+{
+    let mut done = 0;
+    while done < room.len() {
+        let read = bytes_read(file, &mut room[done..]);
+        if read == 0 {
+            return done;
+        }
+        done += read;
+    }
+    done
 }
 
 // Whether a file that has been read as far as there is room goes on.
-fn goes_on(file: i32) -> bool {
+fn goes_on(file: &mut impl Read) -> bool {
     let mut next = [0u8; 1];
-    0 < libc::read(file, &mut next)
+    0 < bytes_read(file, &mut next)
 }
 
-fn read_from(file: i32, place: usize) -> Input {
+fn read_from(file: &mut impl Read, rt: &impl Env, place: usize) -> Input {
     let readable = is_readable(file);
     if !readable {
-        return refuse(b"found no file that can be read", place);
+        return refuse(rt, b"found no file that can be read", place);
     }
     let mut room = [0u8; LONGEST];
-    let length = io::read_full(file, &mut room);
+    let length = fill(file, &mut room);
     if goes_on(file) {
-        return refuse(b"found more than 8,192 bytes", place);
+        return refuse(rt, b"found more than 8,192 bytes", place);
     }
-    told_apart(&room[..length], place)
+    told_apart(rt, &room[..length], place)
+}
+
+// Opens the file of a name for reading.
+fn open<R: Files>(rt: &R, name: &[u8]) -> Result<R::File> {
+    match failure::text_of(name) {
+        Ok(name) => fs::open(rt, name),
+        Err(error) => Err(error),
+    }
 }
 
 // The file that a word names, '-' for standard input.
-pub fn read_file(place: usize) -> Input {
-    if is_word(place, b"-") {
-        return read_from(STDIN_FILENO, place);
+pub fn read_file(rt: &(impl Files + std::io::Input + Env), place: usize) -> Input {
+    if is_word(rt, place, b"-") {
+        return read_from(&mut rt.reader(), rt, place);
     }
-    let mut path = io::buffer();
-    let length = os::arg(place, &mut path);
-    let file = os::open_read(&path[..length]);
-    if file < 0 {
-        os::fail(&path[..length]);
-        return nothing();
+    let mut room = [0u8; PATH_MAX];
+    let length = typed::word(rt, place, &mut room);
+    let name = &room[..length];
+    match open(rt, name) {
+        Ok(file) => {
+            let mut file = file;
+            read_from(&mut file, rt, place)
+        }
+        Err(error) => {
+            failure::show(name, error);
+            nothing()
+        }
     }
-    let input = read_from(file, place);
-    libc::close(file);
-    input
 }

@@ -1,6 +1,13 @@
 // A file that is written whole or not at all: a temporary one beside it takes the bytes, and at the end its name.
 use crate::arguments::complain;
-use libc::PATH_MAX;
+use crate::typed::PATH_MAX;
+use crate::{failure, typed};
+use std::fs;
+use std::fs::{File, OpenOptions, Permissions};
+use std::io::{ErrorKind, Result};
+use std::os::fd::AsRawFd;
+use std::os::unix::fs::{OpenOptionsExt, PermissionsExt};
+use std::rt::{Env, Files};
 use text::slice::part;
 
 // Paths are shorter, so that there is room for a temporary file's ending.
@@ -9,20 +16,21 @@ const PATH_LIMIT: usize = 4000;
 // That ending's length.
 const ENDING: usize = 7;
 
-// A temporary file that is open for writing, and its path. The file is below 0 where there is none, which has been said.
+// The last number that it can have.
+const LAST: u32 = 999_999;
+
+// Who may read and write a file: its owner alone until it is whole, and what the system asks for else.
+const PRIVATE: u32 = 0o600;
+
+const PUBLIC: u32 = 0o666;
+
+// A temporary file that is open for writing, the descriptor that its bytes go to, and its path.
 #[derive(Drop)]
 pub struct Output {
-    pub file: i32,
+    pub descriptor: i32,
+    file: File,
     path: [u8; PATH_MAX],
     length: usize,
-}
-
-fn none() -> Output {
-    Output {
-        file: -1,
-        path: io::buffer(),
-        length: 0,
-    }
 }
 
 // A path with the ending behind it.
@@ -38,76 +46,165 @@ fn with_ending(path: [u8; PATH_MAX], length: usize) -> [u8; PATH_MAX] {
     long
 }
 
-// Makes the file that so much of a path names, or answers -1.
-fn make(path: &mut [u8], length: usize) -> i32 {
-    if path.len() < length {
-        return -1;
+// The same with a number in the ending.
+fn numbered(path: [u8; PATH_MAX], length: usize, number: u32) -> [u8; PATH_MAX] {
+    let start = length % PATH_LIMIT;
+    let mut long = path;
+    let mut left = number;
+    let mut k = ENDING - 1;
+    while 0 < k {
+        long[start + k] = b'0' + ((left % 10) as u8);
+        left /= 10;
+        k -= 1;
     }
-    os::create_temp(&mut path[0..length])
+    long
 }
 
-// Makes the temporary file beside the one that a word names.
-pub fn begin(place: usize) -> Output {
-    let mut path = io::buffer();
-    let length = os::arg(place, &mut path);
+// Makes a file, where there is none of its name.
+fn create(rt: &impl Files<File = File>, name: &[u8], mode: u32) -> Result<File> {
+    match failure::text_of(name) {
+        Ok(name) => OpenOptions::new()
+            .write(true)
+            .create_new(true)
+            .mode(mode)
+            .open(rt, name),
+        Err(error) => Err(error),
+    }
+}
+
+fn make_numbered(
+    rt: &impl Files<File = File>,
+    path: [u8; PATH_MAX],
+    length: usize,
+    number: u32,
+) -> Result<Output> {
+    let path = numbered(path, length, number);
+    let length = length % PATH_LIMIT + ENDING;
+    match create(rt, part(&path, 0, length), PRIVATE) {
+        Ok(file) => {
+            let descriptor = file.as_raw_fd();
+            Ok(Output {
+                descriptor,
+                file,
+                path,
+                length,
+            })
+        }
+        Err(error) => Err(error),
+    }
+}
+
+// Whether there is a file of the name already.
+fn is_taken(made: &Result<Output>) -> bool {
+    match made {
+        Ok(_) => false,
+        Err(error) => error.kind() == ErrorKind::AlreadyExists,
+    }
+}
+
+// Makes the temporary file whose path has the first number that no file has.
+fn make(rt: &impl Files<File = File>, path: [u8; PATH_MAX], length: usize) -> Result<Output> {
+    let mut number = 0u32;
+    let mut made = make_numbered(rt, path, length, number);
+    while number < LAST {
+        if !is_taken(&made) {
+            return made;
+        }
+        number += 1;
+        made = make_numbered(rt, path, length, number);
+    }
+    made
+}
+
+// Makes the temporary file beside the one that a word names. Where there is none, that has been said.
+pub fn begin(rt: &(impl Files<File = File> + Env), place: usize) -> Option<Output> {
+    let mut room = [0u8; PATH_MAX];
+    let length = typed::word(rt, place, &mut room);
+    let name = &room[..length];
     if PATH_LIMIT <= length {
-        complain(b"the path is too long", place);
-        return none();
+        complain(rt, b"the path is too long", place);
+        return None;
     }
-    let mut path = with_ending(path, length);
-    let length = length + ENDING;
-    let file = make(&mut path, length);
-    if file < 0 {
-        os::fail(part(&path, 0, length));
-        return none();
+    let mut path = [0u8; PATH_MAX];
+    path[..length].copy_from_slice(name);
+    let path = with_ending(path, length);
+    match make(rt, path, length) {
+        Ok(output) => {
+            let _ = output.file.set_permissions(Permissions::from_mode(0o644));
+            Some(output)
+        }
+        Err(error) => {
+            failure::show(part(&path, 0, length + ENDING), error);
+            None
+        }
     }
-    libc::fchmod(file, 0o644);
-    Output { file, path, length }
 }
 
 // Takes the name, where no file has it.
-fn reserve(name: &[u8]) -> bool {
-    let file = os::create(name);
-    if file < 0 {
-        os::fail(name);
-        return false;
+fn reserve(rt: &impl Files<File = File>, name: &[u8]) -> bool {
+    match create(rt, name, PUBLIC) {
+        Ok(_) => true,
+        Err(error) => {
+            failure::show(name, error);
+            false
+        }
     }
-    libc::close(file);
-    true
+}
+
+fn give_name(rt: &impl Files, path: &[u8], name: &[u8]) -> Result<()> {
+    fs::rename(rt, failure::text_of(path)?, failure::text_of(name)?)
 }
 
 // Gives the temporary file a name, over a file that has it only where that is forced.
-fn rename(path: &[u8], name: &[u8], force: bool) -> bool {
+fn rename(rt: &impl Files<File = File>, path: &[u8], name: &[u8], force: bool) -> bool {
     if !force {
-        let reserved = reserve(name);
+        let reserved = reserve(rt, name);
         if !reserved {
             return false;
         }
     }
-    if os::rename(path, name) < 0 {
-        os::fail(name);
-        return false;
+    match give_name(rt, path, name) {
+        Ok(()) => true,
+        Err(error) => {
+            failure::show(name, error);
+            false
+        }
     }
-    true
+}
+
+fn remove(rt: &impl Files, path: &[u8]) -> Result<()> {
+    fs::remove_file(rt, failure::text_of(path)?)
 }
 
 // Gives the temporary file, where it is whole, the name that a word is, or removes it.
-pub fn finish(output: Output, place: usize, whole: bool, force: bool) -> bool {
-    let mut name = io::buffer();
-    let end = os::arg(place, &mut name);
-    let path = output.path;
-    let path = part(&path, 0, output.length);
-    let kept = 0 <= libc::fsync(output.file);
-    libc::close(output.file);
+pub fn finish(
+    rt: &(impl Files<File = File> + Env),
+    output: Output,
+    place: usize,
+    whole: bool,
+    force: bool,
+) -> bool {
+    let mut room = [0u8; PATH_MAX];
+    let length = typed::word(rt, place, &mut room);
+    let name = &room[..length];
+    let Output {
+        descriptor: _,
+        file,
+        path,
+        length,
+    } = output;
+    let path = part(&path, 0, length);
+    let kept = file.sync_all().is_ok();
+    drop(file);
     if !kept {
-        complain(b"not all could be kept", place);
+        complain(rt, b"not all could be kept", place);
     } else if whole {
-        if rename(path, &name[..end], force) {
+        if rename(rt, path, name, force) {
             return true;
         }
     } else {
-        complain(b"not all could be written", place);
+        complain(rt, b"not all could be written", place);
     }
-    os::unlink(path);
+    let _ = remove(rt, path);
     false
 }

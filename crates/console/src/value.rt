@@ -1,6 +1,7 @@
 // What an option's value says: six bytes, or a command's word, in hexadecimal; or an edition.
 ghost use Rattle.std.specs.Prelude.{◌≡◌};
-ghost use Rattle.console.specs.Value.{is_in_place, is_six_bytes, byte_named, six_bytes, spells_word, command_word, names_first, names_edition};
+ghost use Rattle.console.specs.Value.{is_in_place, is_six_bytes, byte_named, six_bytes, spells_word, command_word};
+ghost use Rattle.console.specs.Value.{names_first, names_edition};
 
 use hexadecimal::offset::{behind_mark, run, value_of};
 use text::slice::{part, same};

@@ -1,4 +1,6 @@
 // The converters: a sheet of one form becomes one of the other (document 02, request 7).
+#![tactic(auto)]
+
 ghost use Rattle.std.specs.Prelude.{◌≡◌, ◌+◌, length};
 ghost use Rattle.rom.specs.Store.{put};
 ghost use Rattle.sheet.specs.declared.Form.TheVariants.{Narrow, Wide};

@@ -1,4 +1,6 @@
 // The checksums of the serial ROM (document 01, 'The image'; document 02, request 1).
+#![tactic(auto)]
+
 mod crc8;
 mod srom;
 

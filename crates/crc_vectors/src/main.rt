@@ -1,21 +1,23 @@
 // The CRCs of each record's image on standard input, one line a record: SROM CRC and ID CRC, the SROM CRC beside a Magic Packet
 // block and the block's own, and then what the block says; or a refusal. A record is the image's length (word), its stated size
 // (word), and the image.
-use libc::{STDIN_FILENO, STDOUT_FILENO};
+#![tactic(auto)]
+
 use magic::Magic;
 use rom::{ByteOffset, Layout};
+use text::line::{STDIN, STDOUT};
 use text::slice::part;
 
 // The bytes of a record before the image's.
 const HEAD: usize = 4;
 
 fn print_refusal(number: u8) {
-    io::write_all(STDOUT_FILENO, b"refused ");
-    io::print_decimal(STDOUT_FILENO, number as u64);
+    io::write_all(STDOUT, b"refused ");
+    io::print_decimal(STDOUT, number as u64);
 }
 
 fn print_space() {
-    io::write_all(STDOUT_FILENO, b" ");
+    io::write_all(STDOUT, b" ");
 }
 
 fn srom_crc(image: &[u8], size: u16, magic: bool) -> u64 {
@@ -24,13 +26,13 @@ fn srom_crc(image: &[u8], size: u16, magic: bool) -> u64 {
 }
 
 fn print_crcs(image: &[u8], size: u16) {
-    io::print_hex(STDOUT_FILENO, srom_crc(image, size, false), 4);
+    io::print_hex(STDOUT, srom_crc(image, size, false), 4);
     print_space();
-    io::print_hex(STDOUT_FILENO, crc::id_crc(image, size).value as u64, 2);
+    io::print_hex(STDOUT, crc::id_crc(image, size).value as u64, 2);
     print_space();
-    io::print_hex(STDOUT_FILENO, srom_crc(image, size, true), 4);
+    io::print_hex(STDOUT, srom_crc(image, size, true), 4);
     print_space();
-    io::print_hex(STDOUT_FILENO, crc::magic_crc(image, size).value as u64, 2);
+    io::print_hex(STDOUT, crc::magic_crc(image, size).value as u64, 2);
 }
 
 fn print_magic(magic: Magic) {
@@ -40,7 +42,7 @@ fn print_magic(magic: Magic) {
     let address = magic.address;
     vectors::print_bytes(&address);
     print_space();
-    io::print_hex(STDOUT_FILENO, magic.command as u64, 4);
+    io::print_hex(STDOUT, magic.command as u64, 4);
 }
 
 fn print_block(image: &[u8], size: u16) {
@@ -62,13 +64,13 @@ fn print_line(image: &[u8], size: u16) {
         print_space();
         print_block(image, size);
     }
-    io::write_all(STDOUT_FILENO, b"\n");
+    io::write_all(STDOUT, b"\n");
 }
 
 // One record to one line; false at the end of the input.
 fn next_record() -> bool {
     let mut head = [0u8; HEAD];
-    let got = io::read_full(STDIN_FILENO, &mut head);
+    let got = io::read_full(STDIN, &mut head);
     if got < HEAD {
         return false;
     }

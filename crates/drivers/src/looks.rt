@@ -1,11 +1,11 @@
 // `card walk`: looks with given link reports, and where the walk stands after each.
 use autosense::{Walk, Walked, Way};
-use console::{arguments, command, option, status};
-use libc::STDOUT_FILENO;
+use console::{arguments, command, option, status, typed};
 use reader::Arguments;
 use report::words;
 use rom::refusal;
-use text::line::Line;
+use std::rt::Env;
+use text::line::{Line, STDOUT};
 use text::slice::part;
 
 // The longest report that is looked at: more than the digits of 255 blocks, since later ones are ignored.
@@ -50,35 +50,35 @@ fn report_of(digits: &[u8]) -> Report {
     report
 }
 
-fn report_at(place: usize) -> Report {
+fn report_at(rt: &impl Env, place: usize) -> Report {
     let mut room = [0u8; LONGEST];
-    let length = os::arg(place, &mut room);
+    let length = typed::word(rt, place, &mut room);
     report_of(&room[..length])
 }
 
 // The role of a word behind one of a role. A plain one is a report.
-fn role_at(place: usize, before: u8) -> u8 {
+fn role_at(rt: &impl Env, place: usize, before: u8) -> u8 {
     let mut room = [0u8; LONGEST];
-    let length = os::arg(place, &mut room);
+    let length = typed::word(rt, place, &mut room);
     option::role_of(&room[..length], before, command::WALK)
 }
 
 // Whether a word of a role should be a report and is none.
-fn is_wrong(place: usize, role: u8) -> bool {
+fn is_wrong(rt: &impl Env, place: usize, role: u8) -> bool {
     if role != option::PLAIN {
         return false;
     }
-    let found = report_at(place).found;
+    let found = report_at(rt, place).found;
     !found
 }
 
 // The first such word from a place on, or the words' end.
-fn first_wrong(first: usize, end: usize) -> usize {
+fn first_wrong(rt: &impl Env, first: usize, end: usize) -> usize {
     let mut role = option::PLAIN;
     let mut place = first;
     while place < end {
-        role = role_at(place, role);
-        let wrong = is_wrong(place, role);
+        role = role_at(rt, place, role);
+        let wrong = is_wrong(rt, place, role);
         if wrong {
             return place;
         }
@@ -87,8 +87,8 @@ fn first_wrong(first: usize, end: usize) -> usize {
     end
 }
 
-fn look(walk: Walk, place: usize) -> Walked {
-    let report = report_at(place);
+fn look(rt: &impl Env, walk: Walk, place: usize) -> Walked {
+    let report = report_at(rt, place);
     let links = report.links;
     autosense::look(walk, part(&links, 0, report.length))
 }
@@ -115,15 +115,16 @@ fn up_words(line: Line, digits: &[u8]) -> Line {
 }
 
 // The start of a look's line: its report. Of a long one the links that are up have a line before it.
-fn report_words(place: usize) -> Line {
+fn report_words(rt: &impl Env, place: usize) -> Line {
     let mut room = [0u8; LONGEST];
-    let length = os::arg(place, &mut room);
+    let length = typed::word(rt, place, &mut room);
+    let word = &room[..length];
     let line = Line::new().to(2);
-    if SHOWN < length {
-        up_words(line.text(b"links up:"), &room[..length]).print();
+    if SHOWN < word.len() {
+        up_words(line.text(b"links up:"), word).print();
         return Line::new().to(4);
     }
-    line.text(&room[..length]).text(b"  ")
+    line.text(word).text(b"  ")
 }
 
 fn selected_words(line: Line, image: &[u8], arguments: Arguments, selected: u8) -> Line {
@@ -153,10 +154,10 @@ fn show_state(line: Line, image: &[u8], arguments: Arguments, walk: Walk) {
     .print();
 }
 
-fn show_look(image: &[u8], arguments: Arguments, place: usize, walked: Walked) {
-    let line = report_words(place);
+fn show_look(rt: &impl Env, image: &[u8], arguments: Arguments, place: usize, walked: Walked) {
+    let line = report_words(rt, place);
     if walked.number != refusal::ACCEPTED {
-        line.show(STDOUT_FILENO);
+        line.show(STDOUT);
         report::show_refusal(walked.number);
         return;
     }
@@ -165,16 +166,23 @@ fn show_look(image: &[u8], arguments: Arguments, place: usize, walked: Walked) {
 }
 
 // A look with each report from a place on; whether all are accepted.
-fn show_looks(image: &[u8], arguments: Arguments, loaded: Walk, first: usize, end: usize) -> bool {
+fn show_looks(
+    rt: &impl Env,
+    image: &[u8],
+    arguments: Arguments,
+    loaded: Walk,
+    first: usize,
+) -> bool {
+    let end = typed::count(rt);
     let mut walk = loaded;
     let mut accepted = true;
     let mut role = option::PLAIN;
     let mut place = first;
     while place < end {
-        role = role_at(place, role);
+        role = role_at(rt, place, role);
         if role == option::PLAIN {
-            let walked = look(walk, place);
-            show_look(image, arguments, place, walked);
+            let walked = look(rt, walk, place);
+            show_look(rt, image, arguments, place, walked);
             if walked.number != refusal::ACCEPTED {
                 accepted = false;
             }
@@ -203,11 +211,11 @@ fn show_loaded(arguments: Arguments, given: bool, walk: Walk) {
 }
 
 // Loads the image and takes the looks, whose first report is a word; the status. The image's size may have been given.
-pub fn show(image: &[u8], arguments: Arguments, given: bool, first: usize) -> u8 {
-    let end = os::arg_count();
-    let wrong = first_wrong(first, end);
+pub fn show(rt: &impl Env, image: &[u8], arguments: Arguments, given: bool, first: usize) -> u8 {
+    let end = typed::count(rt);
+    let wrong = first_wrong(rt, first, end);
     if wrong < end {
-        arguments::complain(b"no row of 0 and 1", wrong);
+        arguments::complain(rt, b"no row of 0 and 1", wrong);
         arguments::suggest(b"a REPORT has a digit for each block: 1 where its link is up");
         return status::USAGE;
     }
@@ -218,5 +226,5 @@ pub fn show(image: &[u8], arguments: Arguments, given: bool, first: usize) -> u8
     }
     let walk = loaded.walk;
     show_loaded(arguments, given, walk);
-    status::of(show_looks(image, arguments, walk, first, end))
+    status::of(show_looks(rt, image, arguments, walk, first))
 }

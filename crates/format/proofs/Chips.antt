@@ -8,7 +8,8 @@ use lib.ListN.{get_or}
 use borrow.Author.Tests.{lt-leb, ne_eqb, eqb-false}
 use Rattle.rom.proofs.Truth.{or-false}
 use Rattle.rom.specs.Bytes.{pick, is_in}
-use Rattle.format.specs.Chips.{chips, place_of, row_of, permitted_rows, is_permitted, newest_level, kind_compact, taken_as, the_first_edition}
+use Rattle.format.specs.Chips.{chips, place_of, row_of, permitted_rows, is_permitted, newest_level, kind_compact}
+use Rattle.format.specs.Chips.{taken_as, the_first_edition}
 use Rattle.format.specs.Chips.{the_later_edition, first_codes, later_codes, is_read}
 use Rattle.format.specs.Chips.{connections21041, connections21140, connections21142, connection_rows, is_connection}
 use Rattle.format.specs.Claims.{NamedRows, EachItsOwn}
@@ -44,7 +45,8 @@ pub no-later : (row code : ℕ) → is_in code later_codes ≡ true → is_read 
 unfolding is_read pick
 no-later row code e = ap (λ (t : Bool). not t && is_connection row (taken_as code)) e
 
-other-codes : (row code : ℕ) → is_in code (first_codes ++ later_codes) ≡ false → is_read the_first_edition row code ≡ is_read the_later_edition row code
+other-codes : (row code : ℕ) → is_in code (first_codes ++ later_codes) ≡ false → is_read the_first_edition row code
+    ≡ is_read the_later_edition row code
 unfolding is_read taken_as is_in first_codes later_codes pick
 other-codes row code e =
     let a = or-false (eqb 0x0200 code) _ e in

@@ -2,7 +2,8 @@
 use Rattle.std.specs.Prelude.{ℕ, ◌≤◌, length, ◌≡◌, Bool, true, false, List, [], ◌∷◌, ◌++◌, map}
 use Rattle.rom.specs.Bytes.{is_in}
 use Rattle.rom.specs.Refusal.{Exact}
-use Rattle.format.specs.Chips.{row_of, row21041, row21140, the_first_edition, the_later_edition, first_codes, later_codes, taken_as, is_read}
+use Rattle.format.specs.Chips.{row_of, row21041, row21140, the_first_edition, the_later_edition, first_codes, later_codes}
+use Rattle.format.specs.Chips.{taken_as, is_read}
 use Rattle.format.specs.Chips.{is_connection}
 use Rattle.format.specs.Block.{is_extended, length_of, size_of, the_first_version, causes, refusal_in, refusal_of}
 use Rattle.format.specs.Cases.{said, block_cases}
@@ -22,7 +23,8 @@ AcceptedBelow = (first : Bool) (row older newest : ℕ) (s : List ℕ) → older
 
 -- in version 1 an extended block that lies in the rest gets 14 at every level, whether the level knows its type or not
 abbrev pub ExtendedRefused : Type 0
-ExtendedRefused = (row level : ℕ) (s : List ℕ) → is_extended row s ≡ true → size_of row s ≤ length s → refusal_in the_first_version row level s ≡ 14
+ExtendedRefused = (row level : ℕ) (s : List ℕ) → is_extended row s ≡ true → size_of row s ≤ length s
+    → refusal_in the_first_version row level s ≡ 14
 
 -- 21041 and compact blocks are judged as in versions 3 and 4
 abbrev pub OthersAlike : Type 0
@@ -39,7 +41,8 @@ EachItsOwn = (row : ℕ) →
     × ((code : ℕ) → is_read the_later_edition row code ≡ is_connection row code)
     × (is_connection row 0x0200 ≡ false)
     × (is_connection row 0x0203 ≡ false)
-    × ((code : ℕ) → is_in code (first_codes ++ later_codes) ≡ false → is_read the_first_edition row code ≡ is_read the_later_edition row code)
+    × ((code : ℕ) → is_in code (first_codes ++ later_codes) ≡ false → is_read the_first_edition row code
+    ≡ is_read the_later_edition row code)
 
 -- the rows that have a name are those of their chips
 abbrev pub NamedRows : Type 0

@@ -1,5 +1,7 @@
 // A sheet's block count and total of body bytes in each form (document 01, 'The sheet'; document 02, request 7), and whether its
 // length and sum are right.
+#![tactic(auto)]
+
 ghost use Rattle.std.specs.Prelude.{◌≡◌, ◌<◌, ◌≤◌, length};
 ghost use Rattle.rom.specs.Store.{laid};
 ghost use Rattle.sheet.specs.Lists.{sum};

@@ -1,4 +1,6 @@
 // An image's header, and the header of a controller's leaf (document 01, 'The image'; document 02, request 12).
+#![tactic(auto)]
+
 ghost use Rattle.std.specs.Prelude.{◌≡◌, not, false, ◌&&◌, ◌+◌, ◌*◌, ◌^◌, ◌<◌, ◌≤◌, min, eqb, length};
 ghost use Rattle.rom.specs.Geometry.{wrong_length, checked_length, id_crc_at, version_at};
 ghost use Rattle.rom.specs.Bytes.{byte_at, word_at, is_in};
@@ -23,7 +25,7 @@ const LAST_VERSION: u8 = 4;
 
 // What the header says of a controller's leaf, or a refusal's number and zeros. The row is the chip's, and start is where
 // the first block stands.
-#[derive(Drop)]
+#[derive(Clone, Copy)]
 pub struct Header {
     pub number: u8,
     pub row: usize,

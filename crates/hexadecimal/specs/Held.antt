@@ -1,5 +1,5 @@
 -- The bytes of a text as far as it has been read.
-use Rattle.std.specs.Prelude.{ℕ, zero, suc, ◌+◌, ◌-◌, ◌/◌, ◌%◌, Bool, true, false, not, ◌||◌, replicate, ◌==◌, nat_lt, slice_set}
+use Rattle.std.specs.Prelude.{ℕ, zero, suc, ◌+◌, ◌-◌, ◌/◌, ◌%◌, not, ◌||◌, replicate, ◌==◌, nat_lt, slice_set}
 use Rattle.rom.specs.Bytes.{pick, byte_at}
 use Rattle.hexadecimal.specs.Form.{is_words}
 use Rattle.hexadecimal.specs.Group.{whole, misplaced}

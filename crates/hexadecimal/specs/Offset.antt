@@ -82,7 +82,8 @@ unfoldable pub form_of : List ℕ → ℕ
 form_of line =
     pick (beginning_of line == 1) (form_by_width (width_of line) ethtool numbered)
     (pick (beginning_of line == 2) (form_by_width (width_of line) xxd xxd)
-    (pick (beginning_of line == 0 || nat_lt (length (digits_of line)) 6) unknown_form (form_by_width (width_of line) bytes_alone words_alone)))
+    (pick (beginning_of line == 0 || nat_lt (length (digits_of line)) 6) unknown_form
+    (form_by_width (width_of line) bytes_alone words_alone)))
 
 -- whether a line begins with digits and nothing else before a blank
 unfoldable pub is_plain : List ℕ → Bool

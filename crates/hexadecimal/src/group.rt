@@ -22,7 +22,7 @@ pub(crate) const WRONG: u8 = 3;
 
 // The last four digits as a number, how many of the byte or word at hand have been read, whether a blank stands before, and
 // where the row stands.
-#[derive(Drop)]
+#[derive(Clone, Copy)]
 pub(crate) struct Group {
     pub value: u16,
     pub digits: u8,

@@ -14,7 +14,7 @@ pub const ROOM: usize = 2048;
 const ROW: usize = 16;
 
 // The bytes are the first so many; a problem is one of the numbers in lib.rt.
-#[derive(Drop)]
+#[derive(Clone, Copy)]
 pub struct Held {
     pub bytes: [u8; ROOM],
     pub length: usize,

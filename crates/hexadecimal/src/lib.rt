@@ -1,4 +1,6 @@
 // Hexadecimal text as programs print it, back to its bytes. specs/Text.antt says which forms there are.
+#![tactic(auto)]
+
 mod form;
 mod group;
 pub mod held;

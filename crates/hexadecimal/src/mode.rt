@@ -7,7 +7,7 @@ use crate::{form, offset};
 use text::slice::byte_at;
 
 // The text's form, whether a line before it is none of a form, and whether the line before is a '*'.
-#[derive(Drop)]
+#[derive(Clone, Copy)]
 pub struct Mode {
     pub form: u8,
     pub headed: bool,

@@ -32,7 +32,8 @@ pub argument-numbered : (image : List ℕ) (a : Arguments) → Numbered (argumen
 unfolding argument_causes
 argument-numbered image a = (lit< tt, (lit< tt, (lit< tt, (lit< tt, (lit< tt, tt)))))
 
-leaf-header-numbered : (l : Layout) (image : List ℕ) (edition : Bool) (row leaf : ℕ) → Numbered (leaf_header_causes l image edition row leaf)
+leaf-header-numbered : (l : Layout) (image : List ℕ) (edition : Bool) (row leaf : ℕ)
+    → Numbered (leaf_header_causes l image edition row leaf)
 unfolding leaf_header_causes
 leaf-header-numbered l image edition row leaf = (lit< tt, (lit< tt, tt))
 

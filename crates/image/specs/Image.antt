@@ -1,7 +1,8 @@
 -- The image: its header and a controller's leaf (document 01, 'The image', 'Leaf and blocks'; document 02, request 12).
 use Rattle.std.specs.Prelude.{ℕ, ◌+◌, ◌-◌, ◌*◌, ◌^◌, List, [], ◌∷◌, ◌++◌, Bool, ◌&&◌, ◌||◌, not, eqb, leb, ltb, length, take, drop}
 use Rattle.rom.specs.declared.Layout.{Layout}
-use Rattle.rom.specs.Geometry.{wrong_length, checked_length, leaves_end, most_controllers, id_crc_at, version_at, controller_count_at, address_at}
+use Rattle.rom.specs.Geometry.{wrong_length, checked_length, leaves_end, most_controllers, id_crc_at, version_at}
+use Rattle.rom.specs.Geometry.{controller_count_at, address_at}
 use Rattle.rom.specs.Geometry.{controllers_at}
 use Rattle.rom.specs.Bytes.{pick, byte_at, word_at, is_in}
 use Rattle.rom.specs.Refusal.{Cause, ◌⇒◌}

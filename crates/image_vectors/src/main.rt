@@ -1,35 +1,37 @@
 // The reading of each record on standard input, one line a record: the image's length (word), chip (word), controller, level,
 // stated size (word), layout (1 with a Magic Packet block, 0 without), edition (1 for 1.00, 0 for 1.01), image. Each entry of the
 // table is printed as kind@offset:block.
-use libc::{STDIN_FILENO, STDOUT_FILENO};
+#![tactic(auto)]
+
 use reader::{Answer, Arguments};
 use rom::{ByteOffset, Layout};
+use text::line::{STDIN, STDOUT};
 use text::slice::part;
 
 // The bytes of a record before the image's.
 const HEAD: usize = 10;
 
 fn print_space() {
-    io::write_all(STDOUT_FILENO, b" ");
+    io::write_all(STDOUT, b" ");
 }
 
 fn print_refusal(number: u8) {
-    io::write_all(STDOUT_FILENO, b"refused ");
-    io::print_decimal(STDOUT_FILENO, number as u64);
+    io::write_all(STDOUT, b"refused ");
+    io::print_decimal(STDOUT, number as u64);
 }
 
 fn print_count(n: u8) {
     print_space();
-    io::print_decimal(STDOUT_FILENO, n as u64);
+    io::print_decimal(STDOUT, n as u64);
 }
 
 fn print_answer(answer: Answer) {
-    io::write_all(STDOUT_FILENO, b"accepted ");
-    io::print_hex(STDOUT_FILENO, answer.connection as u64, 4);
+    io::write_all(STDOUT, b"accepted ");
+    io::print_hex(STDOUT, answer.connection as u64, 4);
     print_space();
-    io::print_hex(STDOUT_FILENO, answer.control as u64, 2);
+    io::print_hex(STDOUT, answer.control as u64, 2);
     print_space();
-    io::print_hex(STDOUT_FILENO, answer.address, 12);
+    io::print_hex(STDOUT, answer.address, 12);
     print_count(answer.blocks);
     print_count(answer.listed);
     print_count(answer.resets);
@@ -40,14 +42,14 @@ fn print_answer(answer: Answer) {
 
 fn print_entry(kind: u16, offset: u16) {
     print_space();
-    io::print_decimal(STDOUT_FILENO, kind as u64);
-    io::write_all(STDOUT_FILENO, b"@");
-    io::print_decimal(STDOUT_FILENO, offset as u64);
+    io::print_decimal(STDOUT, kind as u64);
+    io::write_all(STDOUT, b"@");
+    io::print_decimal(STDOUT, offset as u64);
 }
 
 // The block of an entry, as the view hands it back.
 fn print_block(image: &[u8], arguments: Arguments, entry: usize) {
-    io::write_all(STDOUT_FILENO, b":");
+    io::write_all(STDOUT, b":");
     vectors::print_bytes(reader::view(image, arguments, entry));
 }
 
@@ -74,13 +76,13 @@ fn print_reading(image: &[u8], arguments: Arguments) {
         print_answer(answer);
         print_table(image, arguments, &kinds, &offsets, answer.listed as usize);
     }
-    io::write_all(STDOUT_FILENO, b"\n");
+    io::write_all(STDOUT, b"\n");
 }
 
 // One record to one line; false at the end of the input.
 fn next_record() -> bool {
     let mut head = [0u8; HEAD];
-    let got = io::read_full(STDIN_FILENO, &mut head);
+    let got = io::read_full(STDIN, &mut head);
     if got < HEAD {
         return false;
     }

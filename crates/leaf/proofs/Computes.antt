@@ -9,5 +9,6 @@ use Rattle.leaf.specs.Tally.{no_tally, counts, tally_of}
 
 unfoldable pub leaf-computes : Unit {0}
 unfolding block-computes image_length magic_at board_length leaves_end any_below is_reset is_skipped sets_mode
-    cut count_of first_from clash block_causes clash_cause mode_cause whole_causes leaf_causes placed keep table no_tally counts tally_of table_of
+    cut count_of first_from clash block_causes clash_cause mode_cause whole_causes leaf_causes placed keep table no_tally counts tally_of
+    table_of
 leaf-computes = tt

@@ -89,7 +89,8 @@ pub first-accepted : (row level : ℕ) (s : List ℕ) (bs : List (List ℕ)) →
     → (refusal_of row level s ≡ 0) × (first_met (block_causes the_later_version row level bs) ≡ 0)
 unfolding block_causes refusal_of
 first-accepted row level s bs =
-    both-accepted (causes the_later_version row level s) (block_causes the_later_version row level bs) (causes-numbered the_later_version row level s)
+    both-accepted (causes the_later_version row level s) (block_causes the_later_version row level bs)
+    (causes-numbered the_later_version row level s)
 
 -- an accepted block lies in the rest, in the terms of the code: b is what it is found to be, n its number, z its size
 pub size_fits : (row level : ℕ) (s : List ℕ) {b : Block} {n z : ℕ} → b ≡ block_of row level s → n ≡ number_of b → n ≡ 0 → z ≡ size_in b

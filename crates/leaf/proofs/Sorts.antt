@@ -68,7 +68,8 @@ one-sort row level s = go (is_known level (kind_of row s)) (eqb (kind_of row s) 
     go false r e p f = refl
 
 sorts-length : (row level : ℕ) (bs : List (List ℕ))
-    → count_of (is_listed row level) bs + count_of (is_reset row level) bs + count_of (is_skipped row level) bs + count_of (is_power row level) bs
+    → count_of (is_listed row level) bs + count_of (is_reset row level) bs + count_of (is_skipped row level) bs
+    + count_of (is_power row level) bs
     ≡ length bs
 unfolding count_of
 sorts-length row level [] = refl

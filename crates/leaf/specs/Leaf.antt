@@ -36,7 +36,8 @@ block_causes first row level (s ∷ bs) = causes first row level s ++ block_caus
 
 -- among known blocks
 unfoldable pub clash_cause : ℕ → ℕ → List (List ℕ) → Cause
-clash_cause row level bs = 18 ⇒ clash (count_of (is_reset row level) bs) (count_of (resets_a_phy row level) bs) (count_of (is_default row level) bs)
+clash_cause row level bs = 18 ⇒ clash (count_of (is_reset row level) bs) (count_of (resets_a_phy row level) bs)
+    (count_of (is_default row level) bs)
 
 -- a bit of the mode byte set in two power blocks, among known blocks
 unfoldable pub mode_cause : ℕ → ℕ → List (List ℕ) → Cause

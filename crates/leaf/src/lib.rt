@@ -1,8 +1,9 @@
 // The blocks of a leaf: how it is cut into them, what a level counts and lists of them, and why they are refused, as definitions
 // (document 01, 'Leaf and blocks'; document 02, requests 3 and 12).
+#![tactic(auto)]
 
 // The blocks of each sort, or a refusal's number and zeros.
-#[derive(Drop)]
+#[derive(Clone, Copy)]
 pub struct Tally {
     pub number: u8,
     pub listed: u8,

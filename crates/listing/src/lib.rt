@@ -1,4 +1,6 @@
 // `card read`: the verdict, and what the card says.
+#![tactic(auto)]
+
 ghost use Rattle.std.specs.Prelude.{◌<◌};
 
 use block::Block;

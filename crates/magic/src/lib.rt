@@ -1,4 +1,6 @@
 // The Magic Packet block of an image: its reader and its writer (000, section 4; document 02, request 1).
+#![tactic(auto)]
+
 ghost use Rattle.std.specs.Prelude.{◌≡◌, ◌+◌, ◌-◌, ◌≤◌, ◌<◌, length, take, drop, replicate, false};
 ghost use Rattle.rom.specs.Geometry.{wrong_length};
 ghost use Rattle.rom.specs.Bytes.{byte_at, word_at};

@@ -180,7 +180,8 @@ module _ {row first count : ℕ} {leaves sheet₀ : List ℕ} {k start : ℕ} {s
             ≡ parts_at count sheet k to (entries_of row (count - k) (drop start leaves))
         unfolding kind_bytes size_bytes body_bytes
         pieces =
-            ap₂ (λ (n : ℕ) (l : List ℕ). three_at sheet (head_length + 2 * k) (word_bytes n ++ kind_bytes later) (head_length + 2 * count + k)
+            ap₂ (λ (n : ℕ) (l : List ℕ). three_at sheet (head_length + 2 * k) (word_bytes n ++ kind_bytes later) (head_length + 2 * count
+            + k)
             (length l ∷ size_bytes later) to (l ++ body_bytes later)) (rw (rest_part start leaves) at ek) t.body
             ∙ ap (parts_at count sheet k to) (sym t.left)
 

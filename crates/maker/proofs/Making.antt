@@ -64,7 +64,11 @@ module _ (l : Layout) (from : ℕ) (image : List ℕ) {n : ℕ} (en : n ≡ byte
     pub tidy-zeros : w ≡ leaf_start → {b : Bool} → b ≡ all_zero (up_to_leaves_end l image from) → b ≡ is_tidy_from l from image
     unfolding is_tidy_from controller_count leaf_at
     tidy-zeros z e =
-        simp (eq-eqb (byte_at image controller_count_at) 1 (sym en ∙ one), eq-eqb (word_at image (controllers_at + 1)) leaf_start (sym ew ∙ z)) e
+        simp (
+          eq-eqb (byte_at image controller_count_at) 1 (sym en ∙ one),
+          eq-eqb (word_at image (controllers_at + 1)) leaf_start (sym ew
+              ∙ z),
+        ) e
 
 -- ## The sheet of an image that is read, into a buffer with room
 
@@ -238,7 +242,8 @@ module _ (form : Form) (l : Layout) (edition : Bool) (served : is_beyond form l.
     unfolding make_number make_causes first_met
     past-reading room =
         pick-false (is_beyond form l.size) _ _ served
-        ∙ after-accepted (judge_causes image (newest_in l edition chip)) _ (judge-numbered image (newest_in l edition chip)) (sym number_read
+        ∙ after-accepted (judge_causes image (newest_in l edition chip)) _ (judge-numbered image (newest_in l edition chip))
+        (sym number_read
         ∙ z)
 
     module _ (leaves : List ℕ) (q : leaves ≡ up_to_leaves_end l image 0) (m : Measured)

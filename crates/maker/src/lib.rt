@@ -1,4 +1,6 @@
 // The sheet maker: the sheet of a tidy image (document 01, 'The sheet').
+#![tactic(auto)]
+
 mod parts;
 
 ghost use Rattle.std.specs.Prelude.{◌≡◌, ◌≤◌, length};

@@ -10,7 +10,7 @@ ghost use Rattle.maker.specs.Inside.{AcceptedBlocks, entries_of, measured_of};
 use block::shape;
 
 // Where a leaf's blocks end, and how many bytes their bodies have.
-#[derive(Drop)]
+#[derive(Clone, Copy)]
 pub(crate) struct Measured {
     pub end: usize,
     pub bodies: usize,
@@ -65,7 +65,7 @@ fn put_entry(
     sheet[kind_at + 1] = (kind / 256) as u8;
     sheet[size_at] = body.len() as u8;
     let end = body_at + body.len();
-    bytes::copy(body, &mut sheet[body_at..end]);
+    sheet[body_at..end].copy_from_slice(body);
 }
 
 // The three parts behind a sheet's head, in one pass.

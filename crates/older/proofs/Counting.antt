@@ -12,7 +12,8 @@ use Rattle.rom.specs.Refusal.{first_met}
 use Rattle.image.specs.declared.Arguments.{Arguments}
 use Rattle.walk.specs.declared.Walk.{Walk}
 use Rattle.walk.specs.declared.Choice.{Choice}
-use Rattle.walk.specs.Walk.{way_of, is_fixed, fresh_walk, loaded_walk, fixed_block, chosen, switched, stepped, look_causes, load_causes, walked_to}
+use Rattle.walk.specs.Walk.{way_of, is_fixed, fresh_walk, loaded_walk, fixed_block, chosen, switched, stepped, look_causes}
+use Rattle.walk.specs.Walk.{load_causes, walked_to}
 use Rattle.walk.specs.Walk.{load_for, look_for, clear_for}
 use Rattle.walk.proofs.Looks.{accepted-looks}
 use Rattle.walk.proofs.Fixed.{fixed-chosen}

@@ -36,4 +36,4 @@ module _ (image : List ℕ) (a : Arguments) (w : Walk) (loads : load_for fresh_w
 
   pub each-refused : {v : Walk} → Resting w v → (cs : List Call) → Each (RefusedAt 32) image a v cs
   each-refused r [] = tt
-  each-refused r (c ∷ cs) = let t = at r c in (t.0, each-refused t.1 cs)
+  each-refused {v = v} r (c ∷ cs) = let t = at r c in (t.0, each-refused {v = (call image a v c).walk} t.1 cs)

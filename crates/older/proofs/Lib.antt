@@ -3,6 +3,7 @@ pub mod OlderAnswer
 pub mod Numbered
 pub mod Simulation
 pub mod Lacking
+pub mod Nameless
 pub mod OlderReadings
 pub mod OlderReader
 pub mod Order

@@ -78,7 +78,8 @@ pub listed-level : (row older newest : ℕ) → older ≤ newest → (s : List �
     → is_listed row older s ≡ is_listed row newest s
 unfolding is_listed
 listed-level row older newest h s =
-    go (is_known newest (kind_of row s)) (is_known older (kind_of row s)) (is_medium (kind_of row s)) (known_up older newest (kind_of row s) h)
+    go (is_known newest (kind_of row s)) (is_known older (kind_of row s)) (is_medium (kind_of row s))
+    (known_up older newest (kind_of row s) h)
   where
     go : (k l x : Bool) → (l ≡ true → k ≡ true) → ((k && x) && not l) ≡ false → (l && x) ≡ (k && x)
     go k true x u e = rw (u refl)
@@ -101,7 +102,8 @@ fixed-down : (connection row older newest : ℕ) → older ≤ newest → (s : L
     → is_fixed_medium connection row older s ≡ false
 unfolding is_fixed_medium is_listed
 fixed-down connection row older newest h s =
-    go (is_known newest (kind_of row s)) (is_known older (kind_of row s)) (is_medium (kind_of row s)) _ (known_up older newest (kind_of row s) h)
+    go (is_known newest (kind_of row s)) (is_known older (kind_of row s)) (is_medium (kind_of row s)) _
+    (known_up older newest (kind_of row s) h)
   where
     go : (k l x y : Bool) → (l ≡ true → k ≡ true) → ((k && x) && y) ≡ false → ((l && x) && y) ≡ false
     go k true x y u e = rw (u refl) at e

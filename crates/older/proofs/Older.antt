@@ -1,6 +1,6 @@
 -- The older table is a filter after a filter, of a reversed list; acceptance goes down since each cause can only vanish.
 -- Assumes nothing.
-use Prim.Native.Nat.{ℕ, zero, suc, ◌+◌, ◌≤◌}
+use Prim.Native.Nat.{ℕ, zero, suc, ◌≤◌}
 use native.Mathlib.Omega.{arith}
 use native.Mathlib.Nat.{le_refl}
 use mathlib.Core.List.{List, [], ◌∷◌, ◌++◌, reverse, reverse-cons, append-nil}
@@ -123,7 +123,8 @@ module _ (row older newest : ℕ) (bs : List (List ℕ)) (h : older ≤ newest) 
   unfolding mode_cause sets_mode is_power
   mode-vanishes = any-down _ _ 8 (λ k. low 1 _ _
       (count_down _ _
-      (λ s. one-down-both _ _ (eqb (kind_of row s) 6) (bit k (facts_of (kind_of row s) s).mode) (known_up older newest (kind_of row s) h)) bs))
+      (λ s. one-down-both _ _ (eqb (kind_of row s) 6) (bit k (facts_of (kind_of row s) s).mode) (known_up older newest (kind_of row s) h))
+      bs))
 
 pub older-accepts : OlderAccepts
 unfolding leaf_causes whole_causes

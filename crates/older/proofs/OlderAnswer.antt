@@ -95,9 +95,11 @@ default-less row older newest s h =
     (known_up older newest (kind_of row s) h)
 
 -- a default of the newest level is the older one's where that knows it
-default-known : (row older newest : ℕ) (s : List ℕ) → is_default row newest s ≡ true → is_default row older s ≡ is_known older (kind_of row s)
+default-known : (row older newest : ℕ) (s : List ℕ) → is_default row newest s ≡ true → is_default row older s
+    ≡ is_known older (kind_of row s)
 unfolding is_default
-default-known row older newest s = go (is_known newest (kind_of row s)) (is_known older (kind_of row s)) (facts_of (kind_of row s) s).is_default
+default-known row older newest s = go (is_known newest (kind_of row s)) (is_known older (kind_of row s))
+    (facts_of (kind_of row s) s).is_default
   where
     go : (k l x : Bool) → (k && x) ≡ true → (l && x) ≡ l
     go true true x e = e

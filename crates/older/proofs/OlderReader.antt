@@ -77,7 +77,8 @@ module _ (image : List ℕ) (a : Arguments) (older : ℕ) (bytes : Bytes image) 
       blocks = refl;
       listed = flags-same (row_for a) older newest_level _ _ (listed-level (row_for a) older newest_level down) (blocks_for image a);
       invalid = flags-same (row_for a) older newest_level _ _ (invalid-level (row_for a) older newest_level down) (blocks_for image a);
-      fixed = flags-same (row_for a) older newest_level _ _ (fixed-level connection (row_for a) older newest_level down) (blocks_for image a);
+      fixed = flags-same (row_for a) older newest_level _ _ (fixed-level connection (row_for a) older newest_level down)
+          (blocks_for image a);
       fewer = fixed-fewer connection (row_for a) older newest_level down (blocks_for image a);
     };
     state = record { loaded = refl; settled = refl; selected = refl; looks = refl; switches = refl };

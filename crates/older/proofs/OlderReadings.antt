@@ -22,7 +22,8 @@ use Rattle.leaf.specs.Leaf.{PlacedBlock, count_of, table_of, kind_at, start_at}
 use Rattle.leaf.proofs.Tables.{listed-length}
 use Rattle.leaf.proofs.Sorts.{accepted-defaults}
 use Rattle.reader.specs.Table.{tabled}
-use Rattle.reader.specs.Reading.{blocks_for, table_for, leaf_causes_for, judge_causes, read_causes, accepted_answer, answer_for, read_answer}
+use Rattle.reader.specs.Reading.{blocks_for, table_for, leaf_causes_for, judge_causes, read_causes, accepted_answer}
+use Rattle.reader.specs.Reading.{answer_for, read_answer}
 use Rattle.reader.specs.Reading.{read_into, read_kinds, read_offsets}
 use Rattle.older.specs.Levels.{is_kept, removed_block}
 use Rattle.older.specs.Written.{Arrays, Room, TableEntry, as_entry, entries, answer_of, table_in, removed, kept}
@@ -44,7 +45,8 @@ header-down image a older newest h =
     fewer-append (fewer-same (image_causes a.layout image))
     (fewer-append
     (and (λ e. e)
-    (and (λ e. e) (and (λ e. e) (and (λ e. le-ltb newest_level older (omega (arith, ltb-false newest_level newest e))) (and (λ e. e) end)))))
+    (and (λ e. e) (and (λ e. e) (and (λ e. le-ltb newest_level older (omega (arith, ltb-false newest_level newest e)))
+    (and (λ e. e) end)))))
     (fewer-same (leaf_header_causes a.layout image (edition_for image a) (row_for a) (leaf_for image a))))
 
 -- an accepted reading has an accepted header and an accepted leaf
@@ -53,7 +55,8 @@ pub reading-parts : (image : List ℕ) (a : Arguments) → first_met (judge_caus
 unfolding judge_causes
 reading-parts image a e = both-accepted (header_causes image a) (leaf_causes_for image a) (header-numbered image a) e
 
-pub judge-down : (image : List ℕ) (a : Arguments) (older newest : ℕ) → older ≤ newest → first_met (judge_causes image (at_level a newest)) ≡ 0
+pub judge-down : (image : List ℕ) (a : Arguments) (older newest : ℕ) → older ≤ newest → first_met (judge_causes image (at_level a newest))
+    ≡ 0
     → first_met (judge_causes image (at_level a older)) ≡ 0
 unfolding judge_causes leaf_causes_for
 judge-down image a older newest h e =
@@ -102,7 +105,8 @@ module _ (image : List ℕ) (a : Arguments) (e : first_met (judge_causes image a
 
 -- ## The older table
 
-keep-map : (row older : ℕ) (t : List PlacedBlock) → map (as_entry row) (keep (is_kept row older) t) ≡ keep (kept older) (map (as_entry row) t)
+keep-map : (row older : ℕ) (t : List PlacedBlock) → map (as_entry row) (keep (is_kept row older) t)
+    ≡ keep (kept older) (map (as_entry row) t)
 unfolding keep pick
 keep-map row older [] = refl
 keep-map row older (p ∷ t) = go (is_kept row older p) (keep-map row older t)

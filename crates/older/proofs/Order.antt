@@ -16,7 +16,8 @@ use Rattle.leaf.specs.Leaf.{PlacedBlock, placed, table, table_of}
 use Rattle.leaf.proofs.Cuts.{cut-length}
 use Rattle.reader.specs.Reading.{blocks_for, accepted_answer}
 use Rattle.rom.specs.Geometry.{none}
-use Rattle.walk.specs.Walk.{row_length, no_flags, flags, block_is, is_invalid, is_fixed_medium, is_up, rows_of, loaded_walk, last_below, is_candidate}
+use Rattle.walk.specs.Walk.{row_length, no_flags, flags, block_is, is_invalid, is_fixed_medium, is_up, rows_of, loaded_walk}
+use Rattle.walk.specs.Walk.{last_below, is_candidate}
 use Rattle.walk.specs.Walk.{first_up, fixed_block}
 use Rattle.walk.proofs.Loads.{few-blocks}
 use Rattle.older.specs.Claims.{FlagForEach, RowsSay, ZerosElsewhere, numbers_from, entry_numbers, first_of, TableNumbers, FirstInOrder}

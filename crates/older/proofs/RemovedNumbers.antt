@@ -93,14 +93,16 @@ in-from p k (s ∷ bs) (suc j) = go (p s) (ap (λ (n : ℕ). is_in n (numbers_fr
     go true ih = rw (ne_eqb k (k + suc j) (λ z. omega arith)) ih
     go false ih = ih
 
-placed-rest : (row at : ℕ) (bs : List (List ℕ)) (k : ℕ) (d : PlacedBlock) → d.rest ≡ [] → (get_or (placed row at bs) k d).rest ≡ get_or bs k []
+placed-rest : (row at : ℕ) (bs : List (List ℕ)) (k : ℕ) (d : PlacedBlock) → d.rest ≡ [] → (get_or (placed row at bs) k d).rest
+    ≡ get_or bs k []
 unfolding placed
 placed-rest row at [] k d e = e
 placed-rest row at (s ∷ bs) zero d e = refl
 placed-rest row at (s ∷ bs) (suc k) d e = placed-rest row (at + size_of row s) bs k d e
 
 removed-listed : (row older newest : ℕ) (bs : List (List ℕ)) (k : ℕ)
-    → block_is (is_removed row older newest) bs k ≡ (not (is_known older (kind_of row (get_or bs k []))) && block_is (is_listed row newest) bs k)
+    → block_is (is_removed row older newest) bs k
+    ≡ (not (is_known older (kind_of row (get_or bs k []))) && block_is (is_listed row newest) bs k)
 unfolding block_is
 removed-listed row older newest [] k = sym (and-false (not (is_known older (kind_of row []))))
 removed-listed row older newest (s ∷ bs) zero = and-swap (is_listed row newest s) (not (is_known older (kind_of row s)))

@@ -124,7 +124,8 @@ module _ (image : List ℕ) (a : Arguments) (older : ℕ) (h : older < newest_le
   no-clash : (clash_cause (row_for a) newest_level bs).met ≡ false
   unfolding leaf_causes whole_causes clash_cause first_met pick
   no-clash = go (clash_cause (row_for a) newest_level bs).met refl
-      (sym (after-accepted (block_causes first (row_for a) newest_level bs) _ (blocks-numbered first (row_for a) newest_level bs) blocks-fine)
+      (sym (after-accepted (block_causes first (row_for a) newest_level bs) _ (blocks-numbered first (row_for a) newest_level bs)
+      blocks-fine)
       ∙ leaf-31)
     where
       go : (t : Bool) → (clash_cause (row_for a) newest_level bs).met ≡ t

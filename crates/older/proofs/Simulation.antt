@@ -15,14 +15,15 @@ use Rattle.walk.specs.declared.Walk.{Walk}
 use Rattle.walk.specs.declared.Choice.{Choice}
 use Rattle.walk.specs.declared.Way.{Way}
 use Rattle.walk.specs.declared.Way.TheVariants.{EveryLook, Once, Fixed}
-use Rattle.walk.specs.Walk.{way_of, is_fixed, is_up, fresh_walk, last_below, stays, is_candidate, first_up, up_in, choice, sensed, fixed_block}
+use Rattle.walk.specs.Walk.{way_of, is_fixed, is_up, fresh_walk, last_below, stays, is_candidate, first_up, up_in, choice}
+use Rattle.walk.specs.Walk.{sensed, fixed_block}
 use Rattle.walk.specs.Walk.{chosen, stepped, look_causes, walked_to, load_for, look_for, clear_for}
 use Rattle.walk.proofs.Loads.{load-loaded}
 use Rattle.walk.proofs.Looks.{SameLeaf, look-keeps}
 use Rattle.walk.proofs.Fixed.{fixed-chosen, sensed-chosen}
-use Rattle.older.specs.Calls.{Call, load, look, clear, call, Seen, fresh, loaded, seen, after, run, Each, DownAt, QuietAt}
+use Rattle.older.specs.Calls.{Call, load, look, clear, call, Seen, fresh, loaded, seen, After, after, run, Each, DownAt, QuietAt}
 use Rattle.older.specs.Alike.{Alike, DefaultKept, Kept, SameState, StandAlike}
-use Rattle.older.specs.Claims.{SeenTells, OneLook}
+use Rattle.older.specs.Claims.{SeenTells, AfterTells, OneLook}
 
 -- ## Searches
 
@@ -219,6 +220,10 @@ seen-tells v w a b e =
     rw (a, b) at e in
     (ap settled_in f, ap selected_in f, ap looks_in f, ap switches_in f)
 
+pub after-tells : AfterTells
+unfolding after
+after-tells p q e = (ap (λ (x : After). x.number) e, ap (λ (x : After). x.walk) e)
+
 -- ## Lists of calls
 
 -- both fresh, or loaded and standing alike, under a type of the way
@@ -281,7 +286,9 @@ module _ (way : Way) (removed : ℕ → Bool) (nowhere : removed none ≡ false)
       → run image newest v cs ≡ run image older w cs
   unfolding run after
   run-same p [] h = refl
-  run-same p (c ∷ cs) h = let t = step c p h.0 in rw (t.0, seen_same t.1, run-same t.1 cs h.1)
+  run-same {v = v} {w = w} p (c ∷ cs) h =
+      let t = step c p h.0 in
+      rw (t.0, seen_same t.1, run-same {v = (call image newest v c).walk} {w = (call image older w c).walk} t.1 cs h.1)
 
   pub runs-agree : (cs : List Call) → Each (QuietAt way removed) image newest fresh_walk cs
       → run image newest fresh_walk cs ≡ run image older fresh_walk cs

@@ -18,7 +18,8 @@ use Rattle.leaf.specs.Leaf.{first_from}
 use Rattle.reader.specs.Reading.{blocks_for, accepted_answer}
 use Rattle.walk.specs.declared.Walk.{Walk}
 use Rattle.rom.specs.Geometry.{none}
-use Rattle.walk.specs.Walk.{way_of, is_fixed, no_flags, flags, flag_at, is_fixed_medium, is_up, no_rows, rows_of, fresh_walk, loaded_walk, last_below}
+use Rattle.walk.specs.Walk.{way_of, is_fixed, no_flags, flags, flag_at, is_fixed_medium, is_up, no_rows, rows_of, fresh_walk}
+use Rattle.walk.specs.Walk.{loaded_walk, last_below}
 use Rattle.walk.specs.Walk.{stays, is_candidate, first_up, up_in, choice, sensed, fixed_block, chosen, stepped}
 use Rattle.walk.specs.Walk.{look_causes, load_causes, walked_to, load_for, look_for, clear_for}
 use Rattle.older.specs.FromFresh.{FromFresh, fresh, load, look, clear}

@@ -133,7 +133,8 @@ module _ (image other : List ℕ) (a b : Arguments) (s : SameButCode image other
   unfolding run
   walked v w p [] = refl
   walked v w p (c ∷ calls) =
-      let q = step v w p c in ap₂ (λ (x : After) (xs : List After). x ∷ xs) q.0 (walked _ _ q.1 calls)
+      let q = step v w p c in ap₂ (λ (x : After) (xs : List After). x ∷ xs) q.0
+      (walked (call image a v c).walk (call other b w c).walk q.1 calls)
 
 pub walked-as-taken : WalkedAsTaken
 unfolding fresh_walk

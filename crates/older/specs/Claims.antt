@@ -1,5 +1,6 @@
 -- What is claimed of readings and walks. DEMAND 3 is one statement, `OlderReader`.
-use Rattle.std.specs.Prelude.{ℕ, ◌+◌, ◌≤◌, ◌<◌, ◌≡◌, List, [], ◌∷◌, ◌++◌, map, reverse, Bool, true, false, ◌&&◌, not, ◌⊎◌, eqb, ltb, length, get_or}
+use Rattle.std.specs.Prelude.{ℕ, ◌+◌, ◌≤◌, ◌<◌, ◌≡◌, List, [], ◌∷◌, ◌++◌, map, reverse, Bool, true, false, ◌&&◌, not, ◌⊎◌, eqb, ltb}
+use Rattle.std.specs.Prelude.{length, get_or}
 use Rattle.rom.specs.Geometry.{none, wrong_length, version_at}
 use Rattle.rom.specs.Bytes.{pick, one, byte_at, word_at, is_in, Bytes, keep}
 use Rattle.rom.specs.Refusal.{first_met}
@@ -13,12 +14,14 @@ use Rattle.reader.specs.declared.Answer.{Answer}
 use Rattle.reader.specs.Reading.{blocks_for, table_for, judge_causes, accepted_answer, judge_answer, read_answer, read_kinds, read_offsets}
 use Rattle.reader.specs.Reading.{view_for}
 use Rattle.walk.specs.declared.Walk.{Walk}
+use Rattle.walk.specs.declared.Walked.{Walked}
 use Rattle.walk.specs.declared.Way.{Way}
 use Rattle.walk.specs.declared.Way.TheVariants.{EveryLook, Once, Fixed}
-use Rattle.walk.specs.Walk.{way_of, is_fixed, row_length, no_flags, block_is, flag_at, is_invalid, is_fixed_medium, is_up, fresh_walk, loaded_walk}
+use Rattle.walk.specs.Walk.{way_of, is_fixed, row_length, no_flags, block_is, flag_at, is_invalid, is_fixed_medium, is_up}
+use Rattle.walk.specs.Walk.{fresh_walk, loaded_walk}
 use Rattle.walk.specs.Walk.{first_up, fixed_block, look_for}
 use Rattle.older.specs.Levels.{is_kept, only_newest, is_removed, removed_block}
-use Rattle.older.specs.Calls.{Call, look, Each, Down, QuietAt, RefusedAt, seen, run}
+use Rattle.older.specs.Calls.{Call, look, Each, Down, QuietAt, RefusedAt, seen, after, run}
 use Rattle.older.specs.Written.{Arrays, Room, answer_of, TableEntry, as_entry, table_in, removed, kept, numbers_of}
 use Rattle.older.specs.FromFresh.{FromFresh}
 use Rattle.older.specs.Alike.{Kept, StandAlike}
@@ -111,6 +114,10 @@ abbrev pub SeenTells : Type 0
 SeenTells = (v w : Walk) → v.loaded ≡ true → w.loaded ≡ true → seen v ≡ seen w →
     (v.settled ≡ w.settled) × (v.selected ≡ w.selected) × (v.looks ≡ w.looks) × (v.switches ≡ w.switches)
 
+-- and what is compared after a call tells its number and what is seen of the walk
+abbrev pub AfterTells : Type 0
+AfterTells = (p q : Walked) → after p ≡ after q → (p.number ≡ q.number) × (seen p.walk ≡ seen q.walk)
+
 -- ## What it rests on: a leaf at an older level. `bs` are its blocks as they stand, `row` is the chip's
 
 -- what the newest reader accepts an older one accepts
@@ -137,7 +144,8 @@ OlderCounts = (row older newest : ℕ) (bs : List (List ℕ)) → older ≤ newe
 abbrev pub OlderDefault : Type 0
 OlderDefault = (row older newest : ℕ) (bs : List (List ℕ)) → older ≤ newest → count_of (is_default row newest) bs ≤ 1 →
     first_from (is_default row older) 0 bs
-    ≡ pick (is_known older (kind_of row (get_or bs (first_from (is_default row newest) 0 bs) []))) (first_from (is_default row newest) 0 bs) none
+    ≡ pick (is_known older (kind_of row (get_or bs (first_from (is_default row newest) 0 bs) []))) (first_from (is_default row newest) 0 bs)
+    none
 
 -- ## What it rests on: one look at two walks that stand alike
 
@@ -235,6 +243,15 @@ StandsOnEntry = (w : Walk) → FromFresh w → (w.selected ≡ none) ⊎ (flag_a
 -- and under a fixed type they have switched once at most
 abbrev pub FixedSwitches : Type 0
 FixedSwitches = (w : Walk) → FromFresh w → is_fixed (way_of w.connection) ≡ true → w.switches ≤ 1
+
+-- the fixed types that name no medium (document 02, request 5)
+abbrev pub nameless : List ℕ
+nameless = 0x0010 ∷ 0x0211 ∷ []
+
+-- and under one of these every look at them, once loaded, is refused with 32
+abbrev pub AlwaysLacking : Type 0
+AlwaysLacking = (w : Walk) → FromFresh w → w.loaded ≡ true → is_in w.connection nameless ≡ true → (report : List ℕ)
+    → (look_for w report).number ≡ 32
 
 -- ## Versions and editions (document 02, request 12)
 

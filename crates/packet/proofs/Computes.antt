@@ -17,5 +17,6 @@ layout-computes = tt
 unfoldable pub magic-computes : Unit {0}
 unfolding layout-computes word_at all_zero word_bytes first_met magic_crc magic_in bad_crc reserved_bytes bad_reserved fields_of block_with
     laid_with with_block
-    magic_block_causes magic_length_cause magic_read_causes magic_read_number no_magic magic_reading magic_write_causes magic_write_number magic_written
+    magic_block_causes magic_length_cause magic_read_causes magic_read_number no_magic magic_reading magic_write_causes magic_write_number
+    magic_written
 magic-computes = tt

@@ -20,7 +20,8 @@ use Rattle.rom.proofs.Lists.{word_of, word_back, zeros-are, bytes_drop, spell, s
 use Rattle.checksum.specs.Crc.{magic_crc}
 use Rattle.checksum.proofs.Eight.{crc8-same}
 use Rattle.packet.specs.declared.Magic.{Magic}
-use Rattle.packet.specs.Block.{place, password_at, command_at, zeros_at, block_crc_at, last_at, magic_in, bad_crc, reserved_bytes, bad_reserved}
+use Rattle.packet.specs.Block.{place, password_at, command_at, zeros_at, block_crc_at, last_at, magic_in, bad_crc}
+use Rattle.packet.specs.Block.{reserved_bytes, bad_reserved}
 use Rattle.packet.specs.Block.{fields_of, block_with, laid_with, with_block}
 use Rattle.packet.specs.Answer.{magic_length_cause, magic_block_causes, magic_read_causes, magic_read_number, magic_reading, magic_written}
 use Rattle.packet.specs.Claims.{SixEach, MagicReturns, MagicImageReturns, BoardStays}
@@ -62,7 +63,8 @@ module _ (size : ℕ) (m : Magic) (w : SixEach m) (image : List ℕ) (long : len
       at : (i j : ℕ) → i ≡ magic_at size + j → byte_at (block_with a m) j ≡ byte_at (block_with b m) j
           → byte_at (laid_with size a m image) i ≡ byte_at (laid_with size b m image) i
       at i j e h =
-          ap (byte_at (laid_with size a m image)) e ∙ in_block a j ∙ h ∙ sym (in_block b j) ∙ ap (byte_at (laid_with size b m image)) (sym e)
+          ap (byte_at (laid_with size a m image)) e ∙ in_block a j ∙ h ∙ sym (in_block b j)
+          ∙ ap (byte_at (laid_with size b m image)) (sym e)
 
 -- ## What is written is read back
 
@@ -175,7 +177,8 @@ module _ (size : ℕ) (image : List ℕ) (bytes : Bytes image) (e : magic_read_n
       let g = sized size in
       let at = magic_at size in
       let b = drop at image in
-      let none = and-true _ _ (sym (zero-last (take 16 (drop (place size zeros_at) image)) (byte_at image (place size last_at))) ∙ reserved) in
+      let none = and-true _ _ (sym (zero-last (take 16 (drop (place size zeros_at) image)) (byte_at image (place size last_at)))
+      ∙ reserved) in
       let sixteen : length (take 16 (drop (place size zeros_at) image)) ≡ 16 = simp (length-take, length-drop) (omega (arith, long)) in
       let thirty_two : length b ≡ 32 = simp length-drop (omega (arith, long)) in
       ap₂ block_with (sym (get_or-drop at image 30 0)) said
@@ -202,7 +205,8 @@ magic-image-returns size image other bytes e same front =
     let again : laid_with size c m other ≡ image
     = ap₂ (λ (a b : List ℕ). a ++ b) front (block-is size image bytes e) ∙ take-append-drop (magic_at size) image in
     sym (changed size m other right)
-    ∙ ap (λ (n : ℕ). laid_with size n m other) (crc-apart size m w other l 0 c ∙ ap (magic_crc size) again ∙ sym (stored size image bytes e))
+    ∙ ap (λ (n : ℕ). laid_with size n m other) (crc-apart size m w other l 0 c ∙ ap (magic_crc size) again
+    ∙ sym (stored size image bytes e))
     ∙ again
 
 -- ## The board stays

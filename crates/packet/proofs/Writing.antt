@@ -3,8 +3,8 @@ use Prim.Native.Nat.{ℕ, ◌+◌}
 use native.Mathlib.Omega.{arith}
 use mathlib.Core.Path.{◌≡◌, sym, ap, ap₂, ◌∙◌}
 use mathlib.Core.Bool.{true, false}
-use mathlib.Core.List.{List, [], ◌∷◌, ◌++◌, map}
-use lib.ListN.{length, take, replicate, length-append, length-take, length-map}
+use mathlib.Core.List.{List, [], ◌∷◌, ◌++◌}
+use lib.ListN.{length, take, replicate, length-append, length-take}
 use Rattle.rom.specs.Geometry.{wrong_length, image_length, magic_at}
 use Rattle.rom.specs.Bytes.{pick}
 use Rattle.rom.specs.Refusal.{first_met}
@@ -20,13 +20,10 @@ use Rattle.packet.specs.Claims.{SixEach}
 
 -- six bytes each, as the type says it
 abbrev pub Six : List ℕ → Type 0
-Six s = length (map (λ (v : ℕ). v) s) ≡ 6
+Six s = length s ≡ 6
 
 pub six-each : (m : Magic) → Six m.password → Six m.address → SixEach m
-six-each m p a = record { password = six m.password p; address = six m.address a }
-  where
-    six : (s : List ℕ) → Six s → length s ≡ 6
-    six s h = sym (length-map s (λ (v : ℕ). v)) ∙ h
+six-each m p a = record { password = p; address = a }
 
 -- ## A block, spelled out
 

@@ -12,7 +12,8 @@ use Rattle.packet.specs.Answer.{magic_read_causes, magic_read_number, magic_read
 abbrev pub ExactMagic : Type 0
 ExactMagic =
     (size : ℕ) (image : List ℕ)
-    → Exact (magic_read_causes size image) (magic_read_number size image) × Exact (magic_write_causes size image) (magic_write_number size image)
+    → Exact (magic_read_causes size image) (magic_read_number size image)
+    × Exact (magic_write_causes size image) (magic_write_number size image)
 
 -- six bytes each, as the type has them
 pub record SixEach (m : Magic) : Type 0 where

@@ -1,8 +1,9 @@
 // The Magic Packet block of an image, as definitions (000, section 4; document 02, request 1).
+#![tactic(auto)]
 
 // What a block says: the SecureON password, the IEEE address that wakes the station, and the Magic command.
 #[repr(C)]
-#[derive(Drop)]
+#[derive(Clone, Copy)]
 pub struct Magic {
     pub password: [u8; 6],
     pub address: [u8; 6],

@@ -1,4 +1,6 @@
 // `card map`: a picture of the ROM, one cell a byte, coloured and labelled by field and block.
+#![tactic(auto)]
+
 ghost use Rattle.std.specs.Prelude.{◌<◌};
 
 use block::{Block, NEWEST_LEVEL};
@@ -7,6 +9,8 @@ use magic::field_at;
 use reader::Arguments;
 use report::words;
 use rom::{Layout, refusal};
+use std::fs::File;
+use std::rt::{Env, Files};
 use survey::Place;
 use text::line::{Line, say};
 use text::slice::byte_at;
@@ -291,7 +295,7 @@ fn cells_of(image: &[u8], arguments: Arguments) -> Cells {
 
 // How a page is laid out, in its own units: the height of a cell; below its top the baselines of its value, of its label and
 // of its row's offset; and where the legend and the lines on blocks that are stepped over begin.
-#[derive(Drop)]
+#[derive(Clone, Copy)]
 struct Page {
     width: u16,
     height: u16,
@@ -564,7 +568,14 @@ fn draw(file: i32, image: &[u8], arguments: Arguments, number: u8) -> bool {
 
 // Draws the picture of an image to the file that a word names. An image of another length than its size, which may have been
 // given, has none.
-pub fn show(image: &[u8], arguments: Arguments, given: bool, place: usize, force: bool) -> u8 {
+pub fn show(
+    rt: &(impl Files<File = File> + Env),
+    image: &[u8],
+    arguments: Arguments,
+    given: bool,
+    place: usize,
+    force: bool,
+) -> u8 {
     let number = reader::judge(image, arguments).number;
     if number != refusal::ACCEPTED {
         report::show_refused(image, arguments, given, number);
@@ -572,13 +583,11 @@ pub fn show(image: &[u8], arguments: Arguments, given: bool, place: usize, force
     if number == refusal::IMAGE_LENGTH {
         return status::REFUSED;
     }
-    let picture = output::begin(place);
-    let file = picture.file;
-    if file < 0 {
+    let Some(picture) = output::begin(rt, place) else {
         return status::USAGE;
-    }
-    let whole = draw(file, image, arguments, number);
-    let done = output::finish(picture, place, whole, force);
+    };
+    let whole = draw(picture.descriptor, image, arguments, number);
+    let done = output::finish(rt, picture, place, whole, force);
     if !done {
         return status::USAGE;
     }

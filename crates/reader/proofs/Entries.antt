@@ -35,7 +35,8 @@ part-at row (p ∷ t) (suc e) d h = part-at row t e d (le_of_suc-le-suc h)
 -- ## Where it lies
 
 -- an entry's part ends where the bytes do, or before
-pub entry-inside : (row level count at : ℕ) (s : List ℕ) (e : ℕ) → first_met (block_causes the_later_version row level (cut row count s)) ≡ 0
+pub entry-inside : (row level count at : ℕ) (s : List ℕ) (e : ℕ) → first_met (block_causes the_later_version row level (cut row count s))
+    ≡ 0
     → (entry_part row (table_of row level count at s) e).start + (entry_part row (table_of row level count at s) e).length ≤ at + length s
 unfolding entry_part
 entry-inside row level count at s e h = go (table_of row level count at s) e (every-lies row level count at s h)
@@ -58,8 +59,10 @@ entry-after row level count at s e h l =
 pub entry-bytes : (row level count at : ℕ) (s : List ℕ) (e : ℕ) (d : PlacedBlock)
     → first_met (block_causes the_later_version row level (cut row count s)) ≡ 0
     → e < length (table_of row level count at s)
-    → take (entry_part row (table_of row level count at s) e).length (drop ((entry_part row (table_of row level count at s) e).start - at) s)
+    → take (entry_part row (table_of row level count at s) e).length
+    (drop ((entry_part row (table_of row level count at s) e).start - at) s)
     ≡ take (size_of row (get_or (table_of row level count at s) e d).rest) (get_or (table_of row level count at s) e d).rest
 entry-bytes row level count at s e d h l =
     let b = (every-at (Lies row at s) (table_of row level count at s) e d l (every-lies row level count at s h)).bytes in
-    rw (part-at row (table_of row level count at s) e d l) (ap (take (size_of row (get_or (table_of row level count at s) e d).rest)) (sym b))
+    rw (part-at row (table_of row level count at s) e d l)
+    (ap (take (size_of row (get_or (table_of row level count at s) e d).rest)) (sym b))

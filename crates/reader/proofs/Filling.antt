@@ -41,16 +41,16 @@ stored-length v (Unknown s) free a = refl
 stored-length v (Refused n) free a = refl
 
 -- the store that `place` makes for a block brings an array from the table of the blocks after it to the table with it
-tabled-more : {row level : ℕ} {b : Block} (f : PlacedBlock → ℕ) (v : ℕ) (p : PlacedBlock) (ps : List PlacedBlock) (free : ℕ) (a : List ℕ)
+tabled-more : {row level : ℕ} (p : PlacedBlock) {b : Block} (f : PlacedBlock → ℕ) (v : ℕ) (ps : List PlacedBlock) (free : ℕ) (a : List ℕ)
     → SeenAs row level p.rest b → number_of b ≡ 0 → (0 < listed_in b → v ≡ f p)
     → free ≡ length (table row level (p ∷ ps)) → free ≤ length a
     → tabled f (table row level ps) (stored v b free a) ≡ tabled f (table row level (p ∷ ps)) a
 unfolding listed_at is_listed pick
-tabled-more f v p ps free a (refused n e h) z w m l = absurd (h z)
-tabled-more {row} {level} f v p ps free a (unknown e g) z w m l = rw table-cons (simp (g, append-nil))
-tabled-more {row} {level} f v p ps free a (a-reset e g' h) z w m l = let g = rw h at g' in rw table-cons (simp (h, g, append-nil))
-tabled-more {row} {level} f v p ps free a (a-power e g' h) z w m l = let g = rw h at g' in rw table-cons (simp (h, g, append-nil))
-tabled-more {row} {level} f v p ps free a (a-medium e g h) z w m l =
+tabled-more p f v ps free a (refused n e h) z w m l = absurd (h z)
+tabled-more {row} {level} p f v ps free a (unknown e g) z w m l = rw table-cons (simp (g, append-nil))
+tabled-more {row} {level} p f v ps free a (a-reset e g' h) z w m l = let g = rw h at g' in rw table-cons (simp (h, g, append-nil))
+tabled-more {row} {level} p f v ps free a (a-power e g' h) z w m l = let g = rw h at g' in rw table-cons (simp (h, g, append-nil))
+tabled-more {row} {level} p f v ps free a (a-medium e g h) z w m l =
     let n : free ≡ length (table row level ps) + 1 = m ∙ table_more p ps (a-medium e g h) refl in
     let o : free - 1 ≡ length (table row level ps) = omega arith in
     rw (o, w (omega arith), table-cons) (simp (g, h.0, h.1) (tabled-set f (table row level ps) p a (omega arith)))
@@ -71,8 +71,8 @@ module _ {row level : ℕ} {whole ps : List PlacedBlock} {p : PlacedBlock} {b : 
 
   filled_more : FilledTable row level whole ps (free - listed_in b) k₀ o₀ (stored (kind_in b) b free k) (stored p.start b free o)
   filled_more = record {
-    kinds = tabled-more (kind_at row) (kind_in b) p ps free k v z (seen-kind v) inv.places inv.room-k ∙ inv.kinds;
-    offsets = tabled-more start_at p.start p ps free o v z (λ l. refl) inv.places inv.room-o ∙ inv.offsets;
+    kinds = tabled-more p (kind_at row) (kind_in b) ps free k v z (seen-kind v) inv.places inv.room-k ∙ inv.kinds;
+    offsets = tabled-more p start_at p.start ps free o v z (λ l. refl) inv.places inv.room-o ∙ inv.offsets;
     places = omega (arith, inv.places, table_more p ps v z);
     room-k = omega (arith, inv.room-k, stored-length (kind_in b) b free k);
     room-o = omega (arith, inv.room-o, stored-length p.start b free o);

@@ -18,7 +18,8 @@ use Rattle.leaf.proofs.Cuts.{leaf-numbered, accepted-blocks}
 use Rattle.leaf.proofs.Sorts.{sorts-add-up}
 use Rattle.reader.specs.declared.Part.{Part}
 use Rattle.reader.specs.Table.{entry_part}
-use Rattle.reader.specs.Reading.{blocks_for, table_for, leaf_causes_for, judge_causes, read_causes, accepted_answer, judge_answer, read_answer}
+use Rattle.reader.specs.Reading.{blocks_for, table_for, leaf_causes_for, judge_causes, read_causes, accepted_answer}
+use Rattle.reader.specs.Reading.{judge_answer, read_answer}
 use Rattle.reader.specs.Reading.{part_for, view_for}
 use Rattle.reader.specs.Claims.{ExactReading, CountsAddUp, ViewIsBlock}
 use Rattle.reader.proofs.Entries.{entry-inside, entry-bytes, entry-after}

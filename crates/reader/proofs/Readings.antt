@@ -136,7 +136,8 @@ module _ (n : ℕ) (image : List ℕ) (a : Arguments) (r : Reading) (er : r ≡ 
   reading-answer = rw er (go n)
     where
       go : (n : ℕ)
-          → (pick (eqb n 0) (accepted_reading image a) (refused_reading n)).answer ≡ pick (eqb n 0) (accepted_answer image a) (refused_answer n)
+          → (pick (eqb n 0) (accepted_reading image a) (refused_reading n)).answer
+          ≡ pick (eqb n 0) (accepted_answer image a) (refused_answer n)
       go zero = refl
       go (suc n) = rw (eqb-suc-zero n)
 
@@ -174,7 +175,8 @@ module _ {image : List ℕ} {a : Arguments} {r : Reading} (c : Accepted image a 
   unfolding accepted_reading accepted_answer
   reading-listed =
       rw c.known
-      (sym (listed-length (row_for a) a.level (count_for image a) (start_for image a) (up_to_leaves_end a.layout image (start_for image a))))
+      (sym (listed-length (row_for a) a.level (count_for image a) (start_for image a)
+      (up_to_leaves_end a.layout image (start_for image a))))
 
   pub reading-few : r.answer.listed ≤ count_for image a
   unfolding accepted_reading accepted_answer

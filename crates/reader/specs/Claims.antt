@@ -16,7 +16,8 @@ ExactReading = (image : List ℕ) (a : Arguments) →
 -- listed, resets, skipped and power, each counted by its own rule, make up the block count
 abbrev pub CountsAddUp : Type 0
 CountsAddUp = (image : List ℕ) (a : Arguments) →
-    (accepted_answer image a).listed + (accepted_answer image a).resets + (accepted_answer image a).skipped + (accepted_answer image a).power
+    (accepted_answer image a).listed + (accepted_answer image a).resets + (accepted_answer image a).skipped
+    + (accepted_answer image a).power
     ≡ (accepted_answer image a).blocks
 
 abbrev pub entry_at : List ℕ → Arguments → ℕ → PlacedBlock

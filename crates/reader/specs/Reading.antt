@@ -1,6 +1,6 @@
 -- What is read of a controller's leaf with a chip, a controller and a level (document 01, 'Levels and the table', 'Why a call
 -- is refused'; document 02, request 3).
-use Rattle.std.specs.Prelude.{ℕ, ◌+◌, List, ◌∷◌, ◌++◌, ◌||◌, eqb, ltb, length, take, drop}
+use Rattle.std.specs.Prelude.{ℕ, List, ◌∷◌, ◌++◌, ◌||◌, eqb, ltb, length, take, drop}
 use Rattle.rom.specs.Bytes.{pick, word_at}
 use Rattle.rom.specs.Refusal.{Cause, ◌⇒◌, first_met}
 use Rattle.image.specs.declared.Arguments.{Arguments}
@@ -21,7 +21,8 @@ blocks_for image a = cut (row_for a) (count_for image a) (up_to_leaves_end a.lay
 
 -- its media table
 abbrev pub table_for : List ℕ → Arguments → List PlacedBlock
-table_for image a = table_of (row_for a) a.level (count_for image a) (start_for image a) (up_to_leaves_end a.layout image (start_for image a))
+table_for image a = table_of (row_for a) a.level (count_for image a) (start_for image a)
+    (up_to_leaves_end a.layout image (start_for image a))
 
 -- ## Why a reading is refused
 
@@ -86,7 +87,8 @@ unfoldable pub read_into : (PlacedBlock → ℕ) → ℕ → List ℕ → Argume
 read_into f n image a array = pick (eqb n 0) (tabled f (table_for image a) array) array
 
 unfoldable pub read_kinds : List ℕ → Arguments → List ℕ → List ℕ → List ℕ
-read_kinds image a kinds offsets = read_into (kind_at (row_for a)) (first_met (read_causes image a (length kinds) (length offsets))) image a kinds
+read_kinds image a kinds offsets = read_into (kind_at (row_for a)) (first_met (read_causes image a (length kinds) (length offsets))) image a
+    kinds
 
 unfoldable pub read_offsets : List ℕ → Arguments → List ℕ → List ℕ → List ℕ
 read_offsets image a kinds offsets = read_into start_at (first_met (read_causes image a (length kinds) (length offsets))) image a offsets

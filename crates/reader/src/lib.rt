@@ -1,4 +1,6 @@
 // Reading an image: its media table, and the block of an entry (document 01, 'Levels and the table').
+#![tactic(auto)]
+
 mod table;
 
 ghost use Rattle.std.specs.Prelude.{◌≡◌, ◌+◌, length};
@@ -13,7 +15,7 @@ use rom::refusal;
 
 // What is read, or a refusal's number and zeros. The default's number is `rom::NONE` where there is none.
 #[repr(C)]
-#[derive(Drop)]
+#[derive(Clone, Copy)]
 pub struct Answer {
     pub number: u8,
     pub connection: u16,
@@ -29,14 +31,14 @@ pub struct Answer {
 
 // A part of the image: where it starts, and how many bytes it has.
 #[repr(C)]
-#[derive(Drop)]
+#[derive(Clone, Copy)]
 pub struct Part {
     pub start: usize,
     pub length: usize,
 }
 
 // An answer, with the chip's row and where the leaf's blocks start; both are 0 on a refusal.
-#[derive(Drop)]
+#[derive(Clone, Copy)]
 pub struct Reading {
     pub answer: Answer,
     pub row: usize,

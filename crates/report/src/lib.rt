@@ -1,4 +1,6 @@
 // Why a reading is refused, and where.
+#![tactic(auto)]
+
 pub mod size;
 pub mod words;
 
@@ -12,13 +14,12 @@ ghost use Rattle.report.specs.Layouts.{is_accepted_otherwise, is_accepted_by_len
 ghost use Rattle.report.specs.Words.{three_bytes, address_words, six_words, size_words, edition_words, arguments_words, place_words};
 
 use block::{Block, chip};
-use libc::STDOUT_FILENO;
 use magic::Magic;
 use reader::Arguments;
 use rom::{Layout, refusal};
 use survey::Place;
 use text::line;
-use text::line::{Line, say};
+use text::line::{Line, STDOUT, say};
 use text::slice::{byte_at, from, part, word_at};
 
 // ## Parts of an image
@@ -565,8 +566,8 @@ fn show_where(image: &[u8], arguments: Arguments, number: u8) {
 
 // A refusal in words, without its place.
 pub fn show_refusal(number: u8) {
-    line::of(b"REFUSED #: ", [number as u64, 0, 0, 0]).show(STDOUT_FILENO);
-    words::show_refusal(number, STDOUT_FILENO);
+    line::of(b"REFUSED #: ", [number as u64, 0, 0, 0]).show(STDOUT);
+    words::show_refusal(number, STDOUT);
     say(b"");
 }
 

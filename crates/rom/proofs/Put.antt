@@ -6,9 +6,9 @@ use native.Mathlib.Omega.{arith}
 use native.Mathlib.Nat.{add-zero}
 use native.Mathlib.Numerals.{add-one}
 use lib.ListN.{length, take, drop, set, length-append, length-take, length-drop, take-append-drop, drop_of_length-le}
-use lib.Seq.{length-take-le, take_at, drop_at, take_all, take-take, take-append-le, take-append-add, drop-append-add, drop-drop, sets-eq}
+use lib.Seq.{length-take-le, take_at, drop_at, take-take, take-append-le, take-append-add, drop-append-add, drop-drop, sets-eq}
 use borrow.Author.Tests.{le-leb, lt-leb}
-use borrow.Rule.Slice.PartMut.{put_mid, mid_of}
+use borrow.Rule.Slice.PartMut.{put_mid}
 use Rattle.rom.specs.Store.{word_bytes, put, laid}
 use Rattle.rom.proofs.Truth.{pick_true, pick-false}
 
@@ -61,20 +61,13 @@ put_two xs at a b h =
     ap (λ (n : ℕ). set (set xs at a) n b) (add-one at) ∙ sets-eq (a ∷ b ∷ []) xs at h ∙ append_assoc (take at xs) (a ∷ b ∷ []) _
 
 -- a whole copy into the part of its length
-pub put-part : (xs : List ℕ) (at : ℕ) (ys zs : List ℕ) → zs ≡ take (length ys) ys ++ drop (length ys) (mid_of at (at + length ys - at) xs)
-    → put_mid at (at + length ys - at) xs zs ≡ put xs at ys
+pub put-part : (xs : List ℕ) (at : ℕ) (ys zs : List ℕ) → zs ≡ ys → put_mid at (at + length ys - at) xs zs ≡ put xs at ys
 unfolding put
 put-part xs at ys zs is =
-    let z : zs ≡ ys
-    = is ∙ ap₂ (λ (a b : List ℕ). a ++ b) (take_all (length ys) ys (omega arith))
-    (drop_of_length-le (mid_of at (at + length ys - at) xs) {i = length ys} short) ∙ append-nil ys in
-    ap₂ (λ (a b : List ℕ). take at xs ++ (a ++ b)) z (drop-drop (at + length ys - at) at xs ∙ ap (λ (n : ℕ). drop (at + n) xs) long)
+    ap₂ (λ (a b : List ℕ). take at xs ++ (a ++ b)) is (drop-drop (at + length ys - at) at xs ∙ ap (λ (n : ℕ). drop (at + n) xs) long)
   where
     long : at + length ys - at ≡ length ys
     long = omega arith
-
-    short : length (mid_of at (at + length ys - at) xs) ≤ length ys
-    short = simp length-take (omega arith)
 
 -- as many bytes as there are
 pub put_whole : (xs ys : List ℕ) → length ys ≡ length xs → put xs 0 ys ≡ ys

@@ -1,4 +1,6 @@
 // The serial ROM as every layer names it: its geometry, its bytes and words, and the refusal numbers.
+#![tactic(auto)]
+
 pub mod refusal;
 pub mod store;
 
@@ -11,7 +13,7 @@ ghost use Rattle.rom.specs.Bytes.{byte_at, word_at, all_zero};
 
 // How an image is laid out: its size in bytes, and whether a Magic Packet block stands in its last bytes. The caller says so.
 #[repr(C)]
-#[derive(Drop)]
+#[derive(Clone, Copy)]
 pub struct Layout {
     pub size: u16,
     pub magic: bool,
@@ -133,11 +135,11 @@ pub const NONE: u8 = 255;
 // ## Bytes and words
 
 // A byte's offset in the bytes at hand.
-#[derive(Drop)]
+#[derive(Clone, Copy)]
 pub struct ByteOffset(pub usize);
 
 // A 16-bit word's number: word w covers bytes 2w and 2w+1.
-#[derive(Drop)]
+#[derive(Clone, Copy)]
 pub struct WordNumber(pub u16);
 
 impl WordNumber {

@@ -24,7 +24,7 @@ pub fn put_bytes(out: &mut [u8], at: ByteOffset, source: &[u8])
         return;
     }
     let end = start + source.len();
-    bytes::copy(source, &mut out[start..end]);
+    out[start..end].copy_from_slice(source);
 }
 
 // Low byte first.

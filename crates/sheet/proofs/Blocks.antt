@@ -119,8 +119,8 @@ pub record CutAs (row : ℕ) (s : List ℕ) (e : Entry) : Type 0 where
   pub kind : kind_of row s ≡ e.kind
   pub body : body_of row s ≡ e.body
 
-first_of : (b r : List ℕ) → 0 < length b → byte_at (b ++ r) 0 ≡ byte_at b 0
-first_of b r h = get_or-append b r 0 0 h
+first_of_lem : (b r : List ℕ) → 0 < length b → byte_at (b ++ r) 0 ≡ byte_at b 0
+first_of_lem b r h = get_or-append b r 0 0 h
 
 -- a form without an opening: the body is the whole block
 cut-whole : (row : ℕ) (e : Entry) (r : List ℕ) (size : ℕ) → BlockForm row (e.body ++ r) false e.kind size → opening_of e ≡ []
@@ -143,12 +143,12 @@ sia-some n = go (bit 6 n)
 
 pub cut-one : (row : ℕ) (e : Entry) (r : List ℕ) → Good row e → CutAs row (encode e ++ r) e
 cut-one row e r (good-compact k c l b) =
-    let x = first_of e.body r (omega arith) in
+    let x = first_of_lem e.body r (omega arith) in
     let f = compact-form row (e.body ++ r) c (omega (arith, x)) in
     cut-whole row e r 4 (rw k f) (opening-compact e k) (sym l)
 cut-one row e r (good-21041 k c l) =
     let some = sia-some (byte_at e.body 0) in
-    let x = first_of e.body r (omega arith) in
+    let x = first_of_lem e.body r (omega arith) in
     let f = form-of-21041 row (e.body ++ r) c in
     cut-whole row e r _ (rw k f) (opening-21041 e k) (ap sia_size x ∙ sym l)
 cut-one row e r (good-extended k c l) =

@@ -1,6 +1,6 @@
 -- The image of a record means that record and is tidy, and a tidy accepted image is the image of what it means: fronts are
 -- spelled out, the rest is read from byte 30 on. Assumes nothing.
-use Prim.Native.Nat.{ℕ, zero, ◌+◌, ◌*◌, ◌-◌, ◌/◌, ◌%◌, ◌≤◌, ◌<◌}
+use Prim.Native.Nat.{ℕ, ◌+◌, ◌*◌, ◌-◌, ◌/◌, ◌%◌, ◌≤◌, ◌<◌}
 use mathlib.Core.Path.{◌≡◌, refl, sym, ap, ap₂, ◌∙◌}
 use mathlib.Core.Bool.{Bool, true, false, ◌&&◌, ◌||◌, not}
 use mathlib.Core.List.{List, [], ◌∷◌, ◌++◌, map, append_assoc}
@@ -105,7 +105,8 @@ module _ (l : Layout) (chip : ℕ) (s : List ℕ) (leaf : word_at s 27 ≡ leaf_
   connection-is : word_at s (leaf_for s (newest l chip)) ≡ word_at (drop leaf_start s) 0
   connection-is = ap (word_at s) leaf-is ∙ word-behind s
 
-  control-is : control_byte s (row_of chip) (leaf_for s (newest l chip)) ≡ pick (eqb (row_of chip) row21140) (byte_at (drop leaf_start s) 2) 0
+  control-is : control_byte s (row_of chip) (leaf_for s (newest l chip))
+      ≡ pick (eqb (row_of chip) row21140) (byte_at (drop leaf_start s) 2) 0
   unfolding control_byte
   control-is =
       ap (λ (n : ℕ). pick (eqb (row_of chip) row21140) (byte_at s (n + 2)) 0) leaf-is
@@ -290,7 +291,8 @@ module _ (l : Layout) (p : Plain) (out : List ℕ) (z : SizedFields p) (fits : l
         = ap (up_to_leaves_end l (image_of l p out)) end ∙ up_to l p.chip (image_of l p out) f.leaf (length (leaf_of p))
         ∙ ap (λ (x : List ℕ). take (leaf_room l - length (leaf_of p)) (drop (length (leaf_of p)) x)) behind
         ∙ ap (take (leaf_room l - length (leaf_of p))) (drop_at (leaf_of p) _ _ refl)
-        ∙ take_at (gap l p) (behind_leaves l p out) (leaf_room l - length (leaf_of p)) (length-replicate (leaf_room l - length (leaf_of p)) 0) in
+        ∙ take_at (gap l p) (behind_leaves l p out) (leaf_room l - length (leaf_of p))
+        (length-replicate (leaf_room l - length (leaf_of p)) 0) in
         let one = eq-eqb (byte_at (image_of l p out) 19) 1 f.count in
         let at = eq-eqb (leaf_at (image_of l p out) 0) leaf_start (leaf-at l p.chip (image_of l p out) f.leaf) in
         rw (none, zeros-all (leaf_room l - length (leaf_of p))) (simp (one, at))
@@ -442,12 +444,14 @@ module _ (l : Layout) (chip : ℕ) (s : List ℕ) (by : Bytes s) (a : AcceptedIm
   means-head : leaf_head_of (image_from l chip s) ≡ take (header_length (row_of chip)) (drop leaf_start s)
   unfolding leaf_head_of control_bytes
   means-head =
-      (λ i. word_bytes (means-connection i) ++ (pick (eqb (row_of (means-chip i)) row21140) (means-control i ∷ []) [] ++ means-count i ∷ []))
+      (λ i. word_bytes (means-connection i)
+      ++ (pick (eqb (row_of (means-chip i)) row21140) (means-control i ∷ []) [] ++ means-count i ∷ []))
       ∙ spell-head (row_of chip) (drop leaf_start s) (bytes_drop leaf_start s by 0) (omega (arith, behind-length))
 
   means-leaf : leaf_of (image_from l chip s) ≡ take (header_length (row_of chip) + used) (drop leaf_start s)
   unfolding leaf_of
-  means-leaf = ap₂ (λ (x y : List ℕ). x ++ y) means-head means-encodes ∙ sym (take-add (header_length (row_of chip)) used (drop leaf_start s))
+  means-leaf = ap₂ (λ (x y : List ℕ). x ++ y) means-head means-encodes
+      ∙ sym (take-add (header_length (row_of chip)) used (drop leaf_start s))
 
   means-length : length (leaf_of (image_from l chip s)) ≡ header_length (row_of chip) + used
   means-length = ap length means-leaf ∙ length-take-le _ _ (omega (arith, used-fits, behind-length))

@@ -122,7 +122,8 @@ too-large-exactly = (
   λ l edition s out room is. (
     λ many. (
       ((writer-order Wide l edition s out).1 is).0 (lt-ltb 255 (count_in Wide s) many),
-      ((converter-order Wide s room).1 is).0 (first (ltb 255 (count_in Wide s)) (ltb 255 (total_in Wide s)) (lt-ltb 255 (count_in Wide s) many)),
+      ((converter-order Wide s room).1 is).0
+          (first (ltb 255 (count_in Wide s)) (ltb 255 (total_in Wide s)) (lt-ltb 255 (count_in Wide s) many)),
     ),
     λ few. (
       write-other Wide l edition s out (le-ltb 255 (count_in Wide s) few),

@@ -1,8 +1,9 @@
 // The two forms of a sheet and where things stand in it (document 01, 'The sheet'; document 02, request 7), for the writer, the
 // sheet maker and the converters.
+#![tactic(auto)]
 
 // How a sheet states its block count and its total of body bytes: as bytes, or as words.
-#[derive(Drop)]
+#[derive(Clone, Copy)]
 pub enum Form {
     Narrow,
     Wide,

@@ -3,10 +3,12 @@
 // size, the length of the buffer for a sheet and the chip; then bytes, the form (1 wide, 0 narrow), the call (1 converted, 0
 // written), the layout (1 with a Magic Packet block, 0 without), whether the output has the larger size (1) or the smaller (0),
 // the edition (1 for 1.00, 0 for 1.01), and the block that the output holds before; then the sheet's bytes.
-use libc::{STDIN_FILENO, STDOUT_FILENO};
+#![tactic(auto)]
+
 use rom::store::put_bytes;
 use rom::{ByteOffset, Layout};
 use sheet::{Form, Made};
+use text::line::{STDIN, STDOUT};
 use text::slice::part;
 
 // The bytes of a record before the block.
@@ -28,14 +30,14 @@ struct Record {
 }
 
 fn print_refusal(number: u8) {
-    io::write_all(STDOUT_FILENO, b"refused ");
-    io::print_decimal(STDOUT_FILENO, number as u64);
-    io::write_all(STDOUT_FILENO, b"\n");
+    io::write_all(STDOUT, b"refused ");
+    io::print_decimal(STDOUT, number as u64);
+    io::write_all(STDOUT, b"\n");
 }
 
 fn print_line(bytes: &[u8]) {
     vectors::print_bytes(bytes);
-    io::write_all(STDOUT_FILENO, b"\n");
+    io::write_all(STDOUT, b"\n");
 }
 
 fn print_front(bytes: &[u8], length: usize) {
@@ -137,7 +139,7 @@ fn record_of(head: &[u8]) -> Record {
 // One record; false at the end of the input.
 fn next_record() -> bool {
     let mut head = [0u8; HEAD];
-    let got = io::read_full(STDIN_FILENO, &mut head);
+    let got = io::read_full(STDIN, &mut head);
     if got < HEAD {
         return false;
     }

@@ -1,4 +1,6 @@
 // The C interface: every call that a driver links, under a name that begins `srom_`.
+#![tactic(auto)]
+
 ghost use Rattle.std.specs.Prelude.{◌≡◌, length};
 ghost use Rattle.checksum.specs.Answer.{srom_answer, id_answer, magic_answer};
 ghost use Rattle.packet.specs.Answer.{magic_reading, magic_write_number, magic_written};

@@ -26,7 +26,8 @@ module _ (first : Bool) (row level : ℕ) (s : List ℕ) (bs : List (List ℕ)) 
   unfolding block_causes refusal_in
   by_first n = after-refused (causes first row level s) _ _ n refl
 
-  by-others : refusal_in first row level s ≡ 0 → first_met (block_causes first row level (s ∷ bs)) ≡ first_met (block_causes first row level bs)
+  by-others : refusal_in first row level s ≡ 0 → first_met (block_causes first row level (s ∷ bs))
+      ≡ first_met (block_causes first row level bs)
   unfolding block_causes refusal_in
   by-others = after-accepted (causes first row level s) _ (causes-numbered first row level s)
 

@@ -13,4 +13,5 @@ use Rattle.survey.specs.Survey.{refused_for, standing_for}
 abbrev pub NamesTheBlock : Type 0
 NamesTheBlock = (image : List ℕ) (a : Arguments) → first_met (header_causes image a) ≡ 0
     → (first_met (block_causes (is_first_version image) (row_for a) a.level (blocks_for image a)) ≡ 0 → ⊥)
-    → (judge_answer image a).number ≡ refusal_in (is_first_version image) (row_for a) a.level (standing_for image a (refused_for image a)).rest
+    → (judge_answer image a).number ≡ refusal_in (is_first_version image) (row_for a) a.level
+    (standing_for image a (refused_for image a)).rest

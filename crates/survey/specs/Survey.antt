@@ -39,4 +39,5 @@ is_refused first row level s = not (eqb (refusal_in first row level s) 0)
 
 -- the first one's number, none where none is
 unfoldable pub refused_for : List ℕ → Arguments → ℕ
-refused_for image a = pick (has_leaf image a) (first_from (is_refused (is_first_version image) (row_for a) a.level) 0 (blocks_for image a)) none
+refused_for image a = pick (has_leaf image a) (first_from (is_refused (is_first_version image) (row_for a) a.level) 0 (blocks_for image a))
+    none

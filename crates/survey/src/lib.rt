@@ -1,5 +1,7 @@
 // The blocks of a controller's leaf one by one, by their numbers, whether the reading is accepted or not: where each
 // stands, and which one a refusal names.
+#![tactic(auto)]
+
 ghost use Rattle.std.specs.Prelude.{◌≡◌, ◌<◌, drop};
 ghost use Rattle.leaf.specs.Leaf.{cut, first_from, place_by_stepping};
 ghost use Rattle.survey.specs.Survey.{no_place, place_at, place_for, is_refused, refused_for};
@@ -9,7 +11,7 @@ use reader::Arguments;
 use rom::{NONE, refusal};
 
 // A block's byte offset in the image, how many bytes its size says that it has, and its kind; zeros where there is none.
-#[derive(Drop)]
+#[derive(Clone, Copy)]
 pub struct Place {
     pub start: u16,
     pub size: u16,

@@ -132,7 +132,8 @@ default-more old k n w d h e = go (eqb old none) d refl e
 -- What the loop of `judge` keeps: k blocks are passed, with the tally t of them.
 pub record Tallied (first : Bool) (row level : ℕ) (whole bs : List (List ℕ)) (k : ℕ) (t : Tally) : Type 0 where
   pub number : t.number ≡ 0
-  pub first-met : first_met (block_causes first row level bs ++ whole_causes row level whole) ≡ first_met (leaf_causes first row level whole)
+  pub first-met : first_met (block_causes first row level bs ++ whole_causes row level whole)
+      ≡ first_met (leaf_causes first row level whole)
   pub listed : t.listed + count_of (is_listed row level) bs ≡ count_of (is_listed row level) whole
   pub resets : t.resets + count_of (is_reset row level) bs ≡ count_of (is_reset row level) whole
   pub skipped : t.skipped + count_of (is_skipped row level) bs ≡ count_of (is_skipped row level) whole

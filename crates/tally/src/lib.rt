@@ -1,4 +1,6 @@
 // The blocks of a leaf, judged one after another (document 01, 'Leaf and blocks'; document 02, requests 3 and 12).
+#![tactic(auto)]
+
 ghost use Rattle.std.specs.Prelude.{◌≡◌, ◌≤◌, ◌<◌};
 ghost use Rattle.rom.specs.Bytes.{one};
 ghost use Rattle.leaf.specs.Leaf.{cut, clash};

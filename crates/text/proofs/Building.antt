@@ -3,12 +3,12 @@
 use Prim.Native.Nat.{ℕ, suc, ◌+◌, ◌-◌, ◌≤◌, ◌<◌}
 use mathlib.Core.Path.{◌≡◌, refl, sym, ap, ◌∙◌}
 use mathlib.Core.Bool.{Bool, true, false}
-use mathlib.Core.List.{List, [], ◌∷◌, ◌++◌, map, append_assoc, append-nil}
+use mathlib.Core.List.{List, [], ◌∷◌, ◌++◌, append_assoc, append-nil}
 use native.Mathlib.Omega.{arith}
 use native.Mathlib.Numerals.{add-one}
 use lib.Dec.{leb}
 use borrow.Author.Tests.{leb-true, leb-false}
-use lib.ListN.{length, take, drop, get_or, set, replicate, length-take, length-append, length-map, drop_of_length-le}
+use lib.ListN.{length, take, drop, get_or, set, replicate, length-take, length-append, drop_of_length-le}
 use lib.Seq.{take_all, take_at, take-append-le, take-suc-set, drop-cons}
 use Rattle.text.specs.declared.line.Line.{Line}
 use Rattle.text.specs.Tables.{blank}
@@ -46,10 +46,10 @@ fitted-front s t = go (leb (length s) line_room) refl
 
 -- every line has its room, as its type says it
 abbrev pub RoomyLine : Line → Type 0
-RoomyLine l = length (map (λ (v : ℕ). v) l.bytes) ≡ line_room
+RoomyLine l = length l.bytes ≡ line_room
 
 pub line-room : (l : Line) → RoomyLine l → length l.bytes ≡ line_room
-line-room l r = sym (length-map l.bytes (λ (v : ℕ). v)) ∙ r
+line-room l r = r
 
 module _ (l : Line) (byte : ℕ) (r : RoomyLine l) where
   pub byte_full : line_room ≤ l.length → text_of l ≡ fitted (text_of l ++ (byte ∷ []))

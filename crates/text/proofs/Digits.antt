@@ -61,7 +61,8 @@ module _ (s : List ℕ) where
   number_read n h = sym (pick-false _ _ _ (rw (ne_eqb (length s) 0 n, le-ltb 5 (length s) h)))
 
 -- The steps of `number` in its own terms: n is what the first i digits spell, d the value of the next.
-module _ (s : List ℕ) (i n : ℕ) {d whole : ℕ} (h : i < length s) (inv : read_on n (drop i s) ≡ whole) (ed : d ≡ digit_of (get_or s i 0)) where
+module _ (s : List ℕ) (i n : ℕ) {d whole : ℕ} (h : i < length s) (inv : read_on n (drop i s) ≡ whole) (ed : d
+    ≡ digit_of (get_or s i 0)) where
   step : pick (ltb 9 (digit_of (get_or s i 0))) no_number (read_on (10 * n + digit_of (get_or s i 0)) (drop (suc i) s)) ≡ whole
   unfolding read_on
   step = rw (drop-cons s i 0 h) at inv

@@ -12,18 +12,18 @@ use borrow.Author.Tests.{eq-eqb, ne_eqb}
 use Rattle.text.specs.Slices.{same_bytes}
 
 -- a rest has as many bytes as are left
-pub rest_of : (n : ℕ) (s : List ℕ) → take (length s - n) (drop n s) ≡ drop n s
-rest_of n s = take_all (length s - n) (drop n s) (simp length-drop (omega arith))
+pub rest_of_lem : (n : ℕ) (s : List ℕ) → take (length s - n) (drop n s) ≡ drop n s
+rest_of_lem n s = take_all (length s - n) (drop n s) (simp length-drop (omega arith))
 
 -- nothing lies behind the end
 pub part-past : (wanted start : ℕ) (s : List ℕ) → length s ≤ start
     → take (length s - length s) (drop (length s) s) ≡ take wanted (drop start s)
-part-past wanted start s h = rest_of (length s) s ∙ drop-length s ∙ rw (drop_of_length-le s h) (sym (take-nil wanted))
+part-past wanted start s h = rest_of_lem (length s) s ∙ drop-length s ∙ rw (drop_of_length-le s h) (sym (take-nil wanted))
 
 -- fewer are there than are wanted
 pub part-short : (wanted start : ℕ) (s : List ℕ) → length s - start ≤ wanted
     → take (length s - start) (drop start s) ≡ take wanted (drop start s)
-part-short wanted start s h = rest_of start s ∙ sym (take_all wanted (drop start s) (simp length-drop (omega arith)))
+part-short wanted start s h = rest_of_lem start s ∙ sym (take_all wanted (drop start s) (simp length-drop (omega arith)))
 
 -- as many are there
 pub part-whole : (wanted start : ℕ) (s : List ℕ) → take (start + wanted - start) (drop start s) ≡ take wanted (drop start s)

@@ -1,4 +1,6 @@
 // Text: lines, tables of words, and numbers.
+#![tactic(auto)]
+
 pub mod line;
 pub mod slice;
 

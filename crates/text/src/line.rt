@@ -11,6 +11,13 @@ ghost use Rattle.text.specs.Written.{value_in, with_fields};
 use crate::digit;
 use crate::slice::{byte_at, part, word_at};
 
+// The files that are open from the start, by their descriptors.
+pub const STDIN: i32 = 0;
+
+pub const STDOUT: i32 = 1;
+
+pub const STDERR: i32 = 2;
+
 const ROOM: usize = 160;
 
 #[derive(Drop)]
@@ -153,12 +160,12 @@ impl Line {
 
     // To standard output, with its end.
     pub fn print(self) {
-        self.end(libc::STDOUT_FILENO);
+        self.end(STDOUT);
     }
 
     // To standard error, with its end.
     pub fn complain(self) {
-        self.end(libc::STDERR_FILENO);
+        self.end(STDERR);
     }
 }
 

@@ -1,6 +1,7 @@
 // What the test programs read and print alike.
-use libc::{STDIN_FILENO, STDOUT_FILENO};
-use text::line::Line;
+#![tactic(auto)]
+
+use text::line::{Line, STDIN, STDOUT};
 use text::slice::byte_at;
 
 // Fills the front of the room from the input; what it does not hold is left out.
@@ -8,7 +9,7 @@ pub fn read_front(room: &mut [u8], length: usize) {
     if room.len() < length {
         return;
     }
-    io::read_full(STDIN_FILENO, &mut room[..length]);
+    io::read_full(STDIN, &mut room[..length]);
 }
 
 // Bytes in hexadecimal, two digits each, 64 bytes at a time.
@@ -19,9 +20,9 @@ pub fn print_bytes(bytes: &[u8]) {
         line = line.hex(byte_at(bytes, i) as u64, 2);
         i += 1;
         if i % 64 == 0 {
-            line.show(STDOUT_FILENO);
+            line.show(STDOUT);
             line = Line::new();
         }
     }
-    line.show(STDOUT_FILENO);
+    line.show(STDOUT);
 }

@@ -6,7 +6,8 @@ use Rattle.format.specs.Chips.{connection_rows, taken_as}
 use Rattle.image.specs.declared.Arguments.{Arguments}
 use Rattle.reader.specs.Reading.{judge_causes}
 use Rattle.walk.specs.declared.Walk.{Walk}
-use Rattle.walk.specs.Walk.{flags, way_of, is_fixed, rows_of, fixed_block, most_looks, look_causes, load_causes, load_for, look_for, clear_for}
+use Rattle.walk.specs.Walk.{flags, way_of, is_fixed, rows_of, fixed_block, most_looks, look_causes, load_causes, load_for}
+use Rattle.walk.specs.Walk.{look_for, clear_for}
 use Rattle.walk.specs.Cases.{looked, look_cases}
 use Rattle.walk.specs.FixedCases.{looked_at, number_after, unless_missing, fixed_cases, type_of, fixed_tables, fixed_of}
 

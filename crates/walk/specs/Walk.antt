@@ -1,7 +1,8 @@
 -- The autosense walk: its state, and what each call answers (document 01, 'The walk'; document 02, requests 4, 5 and 12). The
 -- state is the code's struct `Walk`. A walk that is passed in may hold anything, so a flag past a row's end is none, and
 -- switches stay at their most.
-use Rattle.std.specs.Prelude.{ℕ, zero, suc, ◌+◌, ◌-◌, ◌%◌, List, [], ◌∷◌, ◌++◌, map, Bool, true, false, ◌||◌, ◌&&◌, not, eqb, ltb, length, replicate}
+use Rattle.std.specs.Prelude.{ℕ, zero, suc, ◌+◌, ◌-◌, ◌%◌, List, [], ◌∷◌, ◌++◌, map, Bool, true, false, ◌||◌, ◌&&◌, not, eqb, ltb}
+use Rattle.std.specs.Prelude.{length, replicate}
 use Rattle.rom.specs.Geometry.{none}
 use Rattle.rom.specs.Bytes.{pick, byte_at, bit, is_in, one, any_below}
 use Rattle.rom.specs.Refusal.{Cause, ◌⇒◌, first_met}

@@ -2,10 +2,12 @@
 // (word), controller, level, stated size (word), layout (1 with a Magic Packet block, 0 without), edition (1 for 1.00, 0 for
 // 1.01), the number of calls, the image and the calls; a call is 0 for a load, 1 for a clear, or 2, a length and a report for a
 // look.
+#![tactic(auto)]
+
 use autosense::{Walk, Walked};
-use libc::{STDIN_FILENO, STDOUT_FILENO};
 use reader::Arguments;
 use rom::{ByteOffset, Layout};
+use text::line::{STDIN, STDOUT};
 use text::slice::part;
 
 const LOAD: u8 = 0;
@@ -16,12 +18,12 @@ const CLEAR: u8 = 1;
 const HEAD: usize = 11;
 
 fn print_number(n: u64) {
-    io::print_decimal(STDOUT_FILENO, n);
+    io::print_decimal(STDOUT, n);
 }
 
 fn print_selected(selected: u8) {
     if selected == rom::NONE {
-        io::write_all(STDOUT_FILENO, b"none");
+        io::write_all(STDOUT, b"none");
     } else {
         print_number(selected as u64);
     }
@@ -29,33 +31,33 @@ fn print_selected(selected: u8) {
 
 fn print_walk(walk: Walk) {
     if !walk.loaded {
-        io::write_all(STDOUT_FILENO, b"fresh");
+        io::write_all(STDOUT, b"fresh");
         return;
     }
     if walk.settled {
-        io::write_all(STDOUT_FILENO, b"settled ");
+        io::write_all(STDOUT, b"settled ");
     } else {
-        io::write_all(STDOUT_FILENO, b"unsettled ");
+        io::write_all(STDOUT, b"unsettled ");
     }
     print_selected(walk.selected);
-    io::write_all(STDOUT_FILENO, b" ");
+    io::write_all(STDOUT, b" ");
     print_number(walk.looks as u64);
-    io::write_all(STDOUT_FILENO, b" ");
+    io::write_all(STDOUT, b" ");
     print_number(walk.switches as u64);
 }
 
 fn print_line(walked: Walked) {
     print_number(walked.number as u64);
-    io::write_all(STDOUT_FILENO, b" ");
+    io::write_all(STDOUT, b" ");
     let walk = walked.walk;
     print_walk(walk);
-    io::write_all(STDOUT_FILENO, b"\n");
+    io::write_all(STDOUT, b"\n");
 }
 
 // The next byte of the input, 0 at its end.
 fn next_byte() -> u8 {
     let mut one = [0u8; 1];
-    io::read_full(STDIN_FILENO, &mut one);
+    io::read_full(STDIN, &mut one);
     one[0]
 }
 
@@ -100,7 +102,7 @@ fn run(image: &[u8], arguments: Arguments, count: u8) {
 // One record; false at the end of the input.
 fn next_record() -> bool {
     let mut head = [0u8; HEAD];
-    let got = io::read_full(STDIN_FILENO, &mut head);
+    let got = io::read_full(STDIN, &mut head);
     if got < HEAD {
         return false;
     }

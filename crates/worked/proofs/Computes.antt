@@ -37,7 +37,8 @@ reading-computes = tt
 
 -- and walks of it
 unfoldable pub walk-computes : Unit {0}
-unfolding reading-computes look-computes rows-compute no_flags block_is no_rows fresh_walk loaded_walk seen after judge_number call_with run_with
+unfolding reading-computes look-computes rows-compute no_flags block_is no_rows fresh_walk loaded_walk seen after judge_number call_with
+    run_with
     arguments_of worked_once order_once
 walk-computes = tt
 

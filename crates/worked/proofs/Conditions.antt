@@ -148,7 +148,8 @@ choice-computes :
     × (seen_at choice_leaf newest_level no_link ≡ after-load ∷ then true 0 1 1 ∷ [])
     × (seen_at choice_leaf 2 no_link ≡ after-load ∷ refused_then 32 false none 0 0 ∷ [])
     × (is_fixed (way_of (accepted_answer (card choice_leaf) (for_level newest_level)).connection) ≡ true)
-    × (block_is (is_listed (row_for for21143) 2) (blocks_for (card choice_leaf) for21143) (newest_choice (card choice_leaf) for21143) ≡ false)
+    × (block_is (is_listed (row_for for21143) 2) (blocks_for (card choice_leaf) for21143) (newest_choice (card choice_leaf) for21143)
+    ≡ false)
     × (removed_block (card choice_leaf) for21143 2 (accepted_answer (card choice_leaf) (for_level newest_level)).default_number ≡ false)
 unfolding walk-computes
 choice-computes = (refl, refl, refl, refl, refl, refl)

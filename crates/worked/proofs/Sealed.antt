@@ -71,7 +71,8 @@ module _ (l : Layout) (board rest : List ℕ) (whole : length board ≡ checked_
   srom-sealed =
       let crc = srom_crc l board in
       let low : byte_at (board ++ crc_and_rest) (checked_length l) ≡ crc % 256 = get_or_at board _ _ 0 _ whole in
-      let high : byte_at (board ++ crc_and_rest) (checked_length l + 1) ≡ crc / 256 = rw (← whole) (get_or-append-add board crc_and_rest 1 0) in
+      let high : byte_at (board ++ crc_and_rest) (checked_length l + 1)
+      ≡ crc / 256 = rw (← whole) (get_or-append-add board crc_and_rest 1 0) in
       rw sealed-is (ap₂ (λ (x y : ℕ). x + 256 * y) low high ∙ word_of crc ∙ sym (srom-front l board crc_and_rest (omega arith)))
 
   pub board-sealed : ((r : List ℕ) → byte_at (board ++ r) id_crc_at ≡ id_crc (board ++ r)) → Sealed l (sealed l board ++ rest)

@@ -1,8 +1,9 @@
 -- Cases a to k of document 01, 'Blocks to prove', as whole images, read and walked, and cards with a power block and under fixed
 -- types. Cases a to j are those of crate `leaf`.
-use Rattle.std.specs.Prelude.{ℕ, zero, suc, ◌+◌, ◌-◌, ◌*◌, ◌/◌, ◌%◌, List, [], ◌∷◌, ◌++◌, map, Bool, true, false, take, drop, replicate, set}
+use Rattle.std.specs.Prelude.{ℕ, zero, suc, ◌+◌, ◌-◌, ◌*◌, ◌/◌, ◌%◌, List, [], ◌∷◌, ◌++◌, map, Bool, true, false, take, drop}
+use Rattle.std.specs.Prelude.{replicate, set}
 use Rattle.rom.specs.declared.Layout.{Layout}
-use Rattle.rom.specs.Geometry.{without_magic, with_magic, image_length, checked_length, controllers_at, none}
+use Rattle.rom.specs.Geometry.{without_magic, with_magic, large, image_length, checked_length, controllers_at, none}
 use Rattle.rom.specs.Bytes.{pick}
 use Rattle.rom.specs.Refusal.{first_met}
 use Rattle.checksum.specs.Crc.{srom_crc, id_crc}
@@ -14,7 +15,7 @@ use Rattle.reader.specs.declared.Answer.{Answer}
 use Rattle.reader.specs.Reading.{judge_causes}
 use Rattle.sheet.specs.Image.{newest}
 use Rattle.walk.specs.Walk.{fresh_walk}
-use Rattle.older.specs.Calls.{Call, load, look, loaded, After, run}
+use Rattle.older.specs.Calls.{Call, load, look, fresh, loaded, After, run}
 use Rattle.older.specs.Written.{Arrays, TableEntry, answer_of, table_in}
 
 -- ## A whole image
@@ -117,6 +118,10 @@ walked l connection seen = record {
 abbrev pub then : Bool → ℕ → ℕ → ℕ → After
 then settled selected looks switches = record { number = 0; walk = loaded settled selected looks switches }
 
+-- refused, and still fresh
+abbrev still_fresh : ℕ → After
+still_fresh number = record { number = number; walk = fresh }
+
 -- k, and under 0x8800 and 0xFFFF
 abbrev case_k : Layout → List ImageCase
 case_k l =
@@ -148,13 +153,76 @@ power_image_cases =
     }
     ∷ []
 
+-- a block of type 2 between two power blocks with a mode in common
+abbrev leaf_repeated : List ℕ
+leaf_repeated =
+    (0x00 ∷ 0x08 ∷ 0x03 ∷ 0x83 ∷ 0x06 ∷ 0x01 ∷ 0x00 ∷ []) ++ (0x86 ∷ 0x02 ∷ 0x00 ∷ 0x01 ∷ 0x00 ∷ 0x02 ∷ 0x00 ∷ [])
+    ++ 0x83 ∷ 0x06 ∷ 0x03 ∷ 0x00 ∷ []
+
+-- loaded, and looked at with a link at block 1
+abbrev link_at_one : leaves.LeafCase → List After → ImageCase
+link_at_one reading seen = record {
+  layout = without_magic;
+  reading = reading;
+  calls = load ∷ look (0 ∷ 1 ∷ 0 ∷ []) ∷ [];
+  seen = seen;
+}
+
+-- refused with 31 at level 7, and read and walked at level 6, and at level 2, where nothing is listed
+unfoldable pub repeated_image_cases : List ImageCase
+repeated_image_cases =
+    link_at_one (leaves.refused 21143 7 leaf_repeated 31) (still_fresh 31 ∷ still_fresh 20 ∷ [])
+    ∷ link_at_one (leaves.accepted 21143 6 leaf_repeated 1 0 2 (2 ∷ []) (37 ∷ [])) (then false none 0 0 ∷ then true 1 1 1 ∷ [])
+    ∷ link_at_one (leaves.accepted 21143 2 leaf_repeated 0 0 3 [] []) (then false none 0 0 ∷ then false none 1 0 ∷ [])
+    ∷ []
+
+-- ## An older level
+
+-- a block of type 2 and one of type 4, under a connection type
+abbrev leaf_newer : ℕ → List ℕ
+leaf_newer connection =
+    connection % 256 ∷ connection / 256 ∷ 0x02 ∷ 0x86 ∷ 0x02 ∷ 0x00 ∷ 0x01 ∷ 0x00 ∷ 0x02 ∷ 0x00
+    ∷ 0x88 ∷ 0x04 ∷ 0x03 ∷ 0x00 ∷ 0x00 ∷ 0x00 ∷ 0x00 ∷ 0x00 ∷ 0x00 ∷ []
+
+-- walked with reports 10 and 00: block 0, and what comes then
+abbrev walked_twice : Layout → leaves.LeafCase → After → ImageCase
+walked_twice l reading last = record {
+  layout = l;
+  reading = reading;
+  calls = load ∷ look (1 ∷ 0 ∷ []) ∷ look (0 ∷ 0 ∷ []) ∷ [];
+  seen = then false none 0 0 ∷ then true 0 1 1 ∷ last ∷ [];
+}
+
+-- at level 7, and at level 4, which does not know type 4: its entry is removed, and the walks are alike
+abbrev both_levels : Layout → ℕ → After → List ImageCase
+both_levels l connection last =
+    walked_twice l (leaves.accepted 21143 7 (leaf_newer connection) 2 0 0 (4 ∷ 2 ∷ []) (40 ∷ 33 ∷ [])) last
+    ∷ walked_twice l (leaves.accepted 21143 4 (leaf_newer connection) 1 0 1 (2 ∷ []) (33 ∷ [])) last
+    ∷ []
+
+-- with an empty connection word, before a Magic Packet block, and of 512 bytes
+unfoldable pub older_cases : List ImageCase
+older_cases =
+    both_levels without_magic 0xFFFF (then true 0 2 1)
+    ++ both_levels with_magic 0x0800 (then true none 2 2)
+    ++ both_levels (large without_magic) 0x0800 (then true none 2 2)
+    ++ both_levels (large with_magic) 0x0800 (then true none 2 2)
+
+-- ## Fixed types
+
 -- refused with a number, and then settled, selected, looks, switches
 abbrev pub refused_then : ℕ → Bool → ℕ → ℕ → ℕ → After
 refused_then number settled selected looks switches = record { number = number; walk = loaded settled selected looks switches }
 
 -- loaded first
 abbrev under_fixed : leaves.LeafCase → List Call → List After → ImageCase
-under_fixed reading calls seen = record { layout = without_magic; reading = reading; calls = load ∷ calls; seen = then false none 0 0 ∷ seen }
+under_fixed reading calls seen = record {
+  layout = without_magic;
+  reading = reading;
+  calls = load ∷ calls;
+  seen = then false none 0 0
+      ∷ seen;
+}
 
 -- 10BaseT in a compact block and in one of type 0
 abbrev leaf_twice : List ℕ

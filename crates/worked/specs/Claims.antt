@@ -30,6 +30,14 @@ MagicImagesWorked = map whole.worked whole.magic_image_cases ≡ whole.magic_ima
 abbrev pub PowerImagesWorked : Type 0
 PowerImagesWorked = map whole.worked whole.power_image_cases ≡ whole.power_image_cases
 
+-- and so is one that is refused with 31 at the newest level and read below it
+abbrev pub RepeatedWorked : Type 0
+RepeatedWorked = map whole.worked whole.repeated_image_cases ≡ whole.repeated_image_cases
+
+-- and so are cards at the newest level and at an older one: with an empty connection word, and in the other layouts
+abbrev pub OlderWorked : Type 0
+OlderWorked = map whole.worked whole.older_cases ≡ whole.older_cases
+
 -- and so are cards under fixed types
 abbrev pub FixedImagesWorked : Type 0
 FixedImagesWorked = map whole.worked whole.fixed_image_cases ≡ whole.fixed_image_cases
@@ -44,7 +52,8 @@ SheetsWorked =
     (map sheets.run_sheet sheets.sheet_cases ≡ sheets.sheet_cases)
     × (map try changes ≡ changes)
     × (map (λ n. write_number Narrow without_magic the_later_edition (long n) all_ones) (91 ∷ 92 ∷ []) ≡ 0 ∷ 26 ∷ [])
-    × (map (λ n. write_number Narrow without_magic the_later_edition (unknown_body n) all_ones) (89 ∷ 90 ∷ 126 ∷ 127 ∷ []) ≡ 0 ∷ 26 ∷ 26 ∷ 25 ∷ [])
+    × (map (λ n. write_number Narrow without_magic the_later_edition (unknown_body n) all_ones) (89 ∷ 90 ∷ 126 ∷ 127 ∷ []) ≡ 0 ∷ 26 ∷ 26
+    ∷ 25 ∷ [])
     × (write_number Narrow without_magic the_later_edition case21143.sheet (0 ∷ all_ones) ≡ 1)
     × (make_length Narrow without_magic the_later_edition case21143.image 21143 57 ≡ 55)
     × (made Narrow without_magic the_later_edition case21143.image 21143 (replicate 57 1) ≡ case21143.sheet ++ 1 ∷ 1 ∷ [])

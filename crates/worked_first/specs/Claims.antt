@@ -20,11 +20,14 @@ VersionsWorked = map in_its_edition version_cards ≡ version_cards
 -- edition, a sheet returns, and in the other its image is refused; a chip that version 1 has not, and a kind
 abbrev pub FirstSheetsWorked : Type 0
 FirstSheetsWorked =
-    (map (λ code. write_number Narrow without_magic the_first_edition (sheet_under code) all_ones) (0x0200 ∷ 0x0204 ∷ 0x0800 ∷ []) ≡ 0 ∷ 11 ∷ 0 ∷ [])
+    (map (λ code. write_number Narrow without_magic the_first_edition (sheet_under code) all_ones) (0x0200 ∷ 0x0204 ∷ 0x0800 ∷ []) ≡ 0 ∷ 11
+    ∷ 0 ∷ [])
     × (map (λ code. write_number Narrow without_magic the_later_edition (sheet_under code) all_ones) (0x0200 ∷ 0x0204 ∷ []) ≡ 11 ∷ 0 ∷ [])
-    × (made Narrow without_magic the_first_edition (written Narrow without_magic the_first_edition (sheet_under 0x0200) all_ones) 21041 (replicate 48 1)
+    × (made Narrow without_magic the_first_edition (written Narrow without_magic the_first_edition (sheet_under 0x0200) all_ones) 21041
+    (replicate 48 1)
     ≡ sheet_under 0x0200)
-    × (make_number Narrow without_magic the_later_edition (written Narrow without_magic the_first_edition (sheet_under 0x0200) all_ones) 21041 48 ≡ 11)
+    × (make_number Narrow without_magic the_later_edition (written Narrow without_magic the_first_edition (sheet_under 0x0200) all_ones)
+    21041 48 ≡ 11)
     × (write_number Narrow without_magic the_first_edition (set case21143.sheet 19 1) all_ones ≡ 38)
     × (write_number Narrow without_magic the_first_edition (set case21140.sheet 19 1) all_ones ≡ 14)
 
@@ -32,5 +35,6 @@ FirstSheetsWorked =
 abbrev pub FirstWideWorked : Type 0
 FirstWideWorked =
     made Wide (large without_magic) the_first_edition
-    (written Wide (large without_magic) the_first_edition (converted Narrow (sheet_under 0x0200)) (replicate large_size 1)) 21041 (replicate 50 1)
+    (written Wide (large without_magic) the_first_edition (converted Narrow (sheet_under 0x0200)) (replicate large_size 1)) 21041
+    (replicate 50 1)
     ≡ converted Narrow (sheet_under 0x0200)

@@ -23,7 +23,8 @@ WideSheetsWorked =
 -- and through images of 512 bytes, without a Magic Packet block and with one
 abbrev pub LargeSheetsWorked : Type 0
 LargeSheetsWorked =
-    (made Wide (large without_magic) the_later_edition (written Wide (large without_magic) the_later_edition wide21143 (replicate large_size 1)) 21143
+    (made Wide (large without_magic) the_later_edition
+    (written Wide (large without_magic) the_later_edition wide21143 (replicate large_size 1)) 21143
     (replicate 57 1) ≡ wide21143)
     × (made Wide (large with_magic) the_later_edition
     (written Wide (large with_magic) the_later_edition wide21143 (whole_card (large with_magic))) 21143 (replicate 57 1) ≡ wide21143)

@@ -15,7 +15,8 @@ use Rattle.sheet.specs.Write.{is_other_family, is_bad_body, is_bad}
 use Rattle.writer.specs.Inside.{entry}
 
 module _ (k : ℕ) (b : List ℕ) where
-  pub bad-21041 : (first size : ℕ) → k ≡ kind21041 → first ≡ byte_at b 0 → size ≡ sia_size first → not (eqb (length b) size) ≡ is_bad_body k b
+  pub bad-21041 : (first size : ℕ) → k ≡ kind21041 → first ≡ byte_at b 0 → size ≡ sia_size first → not (eqb (length b) size)
+      ≡ is_bad_body k b
   unfolding is_bad_body
   bad-21041 first size e f s =
       ap (λ (n : ℕ). not (eqb (length b) n)) (s ∙ ap sia_size f)

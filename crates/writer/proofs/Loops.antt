@@ -122,7 +122,8 @@ module _ (n : ℕ) (ks ss bs : List ℕ) (kind size : ℕ) (h : 0 < n) (p : Part
         (record {
           parts = (next n ks ss bs kind size h p ek es).rest;
           bad =
-              sym (rest-bad row ∙ ap (λ (t : Bool). t || any_bad row (entries_from (n - 1) (drop 2 ks) (drop 1 ss) (drop (byte_at ss 0) bs)))
+              sym (rest-bad row ∙ ap (λ (t : Bool). t
+              || any_bad row (entries_from (n - 1) (drop 2 ks) (drop 1 ss) (drop (byte_at ss 0) bs)))
               (sym b)) ∙ i.bad;
           size = omega (arith, i.size, rest-length);
           few = omega (arith, i.few, size_small kind);

@@ -27,7 +27,8 @@ use Rattle.sheet.specs.declared.Form.{Form}
 use Rattle.sheet.specs.Form.{is_beyond, shifted, count_in}
 use Rattle.sheet.specs.Sheet.{plain_from, sheet_from, is_sheet}
 use Rattle.sheet.specs.Image.{leaf_start, encodes, leaf_of, image_of, newest_in}
-use Rattle.sheet.specs.Write.{any_bad, stray_control, cannot_hold, too_many_blocks, wrong_output, record_causes, write_causes, write_number, written}
+use Rattle.sheet.specs.Write.{any_bad, stray_control, cannot_hold, too_many_blocks, wrong_output, record_causes, write_causes}
+use Rattle.sheet.specs.Write.{write_number, written}
 use Rattle.sheet.proofs.Returns.{writer-order, record-numbered}
 use Rattle.writer.specs.Inside.{entry_causes, Counted, Writable, issue_number, issued}
 use Rattle.writer.proofs.Tests.{or-second}

@@ -1,4 +1,6 @@
 // The writer: a sheet becomes an image (document 01, 'The sheet').
+#![tactic(auto)]
+
 mod entries;
 mod leaf_writer;
 

@@ -132,7 +132,7 @@ pub fn card(words: &str) -> Run {
 pub fn card_in(temporary: &Path, words: &str) -> Run {
     static BUILT: Once = Once::new();
     BUILT.call_once(|| assert_eq!(shell("./card help", temporary).status, 0));
-    let run = format!("status=$(target/bin/card {words} 3>&1 >&4 4>&-)");
+    let run = format!("status=$(crates/card/out/card {words} 3>&1 >&4 4>&-)");
     shell(&format!("exec 4>&1; {run}; exit ${{status:-2}}"), temporary)
 }
 

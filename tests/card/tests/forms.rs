@@ -20,11 +20,11 @@ const RANDOM_IMAGES: usize = 10_000;
 
 /// What crates/text_vectors prints of texts: a problem or 0, and the bytes in hexadecimal.
 fn decoded(texts: &[String]) -> Vec<(u8, String)> {
-    let mut program = Command::new(root().join("target/bin/text_vectors"))
+    let mut program = Command::new(root().join("crates/text_vectors/out/text_vectors"))
         .stdin(Stdio::piped())
         .stdout(Stdio::piped())
         .spawn()
-        .expect("target/bin/text_vectors, which `rt check` builds");
+        .expect("crates/text_vectors/out/text_vectors, which `rt ci` builds");
     let mut input = program.stdin.take().unwrap();
     let output = thread::scope(|scope| {
         scope.spawn(move || {

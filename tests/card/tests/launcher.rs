@@ -1,4 +1,4 @@
-//! The launcher `./card` in a folder of its own, with a stand-in for `rt` that sleeps and writes as `rt check card` does:
+//! The launcher `./card` in a folder of its own, with a stand-in for `rt` that sleeps and writes as `rt run` does:
 //! what it says while the tool is built, and that nothing is left running. Needs `bash` and `script`.
 
 use card::root;
@@ -33,33 +33,34 @@ other: base
 card: left right base io
 ";
 
-/// The crates of a layer are proved side by side, as the real one does; each says in NAME.out what it says, and the whole is
-/// printed once the layer is done. The file `unchanged` names crates that are not proved again, `fails` one that cannot be, and
-/// `slow` says how long the second of a layer takes.
+/// The crates are proved one after another, as the real one does: each is named as it is begun, and one that has not changed is
+/// passed over. The file `unchanged` names such crates, `fails` one that cannot be proved, and `slow` says how long the third takes.
 const RT: &str = r#"#!/bin/sh
-[ "$* $RT_JOBS" = "check card 4" ] || exit 2
+[ "$* in ${PWD##*/}" = "run -- help in card" ] || exit 2
+cd ../..
 prove() {
-    case " $(cat unchanged) " in *" $1 "*) echo "rt: $1 proved (unchanged since it was last proved)"; return ;; esac
     sleep "$2" & echo "$!" >>pids
     wait
-    echo "logic=proved"
-    case " $(cat fails) " in *" $1 "*) echo "rt: $1 NOT PROVED (exit 1, 1 s)"; exit 1 ;; esac
-    echo "rt: $1 proved (1 s)"
+    case " $(cat fails) " in *" $1 "*) echo "logic=not-proved"; exit 1 ;; esac
+    echo "logic=proved functions=1"
 }
 echo "$$" >>pids
-for layer in "base" "left right" "card"; do
+for crate in base left right card; do
+    case " $(cat unchanged) " in *" $crate "*) continue ;; esac
     time=0.1
-    for crate in $layer; do
-        (prove "$crate" "$time") >"target/log/$crate.out" &
-        echo "$!" >>pids
-        time=$(cat slow)
-    done
-    wait
-    for crate in $layer; do cat "target/log/$crate.out"; done
-    ! grep -q 'NOT PROVED' target/log/*.out || exit 1
+    [ "$crate" != right ] || time=$(cat slow)
+    echo "rt: chose --jobs 2 for $crate"
+    prove "$crate" "$time" &
+    echo "$!" >>pids
+    if ! wait "$!"; then
+        echo "rt: the library $crate did not build, so nothing above it was checked"
+        exit 1
+    fi
 done
-mkdir -p target/bin
-cp program target/bin/card
+mkdir -p crates/card/out
+cp program crates/card/out/card
+echo "rt: running out/card; to give it other input, run that file yourself"
+crates/card/out/card help 3>/dev/null
 "#;
 
 /// Says its words, and reports status 1.
@@ -124,8 +125,7 @@ impl Bench {
         // From elsewhere: the launcher finds its repository by itself.
         command
             .current_dir("/")
-            .env("PATH", format!("{}:{path}", bin.display()))
-            .env_remove("RT_JOBS");
+            .env("PATH", format!("{}:{path}", bin.display()));
         command
     }
 
@@ -203,7 +203,7 @@ fn plain_lines() {
         let output = bench.run();
         let expected = [
             FIRST,
-            "card: left proved, 3 of 4 crates",
+            "card: left proved, 2 of 4 crates",
             "card: card proved, 4 of 4 crates",
         ];
         assert_eq!(said(&output), expected, "{shell}");
@@ -228,7 +228,7 @@ fn failing_build() {
         assert!(output.stdout.is_empty(), "{shell}");
         assert_eq!(output.status.code(), Some(2), "{shell}");
         let log = fs::read_to_string(bench.folder.join("target/card.log")).unwrap();
-        assert!(log.contains("rt: right NOT PROVED"), "{log}");
+        assert!(log.contains("rt: the library right did not build"), "{log}");
     });
 }
 
@@ -322,21 +322,21 @@ fn nothing_is_left_running() {
             let mut command = bench.launcher();
             command.stdout(Stdio::null()).stderr(Stdio::null());
             let mut child = command.spawn().unwrap();
-            // Itself, the first layer's crate with its sleep, and then two with theirs.
-            within_seconds("two crates are begun", || bench.processes().len() >= 7);
+            // Itself, and three crates with their sleeps.
+            within_seconds("three crates are begun", || bench.processes().len() >= 7);
             signal(name, &child);
             let status = child.wait().unwrap();
             assert_eq!(status.signal(), Some(number), "{shell} {name}");
             for process in bench.processes() {
                 within_seconds("it has ended", || !is_running(&process));
             }
-            assert!(!bench.folder.join("target/bin/card").exists());
+            assert!(!bench.folder.join("crates/card/out/card").exists());
             let mut left: Vec<_> = fs::read_dir(bench.folder.join("target"))
                 .unwrap()
                 .map(|entry| entry.unwrap().file_name())
                 .collect();
             left.sort();
-            assert_eq!(left, ["card.log", "log"], "{shell} {name}");
+            assert_eq!(left, ["card.log"], "{shell} {name}");
         }
     });
 }

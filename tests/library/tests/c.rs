@@ -48,7 +48,7 @@ fn compile(compiler: &str, arguments: &[&str], source: &Path, program: &Path) {
         .arg(root().join("include"))
         .args(arguments)
         .arg(source)
-        .arg(root().join("target/staticlib/libsrom.a"))
+        .arg(root().join("crates/srom/out/libsrom.a"))
         .arg("-o")
         .arg(program));
     assert!(

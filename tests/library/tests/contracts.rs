@@ -17,7 +17,7 @@ const PRINTS: [&str; 4] = [
     "io::write_all",
     "io::print_hex",
     "io::read_full",
-    "os::fail",
+    "rt.arg",
 ];
 
 /// A function: its name with crate and module, what stands before its body, and the body.
@@ -111,17 +111,25 @@ fn crates() -> BTreeSet<String> {
     folders.map(|folder| name(folder.unwrap())).collect()
 }
 
-/// What stands before the body, and the body: a brace opens it unless `ensures` or `requires`
-/// stands before.
+/// Whether a brace behind this text opens a clause: `ensures` or `requires` stands before it, or before the clause's name.
+fn opens_clause(before: &str) -> bool {
+    let is_name = |word: &&str| {
+        word.chars()
+            .all(|it| it.is_alphanumeric() || "_*".contains(it))
+    };
+    let mut words = before.split_whitespace().rev().take(3).take_while(is_name);
+    words.any(|word| ["ensures", "requires"].contains(&word))
+}
+
+/// What stands before the body, and the body: a brace opens it unless it opens a clause.
 fn head_and_body(text: &str) -> (&str, &str) {
     let mut depth = 0;
     let mut head = None;
     for (at, letter) in text.char_indices() {
         let before = text[..at].trim_end();
-        let opens_clause = before.ends_with("ensures") || before.ends_with("requires");
         match letter {
             '{' => {
-                if depth == 0 && !opens_clause {
+                if depth == 0 && !opens_clause(before) {
                     head.get_or_insert((before, at));
                 }
                 depth += 1;

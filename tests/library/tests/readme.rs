@@ -11,7 +11,7 @@ fn commands(readme: &str, from: &str, to: &str) -> Vec<String> {
         .skip_while(|line| !line.starts_with(from))
         .take_while(|line| !line.starts_with(to))
         .filter_map(|line| line.strip_prefix("    $ "))
-        .filter(|line| *line != "rt staticlib srom")
+        .filter(|line| *line != "(cd crates/srom && rt lib)")
         .map(str::to_owned)
         .collect()
 }

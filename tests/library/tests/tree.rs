@@ -17,7 +17,7 @@ fn files(folder: &Path, endings: &[&str]) -> Vec<PathBuf> {
     for entry in fs::read_dir(folder).unwrap() {
         let path = entry.unwrap().path();
         if path.is_dir() {
-            if !path.ends_with("target") {
+            if !path.ends_with("target") && !path.ends_with("out") {
                 found.extend(files(&path, endings));
             }
         } else if endings
@@ -131,7 +131,9 @@ fn is_of_library(file: &Path) -> bool {
     let listed = fs::read_to_string(root().join("crates.txt")).unwrap();
     let (library, _) = listed.split_once("\n# The bench tool.").unwrap();
     let owner = file.iter().next().unwrap().to_str().unwrap();
-    library.contains(&format!("\n{owner}: "))
+    library
+        .lines()
+        .any(|line| line.split([' ', ':']).next() == Some(owner))
 }
 
 /// Words that several modules have for what is theirs: they are written behind the module's name, as `magic::read`.
@@ -151,12 +153,17 @@ const BEHIND_THEIR_MODULE: [(&str, &str); 7] = [
 /// The refusal numbers are a list by themselves, whose names are written behind its own, as `refusal::ADDRESS`.
 const REFUSALS: &str = "rom/src/refusal.rt";
 
+/// The files of a function's proof, in proofs/FUNCTION.
+const PROOF_FILES: [&str; 3] = ["Proof.antt", "Invariants.antt", "Answers.antt"];
+
 /// One name has one meaning in the specifications and the laws of all crates, to which the code's types belong (CONTRIBUTING.md).
-/// A function's Proof.antt has the checker's names.
+/// A function's own proof files have the checker's names: they stand in a folder of its name, and laws do not.
 #[test]
 fn a_name_is_declared_once() {
     let mut places = declarations("antt", |file, line| {
-        let name = declared(line).filter(|_| !file.ends_with("Proof.antt"));
+        let is_of_function =
+            PROOF_FILES.iter().any(|it| file.ends_with(it)) && file.iter().count() > 3;
+        let name = declared(line).filter(|_| !is_of_function);
         name.map(str::to_owned)
     });
     for (name, paths) in declarations("rt", |_, line| Some(type_of(line)?.to_owned())) {

@@ -168,6 +168,9 @@ fn case_k_is_walked_as_second_walks_it() {
 
 /// Where a walk stands after a call that answered a number, as the lists have it.
 fn stands(number: u8, walk: &Autosense) -> String {
+    if walk.blocks().is_none() {
+        return format!("still_fresh {number}");
+    }
     let walk = walk.walk();
     let selected = match walk.selected {
         NONE => "none".to_string(),
@@ -184,7 +187,7 @@ fn stands(number: u8, walk: &Autosense) -> String {
 #[test]
 fn cards_under_fixed_types_are_walked_as_second_walks_them() {
     let text = text("worked/specs/Cases.antt");
-    let (_, list) = text.split_once("\nfixedImageCases =\n").unwrap();
+    let (_, list) = text.split_once("\nfixed_image_cases =\n").unwrap();
     let (list, _) = list.split_once("\n\n").unwrap();
     let cases: Vec<_> = list.split("under_fixed").skip(1).collect();
     assert!(cases.len() >= 4, "only {} cards", cases.len());
@@ -213,6 +216,13 @@ fn cards_under_fixed_types_are_walked_as_second_walks_them() {
         }
         assert_eq!(found.join(" ∷ ") + " ∷ []", seen, "{case}");
     }
+}
+
+/// The reports of the looks in a list of calls.
+fn reports(calls: &str) -> Vec<Vec<u8>> {
+    let words = arguments(calls);
+    let looks = words.windows(2).filter(|pair| pair[0] == "look");
+    looks.map(|pair| bytes(pair[1])).collect()
 }
 
 /// The records of a list of crates/worked_large, each as one line: those that it has, and those that a name with arguments
@@ -250,7 +260,12 @@ fn records(text: &str, list: &str) -> Vec<String> {
 #[test]
 fn large_cards_are_read_and_walked_as_second_does() {
     let text = text("worked_large/specs/Cases.antt");
-    let lists = ["plain_cards", "magic_cards", "twenty_one_cards", "longest_cards"];
+    let lists = [
+        "plain_cards",
+        "magic_cards",
+        "twenty_one_cards",
+        "longest_cards",
+    ];
     let cards: Vec<_> = lists.iter().flat_map(|list| records(&text, list)).collect();
     assert_eq!(cards.len(), 9, "three of each layout, two, and the longest");
     for card in cards {
@@ -370,8 +385,103 @@ fn with_leaf(chip: u16, leaf: &[u8]) -> Image {
     image
 }
 
+/// The same in a layout.
+fn laid_out_with(layout: Layout, chip: u16, leaf: &[u8]) -> Image {
+    let card = Card::tidy(chip, 0x0800, vec![]);
+    let mut image = card.laid_out(&mut Random::new(1), layout).image();
+    image[TIDY_LEAF..][..leaf.len()].copy_from_slice(leaf);
+    lay_crcs(&mut image, layout);
+    image
+}
+
+/// A card with a mode set twice, at the newest level and below it, and cards at two levels in every layout.
+#[test]
+fn cards_are_walked_below_the_newest_level_as_second_walks_them() {
+    let text = text("worked/specs/Cases.antt");
+    let repeated = specification::cases(&text, "repeated_image_cases");
+    for (made_by, words) in &repeated {
+        walked_as_said(&text, Layout::PLAIN, made_by, words[0], words[1]);
+    }
+    let levels = specification::cases(&text, "both_levels l connection last");
+    let (_, older) = text.split_once("\nolder_cases =\n").unwrap();
+    let (older, _) = older.split_once("\n\n").unwrap();
+    let cards: Vec<_> = older
+        .split("++")
+        .map(|card| arguments(card.trim()))
+        .collect();
+    assert_eq!((repeated.len(), levels.len(), cards.len()), (3, 2, 4));
+    for card in cards {
+        let [_, layout, connection, last] = card[..] else {
+            panic!("{card:?}");
+        };
+        for (made_by, words) in &levels {
+            let seen = field(record(&text, made_by), "seen").trim();
+            let reading = words[1].replace("connection", connection);
+            walked_as_said(
+                &text,
+                laid_out(layout),
+                made_by,
+                &reading,
+                &seen.replace("last", last),
+            );
+        }
+    }
+}
+
+/// The layout that a specification names.
+fn laid_out(name: &str) -> Layout {
+    match name {
+        "without_magic" => Layout::PLAIN,
+        "with_magic" => Layout::MAGIC,
+        "large without_magic" => Layout::LARGE_PLAIN,
+        "large with_magic" => Layout::LARGE_MAGIC,
+        _ => panic!("{name} is no layout"),
+    }
+}
+
+/// The record that a name with arguments stands for.
+fn record<'a>(text: &'a str, made_by: &str) -> &'a str {
+    let (_, behind) = text.split_once(&format!("\n{made_by} ")).unwrap();
+    behind.split_once("\n}").unwrap().0
+}
+
+/// A leaf in a layout is read as `reading` says, and walked by the calls of `made_by` as `seen` says.
+fn walked_as_said(text: &str, layout: Layout, made_by: &str, reading: &str, seen: &str) {
+    let words = arguments(reading);
+    let (chip, level) = (number(words[1]) as u16, number(words[2]) as u8);
+    let leaf = bytes(&opened(words[3], text, &["leaf_repeated", "leaf_newer"]));
+    let image = laid_out_with(layout, chip, &leaf);
+    let reader = Arguments::at_level(chip, level).laid_out(layout);
+    let (answer, entries) = read_all(&image, reader);
+    let found = match answer.number {
+        0 => {
+            let counts = [answer.listed, answer.resets, answer.skipped];
+            [
+                counts.map(|it| it.to_string()).to_vec(),
+                tables(&entries).to_vec(),
+            ]
+            .concat()
+        }
+        number => vec![number.to_string()],
+    };
+    assert_eq!(found, words[4..], "{reading}");
+    let mut walk = Autosense::default();
+    let load = walk.load(&image, reader);
+    let mut stood = vec![stands(load, &walk)];
+    for report in reports(field(record(text, made_by), "calls")) {
+        let look = walk.look(&report);
+        stood.push(stands(look, &walk));
+    }
+    assert_eq!(stood.join(" ∷ ") + " ∷ []", seen, "{reading}");
+}
+
 /// The names of crates/image/specs/Cases.antt that its headers use.
-const HEADERS: [&str; 4] = ["two_controllers", "last_address", "leaf_starting", "of_type"];
+const HEADERS: [&str; 4] = [
+    "two_controllers",
+    "last_address",
+    "leaf_starting",
+    "of_type",
+];
 
 /// Where the version stands, from which on an image's bytes are given.
 const VERSION_OFFSET: usize = 18;
@@ -596,7 +706,7 @@ fn every_list_is_named() {
 
 /// The other lists, which tests of their own read; but for the Magic Packet block before cases a and j and for the walk with a power
 /// block, of which only the leaves are read.
-const OTHER_LISTS: [&str; 16] = [
+const OTHER_LISTS: [&str; 18] = [
     "header_cases",
     "block_cases",
     "starts_cases",
@@ -606,6 +716,8 @@ const OTHER_LISTS: [&str; 16] = [
     "image_cases",
     "magic_image_cases",
     "power_image_cases",
+    "repeated_image_cases",
+    "older_cases",
     "fixed_image_cases",
     "order_cases",
     "sheet_cases",

@@ -193,9 +193,8 @@ impl Reader {
             assert!(self.is_next(")"), "{:?}", self.words);
             return value;
         }
-        if let Some(field) = self.peek().strip_prefix('.').map(str::to_owned) {
-            self.at += 1;
-            return case(&word, &field);
+        if let Some((name, field)) = word.split_once('.') {
+            return case(name, field);
         }
         if let Some((_, value)) = self.names.iter().find(|(name, _)| *name == word) {
             return value.clone();

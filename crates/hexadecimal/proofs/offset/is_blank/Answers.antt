@@ -1,0 +1,19 @@
+-- Each return is one case of the test. Assumes nothing.
+use Rattle.std.proofs.Common.{eq-eqb, ne_eqb}
+use Rattle.hexadecimal.specs.Offset.{is_blank}
+use Rattle.hexadecimal.proofs.offset.is_blank.Goals as goal
+
+pub returns-then-byte-eq32 : goal.returns-then-byte-eq32
+unfolding is_blank
+returns-then-byte-eq32 c =
+    simp (eq-eqb _ _ c.if-byte-eq32.true)
+
+pub returns-then-byte-eq9 : goal.returns-then-byte-eq9
+unfolding is_blank
+returns-then-byte-eq9 c =
+    simp (ne_eqb _ _ c.if-byte-eq32.false, eq-eqb _ _ c.if-byte-eq9.true)
+
+pub returns : goal.returns
+unfolding is_blank
+returns c =
+    simp (ne_eqb _ _ c.if-byte-eq32.false, ne_eqb _ _ c.if-byte-eq9.false)
