@@ -1,126 +1,180 @@
--- The rows, filled by one store for each block, are the flags of all blocks. Assumes nothing.
-use Prim.Native.Nat.{ℕ, zero, suc, ◌+◌, ◌-◌, ◌≤◌, ◌<◌}
-use native.Mathlib.Omega.{arith}
-use native.Mathlib.Nat.{sub-zero, le_of_suc-le-suc, not-suc-le-zero}
-use mathlib.Core.List.{List, [], ◌∷◌, ◌++◌, map, append_assoc}
-use mathlib.Core.Path.{◌≡◌, refl, ap, sym, ◌∙◌}
-use mathlib.Core.Bool.{Bool, true, false, ◌&&◌}
-use lib.ListN.{length, take, drop, set, replicate, length-append}
-use lib.Seq.{set-append_seam}
-use Rattle.rom.specs.Refusal.{first_met}
-use Rattle.block.specs.declared.Block.{Block}
-use Rattle.block.specs.Answer.{block_of, number_of, size_in}
-use Rattle.block.proofs.Seen.{SeenAs, of-listed, seen_size}
-use Rattle.format.specs.Chips.{taken_as}
-use Rattle.format.specs.Block.{kind_of, facts_of, is_listed, the_later_version}
+-- The rows, filled by one store for each listed block, are the flags of all blocks. Assumes nothing.
+use Rattle.std.proofs.Common.{◌≡◌, ℕ, suc, ◌+◌, ◌-◌, ◌<◌, ◌≤◌, Bool, true, false, ◌&&◌, List, [], ◌∷◌, ◌++◌, length, map, set, replicate}
+use Rattle.std.proofs.Common.{take, drop, refl, ap, sym, ◌∙◌, append_assoc, append-nil, length-append, arith}
+use Rattle.std.proofs.lemmas.List.{map-append, length-map}
+use Rattle.std.proofs.Math.Seq.{set-append_seam}
+use Rattle.std.specs.Int.{from_bool}
+use native.Mathlib.Nat.{sub-zero}
 use Rattle.rom.specs.Bytes.{pick, one}
+use Rattle.rom.specs.Refusal.{first_met}
+use Rattle.format.specs.Chips.{taken_as}
+use Rattle.format.specs.Block.{size_of, is_listed, refusal_of, the_later_version}
+use Rattle.block.specs.Answer.{Verdict}
+use Rattle.block.specs.Answer.{Listed, Reset, Power, Unknown, Refused}
+use Rattle.block.specs.declared.Medium.{Medium}
+use Rattle.block.specs.Answer.{block_of, size_in, listed_in, invalid_in, code_in, capabilities_in}
+use Rattle.block.proofs.Seen.{answers-refusal, answers-entry, answers-medium, answers-flags, fits}
 use Rattle.leaf.specs.Leaf.{cut, block_causes}
-use Rattle.leaf.proofs.Cuts.{cut-more, cut-none, cut-length, rest_part, next-seen, next-fine, next-left}
+use Rattle.leaf.proofs.Cuts.{cut-more, cut-none, rest_part, first-accepted}
 use Rattle.walk.specs.declared.Rows.{Rows}
-use Rattle.walk.specs.declared.Way.{Way}
-use Rattle.walk.specs.Walk.{is_fixed, has_medium, row_length, no_flags, flags, is_invalid, is_fixed_medium, no_rows, rows_of}
+use Rattle.walk.specs.Walk.{way_of, is_fixed, has_medium, row_length, no_flags, flags, is_invalid, is_fixed_medium, no_rows, rows_of}
 use Rattle.walk.proofs.Taken.{same-way-taken}
-use Rattle.autosense.specs.declared.BlockFlags.{BlockFlags}
-use Rattle.autosense.specs.Inside.{block_flags, unflagged, flags_in}
 
--- a row with the flags of the blocks bs from number k on
-unfoldable pub flags_from : (List ℕ → Bool) → ℕ → List (List ℕ) → List ℕ → List ℕ
-flags_from p k [] r = r
-flags_from p k (s ∷ bs) r = flags_from p (k + 1) bs (set r k (one (p s)))
+-- ## A row
 
-row-flags : (p : List ℕ → Bool) (xs : List ℕ) (bs : List (List ℕ)) (n : ℕ) → length bs ≤ n
-    → flags_from p (length xs) bs (xs ++ replicate n 0) ≡ xs ++ (map (λ s. one (p s)) bs ++ replicate (n - length bs) 0)
-unfolding flags_from
-row-flags p xs [] n h = rw sub-zero
-row-flags p xs (s ∷ bs) zero h = absurd (not-suc-le-zero h)
-row-flags p xs (s ∷ bs) (suc n) h =
-    let v = one (p s) in
-    let e : length (xs ++ v ∷ []) ≡ length xs + 1 = length-append xs (v ∷ []) in
-    let f : n - length bs ≡ suc n - suc (length bs) = omega arith in
-    ap (flags_from p (length xs + 1) bs) (set-append_seam xs 0 (replicate n 0) v ∙ sym (append_assoc xs (v ∷ []) (replicate n 0)))
-    ∙ ap (λ (k : ℕ). flags_from p k bs ((xs ++ v ∷ []) ++ replicate n 0)) (sym e)
-    ∙ row-flags p (xs ++ v ∷ []) bs n (le_of_suc-le-suc h)
-    ∙ append_assoc xs (v ∷ []) _
-    ∙ ap (λ (k : ℕ). xs ++ (v ∷ (map (λ s. one (p s)) bs ++ replicate k 0))) f
+-- the flag of one block more, in place of the first zero
+flag-next : (p : List ℕ → Bool) (bs : List (List ℕ)) (s : List ℕ) {k : ℕ} → length bs ≡ k → k < row_length
+    → set (flags p bs) k (one (p s)) ≡ flags p (bs ++ s ∷ [])
+unfolding flags
+flag-next p bs s {k} e h =
+    let f = λ (s : List ℕ). one (p s) in
+    let free : row_length - length bs ≡ suc (row_length - (length bs + 1)) = omega arith in
+    let here : length (map f bs) ≡ k = length-map bs f ∙ e in
+    rw (free, map-append f bs (s ∷ []), length-append bs (s ∷ []), append_assoc, ← here)
+    (set-append_seam (map f bs) 0 (replicate (row_length - (length bs + 1)) 0) (one (p s)))
 
-all-flags : (p : List ℕ → Bool) (bs : List (List ℕ)) → length bs ≤ row_length → flags_from p 0 bs no_flags ≡ flags p bs
-unfolding no_flags flags
-all-flags p bs h = row-flags p [] bs row_length h
+-- which is a zero too where p does not take it
+flag-kept : (p : List ℕ → Bool) (bs : List (List ℕ)) (s : List ℕ) → length bs < row_length → p s ≡ false
+    → flags p bs ≡ flags p (bs ++ s ∷ [])
+unfolding flags
+flag-kept p bs s h e =
+    let f = λ (s : List ℕ). one (p s) in
+    let free : row_length - length bs ≡ suc (row_length - (length bs + 1)) = omega arith in
+    rw (free, map-append f bs (s ∷ []), length-append bs (s ∷ []), append_assoc, e)
 
--- a block that is not listed has no flag
-if-listed : (t x y : Bool) → block_flags (one t) (one (t && x)) (one (t && y)) ≡ pick t (block_flags 1 (one x) (one y)) unflagged
-unfolding pick
-if-listed true x y = refl
-if-listed false x y = refl
+-- ## What an accepted block is found to be
 
--- what a block is found to be has its flags; the type and what it is taken as are of one way
-seen-flags : (connection : ℕ) {row level : ℕ} {s : List ℕ} {b : Block} → SeenAs row level s b → number_of b ≡ 0
-    → block_flags (one (is_listed row level s)) (one (is_invalid row level s)) (one (is_fixed_medium connection row level s))
-    ≡ flags_in (taken_as connection) b
-unfolding is_invalid is_fixed_medium
-seen-flags connection {row} {level} {s} view fine =
-    let facts = facts_of (kind_of row s) s in
-    let taken = taken_as connection in
-    let t = is_listed row level s in
-    ap (λ (way : Way). block_flags (one t) (one (t && facts.active_invalid))
-    (one (t && (is_fixed way && has_medium taken facts.code facts.capabilities))))
-    (same-way-taken connection)
-    ∙ if-listed t _ _ ∙ sym (of-listed (flags_in taken) unflagged ((λ z. refl), (λ z m. refl), (λ z. refl)) view fine)
+module _ (row level : ℕ) (s : List ℕ) (fine : refusal_of row level s ≡ 0) where
+  listed-here : {m : Medium} → Listed m ≡ block_of row level s → is_listed row level s ≡ true
+  listed-here {m} e = go (is_listed row level s) (ap listed_in e ∙ (answers-entry row level s fine).0)
+    where
+      go : (t : Bool) → 1 ≡ one t → t ≡ true
+      go true e = refl
+      go false e = absurd (omega arith)
 
--- the rows after k blocks, of which bs are left
-pub record Filled (connection row level : ℕ) (whole bs : List (List ℕ)) (k : ℕ) (rows : Rows) : Type 0 where
-  pub accepted : first_met (block_causes the_later_version row level bs) ≡ 0
-  pub is-listed : flags_from (is_listed row level) k bs rows.listed ≡ flags_from (is_listed row level) 0 whole no_flags
-  pub is-invalid : flags_from (is_invalid row level) k bs rows.active_invalid ≡ flags_from (is_invalid row level) 0 whole no_flags
-  pub is-fixed : flags_from (is_fixed_medium connection row level) k bs rows.fixed
-      ≡ flags_from (is_fixed_medium connection row level) 0 whole no_flags
+  module _ {m : Medium} (e : Listed m ≡ block_of row level s) where
+    invalid-here : m.active_invalid ≡ is_invalid row level s
+    unfolding is_invalid
+    invalid-here = ap invalid_in e ∙ (answers-flags row level s fine).0
 
-pub rows_start : (connection row level count : ℕ) (s : List ℕ) {rows : Rows}
+    fixed-here : (connection : ℕ)
+        → (is_fixed (way_of (taken_as connection)) && has_medium (taken_as connection) m.media_code m.capabilities)
+        ≡ is_fixed_medium connection row level s
+    unfolding is_fixed_medium pick
+    fixed-here connection =
+        let here = listed-here e in
+        let code = rw here at (ap code_in e ∙ (answers-medium row level s fine).0) in
+        let capabilities = rw here at (ap capabilities_in e ∙ (answers-medium row level s fine).1) in
+        rw (code, capabilities, here, same-way-taken connection)
+
+  not-listed-here : {b : Verdict} → b ≡ block_of row level s → ((m : Medium) → b ≡ Listed m → ⊥) → is_listed row level s ≡ false
+  not-listed-here {b} e n = go (is_listed row level s) (sym (none b n) ∙ ap listed_in e ∙ (answers-entry row level s fine).0)
+    where
+      none : (b : Verdict) → ((m : Medium) → b ≡ Listed m → ⊥) → listed_in b ≡ 0
+      none (Listed m) n = absurd (n m refl)
+      none (Reset size) n = refl
+      none (Power size mode) n = refl
+      none (Unknown size) n = refl
+      none (Refused number) n = refl
+
+      go : (t : Bool) → 0 ≡ one t → t ≡ false
+      go true e = absurd (omega arith)
+      go false e = refl
+
+-- ## The rows
+
+from_one : (t : Bool) → from_bool t ≡ one t
+from_one true = refl
+from_one false = refl
+
+-- those of k blocks that are passed, where others are left
+pub record Filled (connection row level : ℕ) (whole left : List (List ℕ)) (k : ℕ) (rows : Rows) : Type 0 where
+  pub passed : List (List ℕ)
+  pub all : whole ≡ passed ++ left
+  pub number : length passed ≡ k
+  pub filled : rows ≡ rows_of connection row level passed
+  pub accepted : first_met (block_causes the_later_version row level left) ≡ 0
+
+pub none_filled : {connection row level : ℕ} (count : ℕ) (s : List ℕ) {rows : Rows}
     → first_met (block_causes the_later_version row level (cut row count s)) ≡ 0 → rows ≡ no_rows
     → Filled connection row level (cut row count s) (cut row (count - 0) s) 0 rows
-unfolding no_rows
-rows_start connection row level count s fine empty =
-    rw (sub-zero, empty) (record { accepted = fine; is-listed = refl; is-invalid = refl; is-fixed = refl })
+unfolding no_rows no_flags rows_of flags
+none_filled count s fine empty =
+    rw (sub-zero, empty) (record { passed = []; all = refl; number = refl; filled = refl; accepted = fine })
 
--- ## The steps of `rows_of` in its own terms: b is the next block, f has its flags, z is its size
+-- one block more is passed
+module _ {connection row level : ℕ} (count : ℕ) (rest : List ℕ) {whole : List (List ℕ)} {k : ℕ} {rows : Rows}
+    (inv : Filled connection row level whole (cut row (count - k) rest) k rows) (more : k < count) where
+  next-accepted : (refusal_of row level rest ≡ 0)
+      × (first_met (block_causes the_later_version row level (cut row (count - (k + 1)) (drop (size_of row rest) rest))) ≡ 0)
+  next-accepted = first-accepted row level rest _ (rw cut-more at inv.accepted)
 
-module _ (connection row level count : ℕ) (rest : List ℕ) {whole : List (List ℕ)} {k : ℕ} {rows : Rows}
-    (inv : Filled connection row level whole (cut row (count - k) rest) k rows) where
-  pub rows_more : {b : Block} {f : BlockFlags} {taken z : ℕ} → k < count → b ≡ block_of row level rest → taken ≡ taken_as connection
-      → f ≡ flags_in taken b → z ≡ size_in b
-      → Filled connection row level whole (cut row (count - (k + 1)) (take (length rest - z) (drop z rest))) (k + 1)
+  pub next_within : {size : ℕ} → size ≡ size_of row rest → size ≤ length rest
+  next_within e = rw e (fits row level rest next-accepted.0)
+
+  pub listed_size : {b : Verdict} {m : Medium} {size : ℕ} → b ≡ block_of row level rest → b ≡ Listed m → size ≡ m.size
+      → size ≡ size_of row rest
+  listed_size eb el e = e ∙ ap size_in (sym el ∙ eb) ∙ (answers-refusal row level rest).1 next-accepted.0
+
+  next_filled : {size : ℕ} {next : Rows} → size ≡ size_of row rest → next ≡ rows_of connection row level (inv.passed ++ rest ∷ [])
+      → Filled connection row level whole (cut row (count - (k + 1)) (take (length rest - size) (drop size rest))) (k + 1) next
+  next_filled e f =
+      let next-left = cut-more row count k rest more in
+      rw (rest_part, e)
       (record {
-        listed = set rows.listed k f.listed;
-        active_invalid = set rows.active_invalid k f.active_invalid;
-        fixed = set rows.fixed k f.fixed;
+        passed = inv.passed ++ rest ∷ [];
+        all = inv.all ∙ ap (λ (bs : List (List ℕ)). inv.passed ++ bs) next-left ∙ sym (append_assoc inv.passed (rest ∷ []) _);
+        number = length-append inv.passed (rest ∷ []) ∙ ap (λ (n : ℕ). n + 1) inv.number;
+        filled = f;
+        accepted = next-accepted.1;
       })
-  unfolding flags_from
-  rows_more {b} {f} m eb et ef ez =
-      let view = next-seen row level count rest inv.accepted m eb in
-      let fine = next-fine row level count rest inv.accepted m eb in
-      let same : f ≡ block_flags _ _ _ = ef ∙ ap (λ (n : ℕ). flags_in n b) et ∙ sym (seen-flags connection view fine) in
-      let l = rw cut-more at inv.is-listed in
-      let i = rw cut-more at inv.is-invalid in
-      let x = rw cut-more at inv.is-fixed in
-      rw (
-        rest_part,
-        ez,
-        seen_size view fine,
-        ap (λ (r : BlockFlags). r.listed) same,
-        ap (λ (r : BlockFlags). r.active_invalid) same,
-        ap (λ (r : BlockFlags). r.fixed) same,
-      )
-      (record { accepted = next-left row level count rest inv.accepted m eb; is-listed = l; is-invalid = i; is-fixed = x })
 
-  pub rows-done : (blocks : List ℕ) → whole ≡ cut row count blocks → count < 256 → count ≤ k → rows ≡ rows_of connection row level whole
-  unfolding flags_from rows_of
-  rows-done blocks e few h =
-      let l = rw cut-none at inv.is-listed in
-      let i = rw cut-none at inv.is-invalid in
-      let x = rw cut-none at inv.is-fixed in
-      let short : length whole ≤ row_length = rw e (omega (arith, cut-length row count blocks)) in
-      rw (
-        l ∙ all-flags (is_listed row level) whole short,
-        i ∙ all-flags (is_invalid row level) whole short,
-        x ∙ all-flags (is_fixed_medium connection row level) whole short,
-      )
+  module _ (few : count < row_length) {b : Verdict} (seen : b ≡ block_of row level rest) where
+    short : length inv.passed < row_length
+    short = omega arith
+
+    pub listed-filled : {size taken : ℕ} {m : Medium} → size ≡ size_of row rest → b ≡ Listed m → taken ≡ taken_as connection
+        → Filled connection row level whole (cut row (count - (k + 1)) (take (length rest - size) (drop size rest))) (k + 1)
+        (record {
+          listed = set rows.listed k 1;
+          active_invalid = set rows.active_invalid k (from_bool m.active_invalid);
+          fixed = set rows.fixed k (from_bool (is_fixed (way_of taken) && has_medium taken m.media_code m.capabilities));
+        })
+    unfolding rows_of
+    listed-filled {taken = taken} {m = m} e eb et =
+        let here = sym eb ∙ seen in
+        let fine = next-accepted.0 in
+        next_filled e
+        (rw (
+          inv.filled,
+          from_one (is_fixed (way_of taken) && has_medium taken m.media_code m.capabilities),
+          from_one m.active_invalid,
+          et,
+          fixed-here row level rest fine here connection,
+          invalid-here row level rest fine here,
+          ← flag-next (is_listed row level) inv.passed rest inv.number (omega arith),
+          ← flag-next (is_invalid row level) inv.passed rest inv.number (omega arith),
+          ← flag-next (is_fixed_medium connection row level) inv.passed rest inv.number (omega arith),
+          listed-here row level rest fine here,
+        ))
+
+    pub unlisted-filled : {size : ℕ} → size ≡ size_of row rest → ((m : Medium) → b ≡ Listed m → ⊥)
+        → Filled connection row level whole (cut row (count - (k + 1)) (take (length rest - size) (drop size rest))) (k + 1) rows
+    unfolding rows_of is_invalid is_fixed_medium
+    unlisted-filled e n =
+        let none = not-listed-here row level rest next-accepted.0 seen n in
+        let invalid : is_invalid row level rest ≡ false = rw none refl in
+        let fixed : is_fixed_medium connection row level rest ≡ false = rw none refl in
+        next_filled e
+        (rw (
+          inv.filled,
+          flag-kept (is_listed row level) inv.passed rest short none,
+          flag-kept (is_invalid row level) inv.passed rest short invalid,
+          flag-kept (is_fixed_medium connection row level) inv.passed rest short fixed,
+        ))
+
+pub all_filled : {connection row level : ℕ} (count : ℕ) (s rest : List ℕ) {k : ℕ} {rows : Rows}
+    → Filled connection row level (cut row count s) (cut row (count - k) rest) k rows → count ≤ k
+    → rows ≡ rows_of connection row level (cut row count s)
+all_filled {connection} {row} {level} count s rest inv h =
+    inv.filled ∙ ap (rows_of connection row level) (sym (inv.all ∙ rw cut-none (append-nil inv.passed)))

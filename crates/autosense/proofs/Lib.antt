@@ -1,2 +1,3 @@
+pub mod Searches
 pub mod Flags
-pub mod Aims
+pub mod Steps

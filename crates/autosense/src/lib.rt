@@ -2,22 +2,23 @@
 // 4, 5 and 12).
 #![tactic(auto)]
 
-ghost use Rattle.std.specs.Prelude.{◌≡◌, ◌||◌, ◌&&◌, eqb};
+ghost use Rattle.std.specs.Prelude.{◌≡◌, ◌<◌, ◌||◌, ◌&&◌, eqb, ℕ, List, [], ◌∷◌, true, MatchOption, IfSome, IfOk, Ok};
 ghost use Rattle.rom.specs.Geometry.{none};
-ghost use Rattle.rom.specs.Refusal.{first_met};
+ghost use Rattle.rom.specs.Numbers.{number_or_none, answer_number};
+ghost use Rattle.rom.specs.Refusal.{◌⇒◌, first_met};
 ghost use Rattle.format.specs.Block.{the_later_version};
-ghost use Rattle.rom.specs.Bytes.{one};
+ghost use Rattle.block.specs.declared.Medium.{Medium};
+ghost use Rattle.block.specs.Answer.{Listed, block_of};
 ghost use Rattle.leaf.specs.Leaf.{cut, block_causes};
-ghost use Rattle.autosense.specs.Inside.{flags_in, aim_of};
-ghost use Rattle.walk.specs.Walk.{no_flags, no_rows, rows_of, fresh_walk, way_of, is_once, is_fixed, is_capable, has_medium};
-ghost use Rattle.walk.specs.Walk.{flag_at, is_up};
-ghost use Rattle.walk.specs.Walk.{bad_report, is_candidate, last_below, first_up, stays, sensed, fixed_block, chosen, switched, stepped};
-ghost use Rattle.walk.specs.Walk.{look_causes, load_for, look_for, clear_for};
+ghost use Rattle.autosense.specs.Inside.{choice_from};
+ghost use Rattle.walk.specs.Walk.{no_rows, rows_of, fresh_walk, way_of, is_fixed, is_capable, has_medium};
+ghost use Rattle.walk.specs.Walk.{flag_at, bad_report, last_below, is_candidate, first_up, stays, fixed_block, choice, sensed, chosen};
+ghost use Rattle.walk.specs.Walk.{switched, load_for, look_for, clear_for, walked_from};
 
-use block::{Block, Medium, chip};
-use reader::Arguments;
-use rom::{NONE, refusal};
-use walk::{Choice, ROW_LENGTH};
+use block::{Block, Medium, chip, shape};
+use reader::{Arguments, Reading};
+use rom::{NONE, Refusal};
+use walk::ROW_LENGTH;
 pub use walk::{Rows, Walk, Walked, Way};
 
 // ## Connection types that are autosensed (document 01, 'The walk')
@@ -58,29 +59,21 @@ const CAPABILITY_100BASETX_FULL_DUPLEX: u16 = 14;
 
 const CAPABILITY_100BASET4: u16 = 15;
 
-// The most that looks and switches count.
-const MOST_LOOKS: u16 = 65535;
-
 // ## Fresh and cleared
 
-// A row without a flag.
-fn no_flags() -> [u8; ROW_LENGTH]
-    ensures { result ≡ no_flags }
-{
-    [0u8; ROW_LENGTH]
-}
-
 // Rows of no block.
+#[tactic(auto, unfolding(walk::specs::Walk::no_rows, walk::specs::Walk::no_flags))]
 fn no_rows() -> Rows
     ensures { result ≡ no_rows }
 {
     Rows {
-        listed: no_flags(),
-        active_invalid: no_flags(),
-        fixed: no_flags(),
+        listed: [0; ROW_LENGTH],
+        active_invalid: [0; ROW_LENGTH],
+        fixed: [0; ROW_LENGTH],
     }
 }
 
+#[tactic(auto, unfolding(walk::specs::Walk::fresh_walk))]
 pub fn fresh() -> Walk
     ensures { result ≡ fresh_walk }
 {
@@ -98,27 +91,17 @@ pub fn fresh() -> Walk
 }
 
 // Makes a walk fresh, and always succeeds.
-pub fn clear(walk: Walk) -> Walked
-    ensures { result ≡ clear_for walk }
+#[tactic(auto, unfolding(walk::specs::Walk::clear_for))]
+pub fn clear(walk: &mut Walk)
+    ensures { walked_from (Ok tt) walk.new ≡ clear_for walk.old }
 {
-    Walked {
-        number: refusal::ACCEPTED,
-        walk: fresh(),
-    }
+    *walk = fresh();
 }
 
 // ## Loading
 
-fn flag_of(x: bool) -> u8
-    ensures { result ≡ one x }
-{
-    if x {
-        return 1;
-    }
-    0
-}
-
 // Whether capabilities have the bit that a type names.
+#[tactic(auto, unfolding(walk::specs::Walk::is_capable, rom::specs::Bytes::pick, rom::specs::Bytes::bit))]
 fn is_capable(connection: u16, capabilities: u16) -> bool
     ensures { result ≡ is_capable connection capabilities }
 {
@@ -133,56 +116,38 @@ fn is_capable(connection: u16, capabilities: u16) -> bool
 }
 
 // Whether a listed block has the medium that a type is fixed to.
+#[tactic(auto, unfolding(walk::specs::Walk::has_medium, rom::specs::Bytes::pick))]
 fn has_medium(medium: Medium, connection: u16) -> bool
     ensures { result ≡ has_medium connection medium.media_code medium.capabilities }
 {
     let low = (connection % 256) as u8;
     if low < MEDIA_CODES {
-        return medium.media_code == low;
+        medium.media_code == low
+    } else {
+        is_capable(connection, medium.capabilities)
     }
-    is_capable(connection, medium.capabilities)
 }
 
 // The same, and false where the type is not fixed.
 fn has_fixed_medium(medium: Medium, connection: u16) -> bool
     ensures { result ≡ (is_fixed (way_of connection) && has_medium connection medium.media_code medium.capabilities) }
 {
-    let fixed = is_fixed(way_of(connection));
-    if fixed {
-        return has_medium(medium, connection);
-    }
-    false
+    is_fixed(way_of(connection)) && has_medium(medium, connection)
 }
 
-// A block's flag in each row.
-#[derive(Clone, Copy)]
-struct BlockFlags {
-    listed: u8,
-    active_invalid: u8,
-    fixed: u8,
-}
-
-// Of a block that is not listed.
-const UNFLAGGED: BlockFlags = BlockFlags {
-    listed: 0,
-    active_invalid: 0,
-    fixed: 0,
-};
-
-// The flags of what a block is found to be, under a connection type.
-fn flags_of(b: Block, connection: u16) -> BlockFlags
-    ensures { result ≡ flags_in connection b }
+// The medium or the PHY of the block at the start of the rest of a leaf, where it is listed.
+fn medium_at(rest: &[u8], row: usize, level: u8) -> Option<Medium>
+    ensures { MatchOption result
+        ((medium : Medium) → block_of row level rest.now ≡ Listed medium → ⊥)
+        (λ medium. block_of row level rest.now ≡ Listed medium) }
 {
-    match b {
-        Block::Listed(medium) => BlockFlags {
-            listed: 1,
-            active_invalid: flag_of(medium.active_invalid),
-            fixed: flag_of(has_fixed_medium(medium, connection)),
-        },
-        Block::Reset { size: _ } => UNFLAGGED,
-        Block::Power { size: _, mode: _ } => UNFLAGGED,
-        Block::Unknown { size: _ } => UNFLAGGED,
-        Block::Refused(_) => UNFLAGGED,
+    let Ok(block) = block::judge_block(rest, row, level) else {
+        return None;
+    };
+    if let Block::Listed(medium) = block {
+        Some(medium)
+    } else {
+        None
     }
 }
 
@@ -194,57 +159,52 @@ fn rows_of(blocks: &[u8], count: u8, row: usize, level: u8, connection: u16) -> 
     let taken = chip::taken_as(connection);
     let mut rows = no_rows();
     let mut rest = blocks;
-    let mut k = 0u8;
-    while k < count {
-        let b = block::judge_block(rest, row, level);
-        let i = k as usize;
-        let flags = flags_of(b, taken);
-        rows.listed[i] = flags.listed;
-        rows.active_invalid[i] = flags.active_invalid;
-        rows.fixed[i] = flags.fixed;
-        let size = block::size_of(b);
+    for number in 0..usize::from(count) {
+        let size = if let Some(medium) = medium_at(rest, row, level) {
+            rows.listed[number] = 1;
+            rows.active_invalid[number] = u8::from(medium.active_invalid);
+            rows.fixed[number] = u8::from(has_fixed_medium(medium, taken));
+            medium.size
+        } else {
+            shape::size_at(rest, row)
+        };
         rest = &rest[size..];
-        k += 1;
     }
     rows
 }
 
 // Loads the leaf that the arguments name, if the reader accepts the image, 12 apart.
-pub fn load(walk: Walk, image: &[u8], arguments: Arguments) -> Walked
-    ensures { result ≡ load_for walk image.now arguments }
+pub fn load(walk: &mut Walk, image: &[u8], arguments: Arguments) -> Result<(), Refusal>
+    ensures { walked_from result walk.new ≡ load_for walk.old image.now arguments }
 {
     if walk.loaded {
-        return Walked {
-            number: refusal::LOADED,
-            walk,
-        };
+        return Err(Refusal::Loaded);
     }
-    let reading = reader::assess(image, arguments);
-    let answer = reading.answer;
-    let number = answer.number;
-    if number != refusal::ACCEPTED {
-        return Walked { number, walk };
-    }
-    let row = reading.row;
-    let rest = header::up_to_leaves_end(image, arguments.layout, reading.start);
-    let rows = rows_of(rest, answer.blocks, row, arguments.level, answer.connection);
-    let next = Walk {
+    let Reading { header, tally } = reader::judge(image, arguments)?;
+    *walk = Walk {
         loaded: true,
-        connection: answer.connection,
-        blocks: answer.blocks,
-        rows,
-        default_number: answer.default_number,
+        connection: header.connection,
+        blocks: header.blocks,
+        rows: rows_of(
+            header::up_to_leaves_end(image, arguments.layout, header.start),
+            header.blocks,
+            header.row,
+            arguments.level,
+            header.connection,
+        ),
+        default_number: tally.default_number.unwrap_or(NONE),
         settled: false,
         selected: NONE,
         looks: 0,
         switches: 0,
     };
-    Walked { number, walk: next }
+    Ok(())
 }
 
 // ## Looking
 
 // The way to walk under a connection type.
+#[tactic(auto, unfolding(walk::proofs::Computes::way_computes))]
 pub fn way_of(connection: u16) -> Way
     ensures { result ≡ way_of connection }
 {
@@ -255,277 +215,136 @@ pub fn way_of(connection: u16) -> Way
     }
 }
 
-// Whether a settled walk stays.
-fn is_once(way: Way) -> bool
-    ensures { result ≡ is_once way }
-{
-    match way {
-        Way::EveryLook => false,
-        Way::Once => true,
-        Way::Fixed => false,
-    }
-}
-
 // Whether looks go by the fixed medium.
 pub fn is_fixed(way: Way) -> bool
     ensures { result ≡ is_fixed way }
 {
-    match way {
-        Way::EveryLook => false,
-        Way::Once => false,
-        Way::Fixed => true,
-    }
+    matches!(way, Way::Fixed)
 }
 
 // Whether a block's flag is 1; there is none past the end.
+#[tactic(auto, unfolding(walk::specs::Walk::flag_at))]
 fn flag_at(row: &[u8], number: u8) -> bool
     ensures { result ≡ flag_at row.now number }
 {
-    let i = number as usize;
-    if i < row.len() {
-        return row[i] == 1;
-    }
-    false
+    row.get(usize::from(number)) == Some(&1)
 }
 
 // Whether a report has not a byte for each block, or one of those bytes is above 1.
 fn bad_report(report: &[u8], blocks: u8) -> bool
     ensures { result ≡ bad_report report.now blocks }
 {
-    let count = blocks as usize;
-    if report.len() < count {
-        return true;
+    match report.get(..usize::from(blocks)) {
+        Some(links) => links.iter().any(|link| 1 < *link),
+        None => true,
     }
-    let mut k = count;
-    while 0 < k {
-        k -= 1;
-        if 1 < report[k] {
-            return true;
-        }
-    }
-    false
 }
 
-// The last block below a count whose flag is 1, or NONE.
-fn last_flagged(row: &[u8], blocks: u8) -> u8
-    ensures { result ≡ last_below (flag_at row.now) blocks }
+// The last block below a count whose flag is 1.
+fn last_flagged(row: &[u8], blocks: u8) -> Option<u8>
+    ensures value { number_or_none result ≡ last_below (flag_at row.now) blocks }
+    ensures below { IfSome result (λ number. (number < blocks) × (number < none)) }
 {
-    let mut k = blocks;
-    while 0 < k {
-        k -= 1;
-        let flagged = flag_at(row, k);
-        if flagged {
-            return k;
-        }
-    }
-    NONE
+    (0..blocks).rfind(|number| flag_at(row, *number))
 }
 
-// The first block in table order, from the last block to the first, that has the fixed medium, or NONE.
-pub fn fixed_block(walk: Walk) -> u8
-    ensures { result ≡ fixed_block walk }
+// The first block in table order, from the last block to the first, that has the fixed medium.
+#[tactic(auto, unfolding(walk::specs::Walk::fixed_block))]
+pub fn fixed_block(walk: &Walk) -> Option<u8>
+    ensures value { number_or_none result ≡ fixed_block walk.now }
+    ensures below { IfSome result (λ number. (number < walk.now.blocks) × (number < none)) }
 {
-    let rows = walk.rows;
-    let fixed = rows.fixed;
-    last_flagged(&fixed, walk.blocks)
+    last_flagged(&walk.rows.fixed, walk.blocks)
 }
 
-// What a look goes by: whether the type is fixed, and the block that then has its medium, or NONE.
-#[derive(Clone, Copy)]
-struct Aim {
-    fixed: bool,
-    block: u8,
-}
-
-fn aim_of(walk: Walk) -> Aim
-    ensures { result ≡ aim_of walk }
+// Step 1: whether a walk that is settled with a block selected stays there: it is autosensed once, or the block has
+// Active_Invalid, or is up.
+#[tactic(auto, unfolding(walk::specs::Walk::stays))]
+fn stays_there(walk: &Walk, report: &[u8]) -> bool
+    ensures { result ≡ stays walk.now report.now }
 {
-    let fixed = is_fixed(way_of(walk.connection));
-    if fixed {
-        return Aim {
-            fixed: true,
-            block: fixed_block(walk),
-        };
-    }
-    Aim {
-        fixed: false,
-        block: NONE,
-    }
-}
-
-// Whether the type is fixed and no listed block has its medium.
-fn lacks_medium(aim: Aim) -> bool
-    ensures { result ≡ (aim.fixed && eqb aim.block none) }
-{
-    if aim.fixed {
-        return aim.block == NONE;
-    }
-    false
-}
-
-// Why a look is refused.
-fn look_refusal(walk: Walk, aim: Aim, report: &[u8]) -> u8
-    requires { aim ≡ aim_of walk }
-    ensures { result ≡ first_met (look_causes walk report.now) }
-{
-    if !walk.loaded {
-        return refusal::FRESH;
-    }
-    let lacks = lacks_medium(aim);
-    if lacks {
-        return refusal::NO_FIXED_MEDIUM;
-    }
-    if walk.looks == MOST_LOOKS {
-        return refusal::LOOKS;
-    }
-    let bad = bad_report(report, walk.blocks);
-    if bad {
-        return refusal::REPORT;
-    }
-    refusal::ACCEPTED
-}
-
-// Whether a selected block is kept: it has Active_Invalid, or it is up.
-fn is_kept(active_invalid: &[u8], report: &[u8], number: u8) -> bool
-    ensures { result ≡ (flag_at active_invalid.now number || is_up report.now number) }
-{
-    let invalid = flag_at(active_invalid, number);
-    if invalid {
-        return true;
-    }
-    flag_at(report, number)
-}
-
-// Step 1: whether a walk that is settled with a block selected stays there.
-fn stays_there(walk: Walk, report: &[u8]) -> bool
-    ensures { result ≡ stays walk report.now }
-{
-    if !walk.settled {
-        return false;
-    }
-    let selected = walk.selected;
-    if selected == NONE {
-        return false;
-    }
-    let once = is_once(way_of(walk.connection));
-    if once {
-        return true;
-    }
-    let rows = walk.rows;
-    let active_invalid = rows.active_invalid;
-    is_kept(&active_invalid, report, selected)
+    walk.settled
+        && walk.selected != NONE
+        && (matches!(way_of(walk.connection), Way::Once)
+            || flag_at(&walk.rows.active_invalid, walk.selected)
+            || flag_at(report, walk.selected))
 }
 
 // Whether a block is a candidate: listed, and once settled without Active_Invalid.
-fn is_candidate(listed: &[u8], active_invalid: &[u8], settled: bool, number: u8) -> bool
-    ensures { result ≡ is_candidate listed.now active_invalid.now settled number }
+#[tactic(auto, unfolding(walk::specs::Walk::is_candidate))]
+fn is_candidate(rows: &Rows, settled: bool, number: u8) -> bool
+    ensures { result ≡ is_candidate rows.now.listed rows.now.active_invalid settled number }
 {
-    let is_listed = flag_at(listed, number);
-    if !is_listed {
-        return false;
-    }
-    if !settled {
-        return true;
-    }
-    let invalid = flag_at(active_invalid, number);
-    !invalid
+    flag_at(&rows.listed, number) && !(settled && flag_at(&rows.active_invalid, number))
 }
 
-// The first candidate in table order, from the last block to the first, that is up.
-fn first_up(listed: &[u8], active_invalid: &[u8], settled: bool, report: &[u8], blocks: u8) -> u8
-    ensures { result ≡ first_up listed.now active_invalid.now settled report.now blocks }
+// Step 2: the first candidate in table order, from the last block to the first, that is up.
+#[tactic(auto, unfolding(walk::specs::Walk::first_up))]
+fn first_up(rows: &Rows, settled: bool, report: &[u8], blocks: u8) -> Option<u8>
+    ensures value { number_or_none result ≡ first_up rows.now.listed rows.now.active_invalid settled report.now blocks }
+    ensures below { IfSome result (λ number. number < none) }
 {
-    let mut k = blocks;
-    while 0 < k {
-        k -= 1;
-        let candidate = is_candidate(listed, active_invalid, settled, k);
-        if candidate {
-            let up = flag_at(report, k);
-            if up {
-                return k;
-            }
-        }
-    }
-    NONE
-}
-
-// Steps 1 and 2: what a look selects where the type is autosensed.
-fn sense(walk: Walk, report: &[u8]) -> Choice
-    ensures { result ≡ sensed walk report.now }
-{
-    let stays = stays_there(walk, report);
-    if stays {
-        return Choice {
-            settled: walk.settled,
-            selected: walk.selected,
-        };
-    }
-    let rows = walk.rows;
-    let listed = rows.listed;
-    let active_invalid = rows.active_invalid;
-    let up = first_up(&listed, &active_invalid, walk.settled, report, walk.blocks);
-    if up == NONE {
-        return Choice {
-            settled: walk.settled,
-            selected: walk.default_number,
-        };
-    }
-    Choice {
-        settled: true,
-        selected: up,
-    }
-}
-
-// What a look selects.
-fn choose(walk: Walk, aim: Aim, report: &[u8]) -> Choice
-    requires { aim ≡ aim_of walk }
-    ensures { result ≡ chosen walk report.now }
-{
-    if aim.fixed {
-        return Choice {
-            settled: true,
-            selected: aim.block,
-        };
-    }
-    sense(walk, report)
+    (0..blocks).rfind(|number| is_candidate(rows, settled, *number) && flag_at(report, *number))
 }
 
 // The switches after a look; at their most they stay, which no look of a walk meets that began fresh.
+#[tactic(auto, unfolding(walk::specs::Walk::switched, rom::specs::Bytes::pick))]
 fn count_switch(switches: u16, before: u8, after: u8) -> u16
     ensures { result ≡ switched switches before after }
 {
     if before == after {
-        return switches;
+        switches
+    } else {
+        switches.saturating_add(1)
     }
-    if switches == MOST_LOOKS {
-        return switches;
-    }
-    switches + 1
 }
 
-// Steps 1 to 3.
-fn step(walk: Walk, aim: Aim, report: &[u8]) -> Walk
-    requires { (aim ≡ aim_of walk) × (walk.looks ≡ 65535 → ⊥) }
-    ensures { result ≡ stepped walk report.now }
+// Steps 1 and 2: the block that a look settles on where the type is autosensed. Where there is none, it selects the default.
+#[tactic(auto, using(crate::proofs::Steps::sensed_staying, crate::proofs::Steps::sensed_up), unfolding(walk::specs::Walk::up_in))]
+fn sense(walk: &Walk, report: &[u8]) -> Option<u8>
+    ensures { choice_from walk.now result ≡ sensed walk.now report.now }
 {
-    let choice = choose(walk, aim, report);
-    let mut next = walk;
-    next.switches = count_switch(walk.switches, walk.selected, choice.selected);
-    next.settled = choice.settled;
-    next.selected = choice.selected;
-    next.looks = walk.looks + 1;
-    next
+    if stays_there(walk, report) {
+        Some(walk.selected)
+    } else {
+        first_up(&walk.rows, walk.settled, report, walk.blocks)
+    }
+}
+
+// The block that a look settles on where the type is fixed: refused where no listed block has the medium.
+#[tactic(auto, unfolding(rom::specs::Refusal::first_met, rom::specs::Bytes::pick, walk::specs::Walk::chosen))]
+fn fixed_choice(walk: &Walk) -> Result<Option<u8>, Refusal>
+    ensures number { answer_number result
+        ≡ first_met ((32 ⇒ is_fixed (way_of walk.now.connection) && eqb (fixed_block walk.now) none) ∷ []) }
+    ensures block { (report : List ℕ) → IfOk result (λ fixed. MatchOption fixed
+        (sensed walk.now report ≡ chosen walk.now report)
+        (λ block. choice true block ≡ chosen walk.now report)) }
+{
+    if !is_fixed(way_of(walk.connection)) {
+        return Ok(None);
+    }
+    let block = fixed_block(walk).ok_or(Refusal::NoFixedMedium)?;
+    Ok(Some(block))
 }
 
 // One look at the links: a report has a byte for each block, 1 up, 0 down.
-pub fn look(walk: Walk, report: &[u8]) -> Walked
-    ensures { result ≡ look_for walk report.now }
+#[tactic(auto, unfolding(walk::proofs::Computes::refusal_computes))]
+pub fn look(walk: &mut Walk, report: &[u8]) -> Result<(), Refusal>
+    ensures { walked_from result walk.new ≡ look_for walk.old report.now }
 {
-    let aim = aim_of(walk);
-    let number = look_refusal(walk, aim, report);
-    if number != refusal::ACCEPTED {
-        return Walked { number, walk };
+    if !walk.loaded {
+        return Err(Refusal::Fresh);
     }
-    let next = step(walk, aim, report);
-    Walked { number, walk: next }
+    let fixed = fixed_choice(walk)?;
+    let looks = walk.looks.checked_add(1).ok_or(Refusal::Looks)?;
+    if bad_report(report, walk.blocks) {
+        return Err(Refusal::Report);
+    }
+    let block = fixed.or_else(|| sense(walk, report));
+    let selected = block.unwrap_or(walk.default_number);
+    walk.switches = count_switch(walk.switches, walk.selected, selected);
+    walk.settled |= block.is_some();
+    walk.selected = selected;
+    walk.looks = looks;
+    Ok(())
 }

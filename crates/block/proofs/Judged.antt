@@ -6,13 +6,13 @@ use mathlib.Core.List.{List}
 use borrow.Author.Tests.{eq-eqb, ne_eqb}
 use Rattle.rom.specs.Bytes.{pick, byte_at, bit}
 use Rattle.rom.specs.Refusal.{first_met}
-use Rattle.block.specs.declared.Block.{Block}
-use Rattle.block.specs.declared.Block.TheVariants.{Refused}
+use Rattle.block.specs.Answer.{Verdict}
+use Rattle.block.specs.Answer.{Refused}
 use Rattle.format.specs.Block.{Facts, length_of, sia_size, length_for, is_wrong}
 use Rattle.block.specs.Inside.{judged}
 use Rattle.block.specs.Answer.{answered}
 
-module _ (f : Facts) (b : Block) where
+module _ (f : Facts) (b : Verdict) where
   pub wrong-length : f.wrong_length ≡ true → Refused 15 ≡ judged f b
   unfolding judged answered first_met pick
   wrong-length e = rw e

@@ -1,3 +1,4 @@
+pub mod Computes
 pub mod Judged
 pub mod Phy
 pub mod Advertised

@@ -8,8 +8,8 @@ use mathlib.Core.List.{List}
 use lib.Dec.{ltb}
 use Rattle.rom.specs.Geometry.{none}
 use Rattle.rom.specs.Bytes.{pick, byte_at, word_at}
-use Rattle.block.specs.declared.Block.{Block}
-use Rattle.block.specs.declared.Block.TheVariants.{Listed}
+use Rattle.block.specs.Answer.{Verdict}
+use Rattle.block.specs.Answer.{Listed}
 use Rattle.format.specs.Block.{length_of, g_count, r_count, capabilities_at, length_for, is_wrong, exceeds}
 use Rattle.block.specs.Inside.{phy_length}
 use Rattle.block.proofs.Judged.{is-wrong, is_right}
@@ -28,7 +28,7 @@ unfolding length_for phy_length pick
 type-3 s = omega arith
 
 -- a PHY, which is reset or not, with its capabilities
-abbrev pub listed_phy : ℕ → ℕ → Bool → ℕ → Block
+abbrev pub listed_phy : ℕ → ℕ → Bool → ℕ → Verdict
 listed_phy kind size resets capabilities =
     Listed
     (record {

@@ -10,15 +10,15 @@ use borrow.Author.Tests.{ltb-false, eqb-true}
 use Rattle.rom.specs.Geometry.{none}
 use Rattle.rom.specs.Bytes.{pick, one, byte_at}
 use Rattle.rom.proofs.First.{none_here}
-use Rattle.block.specs.declared.Block.{Block}
-use Rattle.block.specs.declared.Block.TheVariants.{Reset, Power, Unknown, Refused}
+use Rattle.block.specs.Answer.{Verdict}
+use Rattle.block.specs.Answer.{Reset, Power, Unknown, Refused}
 use Rattle.format.specs.Block.{Facts, size_of, kind_of, is_known, sequence, facts_of, is_listed, is_power, is_default, resets_a_phy, causes}
 use Rattle.format.specs.Block.{refusal_of}
 use Rattle.block.specs.Answer.{listed, found, answered, block_in, block_of, number_of, size_in, listed_in, kind_in, invalid_in, default_in}
 use Rattle.block.specs.Answer.{phy_reset_in, code_in, capabilities_in, mode_in}
 use Rattle.block.specs.Claims.{AnswersRefusal, AnswersEntry, AnswersMedium, AnswersFlags, AnswersMode, AnswersRefused}
 
-pub data SeenAs (row level : ℕ) (s : List ℕ) : Block → Type 0 where
+pub data SeenAs (row level : ℕ) (s : List ℕ) : Verdict → Type 0 where
   refused : (n : ℕ) → refusal_of row level s ≡ n → (n ≡ 0 → ⊥) → SeenAs row level s (Refused n)
   unknown : refusal_of row level s ≡ 0 → is_known level (kind_of row s) ≡ false → SeenAs row level s (Unknown (size_of row s))
   a-reset : refusal_of row level s ≡ 0 → is_known level (kind_of row s) ≡ true → kind_of row s ≡ 5
@@ -50,14 +50,14 @@ seen_as row level s =
     go zero e false f u g v h = unknown e f
     go (suc n) e t f u g v h = rw (eqb-suc-zero n) (refused (suc n) e (λ z. omega arith))
 
-pub seen-number : {row level : ℕ} {s : List ℕ} {b : Block} → SeenAs row level s b → number_of b ≡ refusal_of row level s
+pub seen-number : {row level : ℕ} {s : List ℕ} {b : Verdict} → SeenAs row level s b → number_of b ≡ refusal_of row level s
 seen-number (refused n e h) = sym e
 seen-number (unknown e f) = sym e
 seen-number (a-reset e f g) = sym e
 seen-number (a-power e f g) = sym e
 seen-number (a-medium e f g) = sym e
 
-pub seen_size : {row level : ℕ} {s : List ℕ} {b : Block} → SeenAs row level s b → number_of b ≡ 0 → size_in b ≡ size_of row s
+pub seen_size : {row level : ℕ} {s : List ℕ} {b : Verdict} → SeenAs row level s b → number_of b ≡ 0 → size_in b ≡ size_of row s
 seen_size (refused n e h) z = absurd (h z)
 seen_size (unknown e f) z = refl
 seen_size (a-reset e f g) z = refl
@@ -65,7 +65,7 @@ seen_size (a-power e f g) z = refl
 seen_size (a-medium e f g) z = refl
 
 -- whether it is listed
-pub seen-listed : {row level : ℕ} {s : List ℕ} {b : Block} → SeenAs row level s b → number_of b ≡ 0 → one (is_listed row level s)
+pub seen-listed : {row level : ℕ} {s : List ℕ} {b : Verdict} → SeenAs row level s b → number_of b ≡ 0 → one (is_listed row level s)
     ≡ listed_in b
 unfolding is_listed
 seen-listed (refused n e h) z = absurd (h z)
@@ -75,10 +75,10 @@ seen-listed (a-power e f g) z = let h = rw g at f in simp (g, h)
 seen-listed (a-medium e f g) z = simp (f, g.0, g.1)
 
 -- a value that a listed block has and no other has
-pub of-listed : {A : Type 0} (value : Block → A) (other : A)
+pub of-listed : {A : Type 0} (value : Verdict → A) (other : A)
     → ((size : ℕ) → value (Reset size) ≡ other) × ((size mode : ℕ) → value (Power size mode) ≡ other)
     × ((size : ℕ) → value (Unknown size) ≡ other)
-    → {row level : ℕ} {s : List ℕ} {b : Block} → SeenAs row level s b → number_of b ≡ 0
+    → {row level : ℕ} {s : List ℕ} {b : Verdict} → SeenAs row level s b → number_of b ≡ 0
     → value b ≡ pick (is_listed row level s) (value (listed (kind_of row s) (size_of row s) (facts_of (kind_of row s) s))) other
 unfolding is_listed pick
 of-listed value other none_of (refused n e h) z = absurd (h z)
@@ -104,14 +104,14 @@ flag-of-listed flag none_of row level s = go (is_known level kind) (eqb kind 5) 
     go true false true g h = rw (h refl) (sym (none_of _ _))
     go true false false g h = refl
 
-pub seen-kind : {row level : ℕ} {s : List ℕ} {b : Block} → SeenAs row level s b → 0 < listed_in b → kind_in b ≡ kind_of row s
+pub seen-kind : {row level : ℕ} {s : List ℕ} {b : Verdict} → SeenAs row level s b → 0 < listed_in b → kind_in b ≡ kind_of row s
 seen-kind (refused n e h) l = absurd (omega arith)
 seen-kind (unknown e f) l = absurd (omega arith)
 seen-kind (a-reset e f g) l = absurd (omega arith)
 seen-kind (a-power e f g) l = absurd (omega arith)
 seen-kind (a-medium e f g) l = refl
 
-pub seen-mode : {row level : ℕ} {s : List ℕ} {b : Block} → SeenAs row level s b → number_of b ≡ 0
+pub seen-mode : {row level : ℕ} {s : List ℕ} {b : Verdict} → SeenAs row level s b → number_of b ≡ 0
     → mode_in b ≡ pick (is_power row level s) (facts_of (kind_of row s) s).mode 0
 unfolding is_power pick
 seen-mode (refused n e h) z = absurd (h z)
@@ -168,7 +168,7 @@ answers-mode row level s e =
     go false t h = refl
 
 -- a refusal, in each version
-refused-answer : (n : ℕ) (b : Block) → (n ≡ 0 → ⊥) → answered n b ≡ Refused n
+refused-answer : (n : ℕ) (b : Verdict) → (n ≡ 0 → ⊥) → answered n b ≡ Refused n
 unfolding answered pick
 refused-answer zero b h = absurd (h refl)
 refused-answer (suc n) b h = rw (eqb-suc-zero n)

@@ -9,8 +9,8 @@ use borrow.Author.Tests.{lt-ltb, not-true, not-false}
 use Rattle.rom.specs.Bytes.{pick}
 use Rattle.rom.specs.Refusal.{first_met}
 use Rattle.rom.proofs.Truth.{true-false}
-use Rattle.block.specs.declared.Block.{Block}
-use Rattle.block.specs.declared.Block.TheVariants.{Refused}
+use Rattle.block.specs.Answer.{Verdict}
+use Rattle.block.specs.Answer.{Refused}
 use Rattle.format.specs.Block.{is_extended, size_of, causes, refusal_in, refusal_of}
 use Rattle.format.proofs.Exact.{extended-refused, others-alike}
 use Rattle.format.proofs.Levels.{later-accepts}
@@ -27,8 +27,8 @@ answers-first first row level s = (go (refusal_in first row level s) refl, λ e.
     go (suc n) e = rw (eqb-suc-zero n)
 
 -- so, in the terms of the code, where b is what it is found to be and n its number
-pub found-later : (first : Bool) (row level : ℕ) (s : List ℕ) {b : Block} {n : ℕ} → b ≡ block_in first row level s → n ≡ number_of b → n ≡ 0
-    → b ≡ block_of row level s
+pub found-later : (first : Bool) (row level : ℕ) (s : List ℕ) {b : Verdict} {n : ℕ} → b ≡ block_in first row level s → n ≡ number_of b
+    → n ≡ 0 → b ≡ block_of row level s
 found-later first row level s eb en e =
     let number = ap number_of eb ∙ (answers-first first row level s).0 in
     eb ∙ (answers-first first row level s).1 (sym number ∙ sym en ∙ e)
@@ -39,30 +39,26 @@ alike-judged : (first : Bool) (row level : ℕ) (s : List ℕ) → refusal_in fi
 unfolding block_in block_of answered pick
 alike-judged first row level s e = rw e (go (refusal_of row level s) _)
   where
-    go : (n : ℕ) (b : Block) → pick (eqb n 0) b (Refused n) ≡ pick (eqb n 0) (pick (eqb n 0) b (Refused n)) (Refused n)
+    go : (n : ℕ) (b : Verdict) → pick (eqb n 0) b (Refused n) ≡ pick (eqb n 0) (pick (eqb n 0) b (Refused n)) (Refused n)
     go zero b = refl
     go (suc n) b = rw (eqb-suc-zero n)
 
 -- ## The steps of `judge_in` in its own terms: x is whether the block is extended, z its size
 
-pub judged-later : (first : Bool) (row level : ℕ) (s : List ℕ) {b : Block} → not first ≡ true → b ≡ block_of row level s
+pub judged-later : (first : Bool) (row level : ℕ) (s : List ℕ) {b : Verdict} → first ≡ false → b ≡ block_of row level s
     → b ≡ block_in first row level s
 unfolding refusal_in refusal_of
-judged-later true row level s e eb = true-false (sym e)
-judged-later false row level s e eb = eb ∙ alike-judged false row level s refl
+judged-later first row level s e eb = rw e (eb ∙ alike-judged false row level s refl)
 
-module _ (first : Bool) (row level : ℕ) (s : List ℕ) (e : not first ≡ false) {x : Bool} (ex : x ≡ is_extended row s) where
-  is-first : first ≡ true
-  is-first = not-false first e
+module _ (first : Bool) (row level : ℕ) (s : List ℕ) (e : first ≡ true) {x : Bool} (ex : x ≡ is_extended row s) where
+  pub judged-alike : {b : Verdict} → x ≡ false → b ≡ block_of row level s → b ≡ block_in first row level s
+  judged-alike n eb = rw e (eb ∙ alike-judged true row level s (others-alike row level s (sym ex ∙ n)))
 
-  pub judged-alike : {b : Block} → not x ≡ true → b ≡ block_of row level s → b ≡ block_in first row level s
-  judged-alike n eb = rw is-first (eb ∙ alike-judged true row level s (others-alike row level s (sym ex ∙ not-true x n)))
-
-  module _ (n : not x ≡ false) {z : ℕ} (ez : z ≡ size_of row s) where
+  module _ (n : x ≡ true) {z : ℕ} (ez : z ≡ size_of row s) where
     pub judged-past : length s < z → Refused 13 ≡ block_in first row level s
     unfolding block_in refusal_in causes first_met answered pick
-    judged-past h = rw is-first (simp (lt-ltb (length s) (size_of row s) (rw ez at h)))
+    judged-past h = rw e (simp (lt-ltb (length s) (size_of row s) (rw ez at h)))
 
     pub judged-extended : z ≤ length s → Refused 14 ≡ block_in first row level s
     unfolding block_in answered pick
-    judged-extended h = rw is-first (rw (extended-refused row level s (sym ex ∙ not-false x n) (rw ez at h)))
+    judged-extended h = rw e (rw (extended-refused row level s (sym ex ∙ n) (rw ez at h)))

@@ -9,8 +9,8 @@ use lib.ListN.{length}
 use borrow.Author.Tests.{ne_eqb, lt-ltb, le-ltb, le-leb, lt-leb}
 use Rattle.rom.specs.Bytes.{pick, bit, byte_at}
 use Rattle.rom.specs.Refusal.{first_met}
-use Rattle.block.specs.declared.Block.{Block}
-use Rattle.block.specs.declared.Block.TheVariants.{Unknown, Refused}
+use Rattle.block.specs.Answer.{Verdict}
+use Rattle.block.specs.Answer.{Unknown, Refused}
 use Rattle.format.specs.Chips.{row21041, kind_compact, kind21041, newest_level, is_permitted}
 use Rattle.format.specs.Block.{is21041, is_extended, length_of, sia_size, size_of, kind_of, is_known, causes, refusal_of}
 use Rattle.block.specs.Inside.{judged, judged_as}
@@ -104,7 +104,7 @@ module _ (level row : ℕ) (s : List ℕ) {len : ℕ} (other : row ≡ row21041 
         pub extended-type : p ≡ true → byte_at s 1 < newest_level
         extended-type g = permitted-type row (byte_at s 1) (sym ep ∙ g) byte
 
-        pub extended-fields : {b : Block} → p ≡ true → b ≡ judged_as (byte_at s 1) (1 + len) s → b ≡ block_of row level s
+        pub extended-fields : {b : Verdict} → p ≡ true → b ≡ judged_as (byte_at s 1) (1 + len) s → b ≡ block_of row level s
         extended-fields g eb =
             rw e at eb
             ∙ by-fields level (extended-form row s other high) (omega arith) (ne_eqb (length_of s) 0 (λ z. some (e ∙ z)))

@@ -2,7 +2,7 @@
 use Rattle.std.specs.Prelude.{ℕ, ◌≡◌, Bool, true, ◌&&◌, List, take}
 use Rattle.rom.specs.Geometry.{none}
 use Rattle.rom.specs.Bytes.{pick, one, byte_at, Bytes}
-use Rattle.block.specs.declared.Block.TheVariants.{Refused}
+use Rattle.block.specs.Answer.{Refused}
 use Rattle.format.specs.Block.{size_of, kind_of, is_known, facts_of, is_listed, is_power, is_default, resets_a_phy, refusal_in, refusal_of}
 use Rattle.block.specs.Answer.{block_in, block_of, number_of, size_in, listed_in, kind_in, invalid_in, default_in, phy_reset_in}
 use Rattle.block.specs.Answer.{code_in, capabilities_in, mode_in}

@@ -3,7 +3,6 @@
 #![tactic(auto)]
 
 pub mod chip;
-mod search;
 pub mod shape;
 
 ghost use Rattle.std.specs.Prelude.{◌≡◌, false, ℕ, ◌+◌, ◌≤◌, ◌<◌};
@@ -12,11 +11,11 @@ ghost use Rattle.format.specs.Chips.{row21041, newest_level};
 ghost use Rattle.format.specs.Block.{length_of, sia_size, counts_as_default, exceeds, length_for, is_wrong, sia, port, symbol};
 ghost use Rattle.format.specs.Block.{phy, sequence};
 ghost use Rattle.block.specs.Inside.{as_medium, as_power, judged, judged_as, phy_length};
-ghost use Rattle.block.specs.Answer.{block_in, block_of, number_of, size_in, listed_in, mode_in};
+ghost use Rattle.block.specs.Answer.{block_in, block_of, found_as, verdict_of, size_in, listed_in, mode_in};
+ghost use Rattle.block.specs.Answer.{Reset};
 
 use chip::{ROW_21041, is_permitted};
-use rom::{ByteOffset, NONE, count_at, refusal};
-use search::is_in;
+use rom::{ByteOffset, NONE, Refusal, count_at};
 
 // The kind of a compact block. An extended block's kind is its type.
 pub const KIND_COMPACT: u16 = 256;
@@ -34,14 +33,12 @@ const DEFAULT: u16 = 14;
 
 const ACTIVE_INVALID: u16 = 15;
 
-// Media codes of the 21041 and type 2, of compact and type 0, of type 4, and those for which Default does not count.
-const SIA_CODES: [u16; 4] = [0, 1, 2, 4];
+// Media codes of the 21041 and type 2, of compact and type 0, and of type 4.
+const SIA_CODES: [u8; 4] = [0, 1, 2, 4];
 
-const PORT_CODES: [u16; 8] = [0, 1, 3, 4, 5, 6, 7, 8];
+const PORT_CODES: [u8; 8] = [0, 1, 3, 4, 5, 6, 7, 8];
 
-const SYM_CODES: [u16; 5] = [3, 5, 6, 7, 8];
-
-const NEVER_DEFAULT: [u16; 3] = [4, 5, 8];
+const SYM_CODES: [u8; 5] = [3, 5, 6, 7, 8];
 
 // What is said of a listed block, a medium or a PHY. A PHY has no media code, NONE, and a medium no capabilities, 0.
 #[derive(Clone, Copy)]
@@ -62,62 +59,40 @@ pub enum Block {
     Reset { size: usize },
     Power { size: usize, mode: u8 },
     Unknown { size: usize },
-    Refused(u8),
 }
 
-// A refusal's number, or 0.
-pub fn number_of(block: Block) -> u8
-    ensures { result ≡ number_of block }
-{
-    match block {
-        Block::Listed(_) => refusal::ACCEPTED,
-        Block::Reset { size: _ } => refusal::ACCEPTED,
-        Block::Power { size: _, mode: _ } => refusal::ACCEPTED,
-        Block::Unknown { size: _ } => refusal::ACCEPTED,
-        Block::Refused(number) => number,
+impl Block {
+    // How far the next block is.
+    pub fn size(self) -> usize
+        ensures { result ≡ size_in (found_as self) }
+    {
+        match self {
+            Block::Listed(medium) => medium.size,
+            Block::Reset { size } | Block::Power { size, .. } | Block::Unknown { size } => size,
+        }
     }
-}
 
-// How far the next block is; 0 where the block is refused.
-pub fn size_of(block: Block) -> usize
-    ensures { result ≡ size_in block }
-{
-    match block {
-        Block::Listed(medium) => medium.size,
-        Block::Reset { size } => size,
-        Block::Power { size, mode: _ } => size,
-        Block::Unknown { size } => size,
-        Block::Refused(_) => 0,
+    // How many entries of the table it has: 1 where it is listed, else 0.
+    pub fn entries(self) -> usize
+        ensures { result ≡ listed_in (found_as self) }
+    {
+        usize::from(matches!(self, Block::Listed(_)))
     }
-}
 
-// How many entries of the table a block has: 1 where it is listed, else 0.
-pub fn listed_of(block: Block) -> usize
-    ensures { result ≡ listed_in block }
-{
-    match block {
-        Block::Listed(_) => 1,
-        Block::Reset { size: _ } => 0,
-        Block::Power { size: _, mode: _ } => 0,
-        Block::Unknown { size: _ } => 0,
-        Block::Refused(_) => 0,
-    }
-}
-
-// The mode byte of a power block; 0 where it is none.
-pub fn mode_of(block: Block) -> u8
-    ensures { result ≡ mode_in block }
-{
-    match block {
-        Block::Listed(_) => 0,
-        Block::Reset { size: _ } => 0,
-        Block::Power { size: _, mode } => mode,
-        Block::Unknown { size: _ } => 0,
-        Block::Refused(_) => 0,
+    // The mode byte of a power block; 0 where it is none.
+    pub fn mode(self) -> u8
+        ensures { result ≡ mode_in (found_as self) }
+    {
+        if let Block::Power { mode, .. } = self {
+            mode
+        } else {
+            0
+        }
     }
 }
 
 // Bit k of a word.
+#[tactic(auto, unfolding(rom::specs::Bytes::bit))]
 fn has_bit(k: u16, x: u16) -> bool
     requires { k < 16 }
     ensures { result ≡ bit k x }
@@ -126,29 +101,19 @@ fn has_bit(k: u16, x: u16) -> bool
 }
 
 // The size of a 21041 block with this code byte: 7 with EXT, 1 without.
+#[tactic(auto, unfolding(format::specs::Block::sia_size, rom::specs::Bytes::pick))]
 pub fn sia_size(code: u8) -> usize
     ensures { (result ≡ sia_size code) × (result ≤ 7) }
 {
-    let ext = has_bit(EXT, code as u16);
-    if ext {
-        return 7;
-    }
-    1
+    if has_bit(EXT, u16::from(code)) { 7 } else { 1 }
 }
 
 // Whether the Default bit counts: not with Active_Invalid, nor with the codes 4, 5, 8.
-fn counts_as_default(code: u16, command: u16) -> bool
+#[tactic(auto, unfolding(format::specs::Block::counts_as_default, format::specs::Chips::never_default, rom::specs::Bytes::is_in))]
+fn counts_as_default(code: u8, command: u16) -> bool
     ensures { result ≡ counts_as_default code command }
 {
-    let active_invalid = has_bit(ACTIVE_INVALID, command);
-    if active_invalid {
-        return false;
-    }
-    let never = is_in(code, &NEVER_DEFAULT);
-    if never {
-        return false;
-    }
-    has_bit(DEFAULT, command)
+    !has_bit(ACTIVE_INVALID, command) && !matches!(code, 4 | 5 | 8) && has_bit(DEFAULT, command)
 }
 
 // Whether advertisement bits 9:5 have a 1 where capability bits 15:11 have none.
@@ -161,19 +126,18 @@ fn advertises_more(advertisement: u16, capabilities: u16) -> bool
 }
 
 // The 21041's block and type 2: code byte at `at`, EXT in its bit 6.
-fn judge_sia(rest: &[u8], at: usize, kind: u16, size: usize) -> Block
-    ensures { result ≡ as_medium kind size (sia false at rest.now) }
+fn judge_sia(rest: &[u8], at: usize, kind: u16, size: usize) -> Result<Block, Refusal>
+    ensures { verdict_of result ≡ as_medium kind size (sia false at rest.now) }
 {
     let code = rom::byte_at(rest, ByteOffset(at));
     if 128 <= code {
-        return Block::Refused(refusal::BLOCK_CODE);
+        return Err(Refusal::BlockCode);
     }
     let media_code = code % 64;
-    let fine = is_in(media_code as u16, &SIA_CODES);
-    if !fine {
-        return Block::Refused(refusal::BLOCK_CODE);
+    if !SIA_CODES.contains(&media_code) {
+        return Err(Refusal::BlockCode);
     }
-    Block::Listed(Medium {
+    Ok(Block::Listed(Medium {
         kind,
         size,
         media_code,
@@ -181,30 +145,29 @@ fn judge_sia(rest: &[u8], at: usize, kind: u16, size: usize) -> Block
         active_invalid: false,
         is_default: false,
         resets_phy: false,
-    })
+    }))
 }
 
 // Compact and type 0: code byte, port data, command word from `at` on.
-fn judge_port(rest: &[u8], at: usize, kind: u16, size: usize) -> Block
+fn judge_port(rest: &[u8], at: usize, kind: u16, size: usize) -> Result<Block, Refusal>
     requires { at ≤ 2 }
-    ensures { result ≡ as_medium kind size (port false at rest.now) }
+    ensures { verdict_of result ≡ as_medium kind size (port false at rest.now) }
 {
     let code = rom::byte_at(rest, ByteOffset(at));
     if 64 <= code {
-        return Block::Refused(refusal::BLOCK_CODE);
+        return Err(Refusal::BlockCode);
     }
     let media_code = code % 64;
-    let fine = is_in(media_code as u16, &PORT_CODES);
-    if !fine {
-        return Block::Refused(refusal::BLOCK_CODE);
+    if !PORT_CODES.contains(&media_code) {
+        return Err(Refusal::BlockCode);
     }
     let command = rom::word_at(rest, ByteOffset(at + 2));
     if command / 256 % 64 != 0 {
-        return Block::Refused(refusal::BLOCK_CODE);
+        return Err(Refusal::BlockCode);
     }
     let active_invalid = has_bit(ACTIVE_INVALID, command);
-    let is_default = counts_as_default(media_code as u16, command);
-    Block::Listed(Medium {
+    let is_default = counts_as_default(media_code, command);
+    Ok(Block::Listed(Medium {
         kind,
         size,
         media_code,
@@ -212,53 +175,52 @@ fn judge_port(rest: &[u8], at: usize, kind: u16, size: usize) -> Block
         active_invalid,
         is_default,
         resets_phy: false,
-    })
+    }))
 }
 
 // Type 0, length 5: the compact form's four bytes.
-fn judge_type_0(rest: &[u8], len: usize) -> Block
+fn judge_type_0(rest: &[u8], len: usize) -> Result<Block, Refusal>
     requires { (len ≡ length_of rest.now) × (len < 128) }
-    ensures { result ≡ as_medium 0 (1 + len) (port (is_wrong 0 rest.now) 2 rest.now) }
+    ensures { verdict_of result ≡ as_medium 0 (1 + len) (port (is_wrong 0 rest.now) 2 rest.now) }
 {
     if len != 5 {
-        return Block::Refused(refusal::BLOCK_LENGTH);
+        return Err(Refusal::BlockLength);
     }
     judge_port(rest, 2, 0, 1 + len)
 }
 
 // Type 2, length 6, or 12 if EXT.
-fn judge_type_2(rest: &[u8], len: usize) -> Block
+fn judge_type_2(rest: &[u8], len: usize) -> Result<Block, Refusal>
     requires { (len ≡ length_of rest.now) × (len < 128) }
-    ensures { result ≡ as_medium 2 (1 + len) (sia (is_wrong 2 rest.now) 2 rest.now) }
+    ensures { verdict_of result ≡ as_medium 2 (1 + len) (sia (is_wrong 2 rest.now) 2 rest.now) }
 {
     let size = sia_size(rom::byte_at(rest, ByteOffset(2)));
     if len != 5 + size {
-        return Block::Refused(refusal::BLOCK_LENGTH);
+        return Err(Refusal::BlockLength);
     }
     judge_sia(rest, 2, 2, 1 + len)
 }
 
 // Type 4, length 8: code byte, two words, command word.
-fn judge_type_4(rest: &[u8], len: usize) -> Block
+fn judge_type_4(rest: &[u8], len: usize) -> Result<Block, Refusal>
     requires { (len ≡ length_of rest.now) × (len < 128) }
-    ensures { result ≡ as_medium 4 (1 + len) (symbol (is_wrong 4 rest.now) rest.now) }
+    ensures { verdict_of result ≡ as_medium 4 (1 + len) (symbol (is_wrong 4 rest.now) rest.now) }
 {
     if len != 8 {
-        return Block::Refused(refusal::BLOCK_LENGTH);
+        return Err(Refusal::BlockLength);
     }
     let code = rom::byte_at(rest, ByteOffset(2));
     if 64 <= code {
-        return Block::Refused(refusal::BLOCK_CODE);
+        return Err(Refusal::BlockCode);
     }
     let media_code = code % 64;
-    let fine = is_in(media_code as u16, &SYM_CODES);
-    if !fine {
-        return Block::Refused(refusal::BLOCK_CODE);
+    if !SYM_CODES.contains(&media_code) {
+        return Err(Refusal::BlockCode);
     }
     let command = rom::word_at(rest, ByteOffset(7));
     let active_invalid = has_bit(ACTIVE_INVALID, command);
-    let is_default = counts_as_default(media_code as u16, command);
-    Block::Listed(Medium {
+    let is_default = counts_as_default(media_code, command);
+    Ok(Block::Listed(Medium {
         kind: 4,
         size: 1 + len,
         media_code,
@@ -266,57 +228,56 @@ fn judge_type_4(rest: &[u8], len: usize) -> Block
         active_invalid,
         is_default,
         resets_phy: false,
-    })
+    }))
 }
 
 // Type 5, length 2r+2: r, r words.
-fn judge_type_5(rest: &[u8], len: usize) -> Block
+fn judge_type_5(rest: &[u8], len: usize) -> Result<Block, Refusal>
     requires { (len ≡ length_of rest.now) × (len < 128) }
-    ensures { result ≡ judged (sequence (is_wrong 5 rest.now) 0) (Block.Reset (1 + len)) }
+    ensures { verdict_of result ≡ judged (sequence (is_wrong 5 rest.now) 0) (Reset (1 + len)) }
 {
     let resets = count_at(rest, 2);
     if len != 2 * resets + 2 {
-        return Block::Refused(refusal::BLOCK_LENGTH);
+        return Err(Refusal::BlockLength);
     }
-    Block::Reset { size: 1 + len }
+    Ok(Block::Reset { size: 1 + len })
 }
 
 // Type 6, length 2g+3: a mode byte, which is not judged, g, g words.
-fn judge_type_6(rest: &[u8], len: usize) -> Block
+fn judge_type_6(rest: &[u8], len: usize) -> Result<Block, Refusal>
     requires { (len ≡ length_of rest.now) × (len < 128) }
-    ensures { result ≡ as_power (1 + len) rest.now }
+    ensures { verdict_of result ≡ as_power (1 + len) rest.now }
 {
     let words = count_at(rest, 3);
     if len != 2 * words + 3 {
-        return Block::Refused(refusal::BLOCK_LENGTH);
+        return Err(Refusal::BlockLength);
     }
     let mode = rom::byte_at(rest, ByteOffset(2));
-    Block::Power {
+    Ok(Block::Power {
         size: 1 + len,
         mode,
-    }
+    })
 }
 
 // Types 1 and 3, g and r counting units of one byte or two: length 12+g+r or 13+2g+2r. A count past the block's end asks for more than
 // the block has.
-fn judge_phy(rest: &[u8], len: usize, kind: u16, unit: usize) -> Block
+fn judge_phy(rest: &[u8], len: usize, kind: u16, unit: usize) -> Result<Block, Refusal>
     requires len_value { (len ≡ length_of rest.now) × (len < 128) }
     requires unit_bound { (unit ≤ 2) × (length_for kind rest.now ≡ phy_length unit rest.now) }
-    ensures { result ≡ as_medium kind (1 + len) (phy (is_wrong kind rest.now) unit rest.now) }
+    ensures { verdict_of result ≡ as_medium kind (1 + len) (phy (is_wrong kind rest.now) unit rest.now) }
 {
     let general = unit * count_at(rest, 3);
     let resets = count_at(rest, 4 + general);
     let sequences = general + unit * resets;
     if len != 11 + unit + sequences {
-        return Block::Refused(refusal::BLOCK_LENGTH);
+        return Err(Refusal::BlockLength);
     }
     let capabilities = rom::word_at(rest, ByteOffset(5 + sequences));
     let advertisement = rom::word_at(rest, ByteOffset(7 + sequences));
-    let more = advertises_more(advertisement, capabilities);
-    if more {
-        return Block::Refused(refusal::ADVERTISEMENT);
+    if advertises_more(advertisement, capabilities) {
+        return Err(Refusal::Advertisement);
     }
-    Block::Listed(Medium {
+    Ok(Block::Listed(Medium {
         kind,
         size: 1 + len,
         media_code: NONE,
@@ -324,14 +285,14 @@ fn judge_phy(rest: &[u8], len: usize, kind: u16, unit: usize) -> Block
         active_invalid: false,
         is_default: false,
         resets_phy: 0 < resets,
-    })
+    }))
 }
 
 // An extended block of a known and permitted type, by its fields.
-fn judge_type(rest: &[u8], kind: u8, len: usize) -> Block
+fn judge_type(rest: &[u8], kind: u8, len: usize) -> Result<Block, Refusal>
     requires len_value { (len ≡ length_of rest.now) × (len < 128) }
     requires kind_lt_newest_level { kind < newest_level }
-    ensures { result ≡ judged_as kind (1 + len) rest.now }
+    ensures { verdict_of result ≡ judged_as kind (1 + len) rest.now }
 {
     match kind {
         0 => judge_type_0(rest, len),
@@ -345,81 +306,74 @@ fn judge_type(rest: &[u8], kind: u8, len: usize) -> Block
 }
 
 // The extended block at the start of the rest of a leaf.
-fn judge_extended(rest: &[u8], row: usize, level: u8) -> Block
+fn judge_extended(rest: &[u8], row: usize, level: u8) -> Result<Block, Refusal>
     requires { (row ≡ row21041 → ⊥) × (128 ≤ byte_at rest.now 0) }
-    ensures { result ≡ block_of row level rest.now }
+    ensures { verdict_of result ≡ block_of row level rest.now }
 {
     let len = count_at(rest, 0) % 128;
     if rest.len() <= len {
-        return Block::Refused(refusal::BLOCK_END);
+        return Err(Refusal::BlockEnd);
     }
     if len == 0 {
-        return Block::Refused(refusal::BLOCK_TYPE);
+        return Err(Refusal::BlockType);
     }
     let kind = rest[1];
     if level <= kind {
-        return Block::Unknown { size: 1 + len };
+        return Ok(Block::Unknown { size: 1 + len });
     }
-    let permitted = is_permitted(row, kind as u16);
-    if !permitted {
-        return Block::Refused(refusal::BLOCK_TYPE);
+    if !is_permitted(row, u16::from(kind)) {
+        return Err(Refusal::BlockType);
     }
     judge_type(rest, kind, len)
 }
 
 // The compact block at the start of the rest of a leaf.
-fn judge_compact(rest: &[u8], row: usize) -> Block
+fn judge_compact(rest: &[u8], row: usize) -> Result<Block, Refusal>
     requires { (row ≡ row21041 → ⊥) × (byte_at rest.now 0 < 128) }
-    ensures { (level : ℕ) → result ≡ block_of row level rest.now }
+    ensures { (level : ℕ) → verdict_of result ≡ block_of row level rest.now }
 {
     if rest.len() < 4 {
-        return Block::Refused(refusal::BLOCK_END);
+        return Err(Refusal::BlockEnd);
     }
-    let permitted = is_permitted(row, KIND_COMPACT);
-    if !permitted {
-        return Block::Refused(refusal::BLOCK_TYPE);
+    if !is_permitted(row, KIND_COMPACT) {
+        return Err(Refusal::BlockType);
     }
     judge_port(rest, 0, KIND_COMPACT, 4)
 }
 
 // The 21041's block at the start of the rest of a leaf.
-fn judge_21041(rest: &[u8]) -> Block
-    ensures { (level : ℕ) → result ≡ block_of row21041 level rest.now }
+fn judge_21041(rest: &[u8]) -> Result<Block, Refusal>
+    ensures { (level : ℕ) → verdict_of result ≡ block_of row21041 level rest.now }
 {
     let size = sia_size(rom::byte_at(rest, ByteOffset(0)));
     if rest.len() < size {
-        return Block::Refused(refusal::BLOCK_END);
+        return Err(Refusal::BlockEnd);
     }
     judge_sia(rest, 0, KIND_21041, size)
 }
 
 // The block at the start of the rest of a leaf, for the chip at a row and a reader of a level.
-pub fn judge_block(rest: &[u8], row: usize, level: u8) -> Block
-    ensures { result ≡ block_of row level rest.now }
+pub fn judge_block(rest: &[u8], row: usize, level: u8) -> Result<Block, Refusal>
+    ensures { verdict_of result ≡ block_of row level rest.now }
 {
     if row == ROW_21041 {
         return judge_21041(rest);
     }
-    let first = rom::byte_at(rest, ByteOffset(0));
-    if first < 128 {
+    if rom::byte_at(rest, ByteOffset(0)) < 128 {
         return judge_compact(rest, row);
     }
     judge_extended(rest, row, level)
 }
 
 // The same in an image of version 1, if it is one, which has no extended blocks.
-pub fn judge_in(rest: &[u8], row: usize, level: u8, first_version: bool) -> Block
-    ensures { result ≡ block_in first_version row level rest.now }
+pub fn judge_in(rest: &[u8], row: usize, level: u8, first_version: bool) -> Result<Block, Refusal>
+    ensures { verdict_of result ≡ block_in first_version row level rest.now }
 {
-    if !first_version {
-        return judge_block(rest, row, level);
+    if first_version && shape::is_extended(rest, row) {
+        if rest.len() < shape::size_at(rest, row) {
+            return Err(Refusal::BlockEnd);
+        }
+        return Err(Refusal::BlockType);
     }
-    let extended = shape::is_extended(rest, row);
-    if !extended {
-        return judge_block(rest, row, level);
-    }
-    if rest.len() < shape::size_at(rest, row) {
-        return Block::Refused(refusal::BLOCK_END);
-    }
-    Block::Refused(refusal::BLOCK_TYPE)
+    judge_block(rest, row, level)
 }

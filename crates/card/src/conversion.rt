@@ -1,10 +1,13 @@
 // `card widen` and `card narrow`: a sheet of one form to that of the other.
 use crate::file::save;
-use crate::sheets::show_lengths;
-use console::status;
+use crate::place_of;
+use crate::sheets::{in_other, show_lengths};
+use console::arguments::{Complained, Words};
+use console::status::Status;
+use forms::RawSheet;
 use hexadecimal::held;
-use rom::refusal;
-use sheet::{Form, Made};
+use rom::Refusal;
+use sheet::{Form, MOST_STATED};
 use std::fs::File;
 use std::rt::{Env, Files};
 use text::line;
@@ -15,68 +18,60 @@ use text::slice::part;
 const ROOM: usize = held::ROOM + 2;
 
 // Where a sheet has the right length and sum in the form that it is to be converted to.
-fn show_already(sheet: &[u8], to: Form) {
-    let already = forms::is_sheet(sheet, to);
-    if already {
-        if forms::is_wide(to) {
-            say(b"  it is a wide sheet already");
-        } else {
-            say(b"  it is a narrow sheet already");
+fn show_already(sheet: RawSheet) {
+    let other = in_other(sheet);
+    if other.is_sheet() {
+        match other.form {
+            Form::Wide => say(b"  it is a wide sheet already"),
+            Form::Narrow => say(b"  it is a narrow sheet already"),
         }
     }
 }
 
 // How many blocks and body bytes a wide sheet has.
-fn show_counts(sheet: &[u8]) {
-    let count = forms::count_in(sheet, Form::Wide) as u64;
-    let total = forms::total_in(sheet, Form::Wide) as u64;
+fn show_counts(sheet: RawSheet) {
     line::of(
         b"  # blocks with # bytes of bodies; a narrow sheet has up to # of each",
-        [count, total, 255, 0],
+        [
+            u64::from(sheet.count()),
+            u64::from(sheet.total()),
+            u64::from(MOST_STATED),
+            0,
+        ],
     )
     .print();
 }
 
-// Why a sheet of a form is not converted.
-fn show_refused(sheet: &[u8], form: Form, number: u8) {
-    report::show_refusal(number);
-    if number == refusal::SHEET {
-        show_lengths(sheet, form);
-        show_already(sheet, forms::other_form(form));
-    }
-    if number == refusal::SHEET_TOO_LARGE {
-        show_counts(sheet);
+// Why a sheet is not converted.
+fn show_refused(sheet: RawSheet, refusal: Refusal) {
+    report::show_refusal(refusal);
+    match refusal {
+        Refusal::Sheet => {
+            show_lengths(sheet);
+            show_already(sheet);
+        }
+        Refusal::SheetTooLarge => show_counts(sheet),
+        _ => {}
     }
 }
 
-// Writes what has been made of a sheet of a form, or says why nothing has.
-fn finish(
+// Writes a sheet of a form as one of the other, or says why there is none.
+pub fn convert(
     rt: &(impl Files<File = File> + Env),
-    sheet: &[u8],
+    bytes: &[u8],
     form: Form,
-    made: Made,
-    room: &[u8],
-    place: usize,
-    force: bool,
-) -> u8 {
-    let number = made.number;
-    if number == refusal::ACCEPTED {
-        return save(rt, part(room, 0, made.length), place, force);
+    words: &Words,
+) -> Result<Status, Complained> {
+    let mut room = [0; ROOM];
+    let made = match form {
+        Form::Narrow => converter::widen(bytes, &mut room),
+        Form::Wide => converter::narrow(bytes, &mut room),
+    };
+    match made {
+        Ok(length) => save(rt, part(&room, 0, length), place_of(words, 1)?, words.force),
+        Err(refusal) => {
+            show_refused(RawSheet { bytes, form }, refusal);
+            Ok(Status::Refused)
+        }
     }
-    show_refused(sheet, form, number);
-    status::REFUSED
-}
-
-// Writes a narrow sheet as a wide one.
-pub fn widen(rt: &(impl Files<File = File> + Env), sheet: &[u8], place: usize, force: bool) -> u8 {
-    let mut room = [0u8; ROOM];
-    let made = converter::widen(sheet, &mut room);
-    finish(rt, sheet, Form::Narrow, made, &room, place, force)
-}
-
-// Writes a wide sheet as a narrow one.
-pub fn narrow(rt: &(impl Files<File = File> + Env), sheet: &[u8], place: usize, force: bool) -> u8 {
-    let mut room = [0u8; ROOM];
-    let made = converter::narrow(sheet, &mut room);
-    finish(rt, sheet, Form::Wide, made, &room, place, force)
 }

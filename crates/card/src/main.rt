@@ -7,19 +7,24 @@ mod file;
 mod sheets;
 mod wake;
 
-use console::arguments::Words;
+use block::NEWEST_LEVEL;
+use console::arguments::{Complained, Words};
+use console::command::Command;
 use console::input::Input;
-use console::{arguments, command, input, status};
+use console::status::Status;
+use console::{arguments, input};
+use conversion::convert;
 use drivers::{looks, older};
 use reader::Arguments;
 use report::{size, words};
-use rom::{Layout, refusal};
+use rom::{Layout, Refusal};
+use sheet::Form;
 use std::fs::File;
 use std::rt::{Env, Files};
+use survey::Card;
 use text::line::{Line, STDOUT, say};
-use text::slice::part;
 
-fn usage() -> u8 {
+fn usage() -> Status {
     io::write_all(
         STDOUT,
         b"usage: ./card COMMAND ..
@@ -70,115 +75,112 @@ The exit status is 0 for accepted, 1 for refused, 2 for bad usage, a card that
 cannot be read, or a file that cannot be read or written.
 ",
     );
-    status::ACCEPTED
+    Status::Accepted
 }
 
-fn show_number(number: u8) {
-    Line::new().right(number as u64, 4).to(6).show(STDOUT);
-    words::show_refusal(number, STDOUT);
+fn show_number(refusal: Refusal) {
+    Line::new()
+        .right(u64::from(refusal.number()), 4)
+        .to(6)
+        .show(STDOUT);
+    words::show_refusal(refusal, STDOUT);
     say(b"");
 }
 
-// Whether a call answers with a number: 22 is retired, 28 is none, and 34 to 37 are none yet.
-fn is_answered(number: u8) -> bool {
-    match number {
-        22 | 28 | 34 | 35 | 36 | 37 => false,
-        _ => true,
+// The numbers that calls answer with: that of acceptance, and the refusals'.
+fn refusals() -> Status {
+    say(b"   0  accepted");
+    for refusal in Refusal::ALL {
+        show_number(refusal);
     }
+    Status::Accepted
 }
 
-fn refusals() -> u8 {
-    let mut number = 0u8;
-    while number <= refusal::FIRST_VERSION_CHIP {
-        let answered = is_answered(number);
-        if answered {
-            show_number(number);
-        }
-        number += 1;
-    }
-    status::ACCEPTED
+// The place of a plain word. Of one that is missing `arguments::read` has complained.
+pub(crate) fn place_of(words: &Words, number: usize) -> Result<usize, Complained> {
+    words.places.get(number).copied().ok_or(Complained)
 }
 
 // The layout of the ROM whose file has so many bytes: of the size that is given, or else of that length.
-pub(crate) fn layout_of(words: Words, length: usize) -> Layout {
+pub(crate) fn layout_of(words: &Words, length: usize) -> Layout {
     Layout {
-        size: size::size_for(words.sized, words.layout.size, length),
-        magic: words.layout.magic,
+        size: size::size_for(words.size, length),
+        magic: words.magic,
     }
 }
 
-fn arguments_of(words: Words, length: usize) -> Arguments {
-    Arguments {
-        chip: words.chip,
-        controller: words.controller,
-        level: words.level,
-        layout: layout_of(words, length),
-        first_edition: words.first_edition,
+// What is in the file that the first plain word names.
+fn read_file(rt: &(impl Files + std::io::Input + Env), words: &Words) -> Result<Input, Complained> {
+    input::read_file(rt, place_of(words, 0)?)
+}
+
+// A card's image, how it is read, and the size that a verdict names.
+#[derive(Drop)]
+pub(crate) struct CardFile {
+    image: Input,
+    arguments: Arguments,
+    named: Option<u16>,
+}
+
+impl CardFile {
+    pub(crate) fn card(&self) -> Card<'_> {
+        Card {
+            image: &self.image,
+            arguments: self.arguments,
+        }
     }
 }
 
-// A command on the bytes of a file.
-fn run_on(rt: &(impl Files<File = File> + std::io::Input + Env), bytes: &[u8], words: Words) -> u8 {
-    let arguments = arguments_of(words, bytes.len());
-    let given = words.sized;
-    let force = words.force;
-    let places = words.places;
-    let command = words.command;
-    match command {
-        command::READ => status::of(listing::show(bytes, arguments, given)),
-        command::OLDER => status::of(older::show(bytes, arguments, given)),
-        command::WALK => looks::show(rt, bytes, arguments, given, places[2]),
-        command::SHEET => sheets::make(rt, bytes, arguments, words),
-        command::MAP => picture::show(rt, bytes, arguments, given, places[2], force),
-        command::WRITE => sheets::write(rt, bytes, words),
-        command::WIDEN => conversion::widen(rt, bytes, places[1], force),
-        _ => conversion::narrow(rt, bytes, places[1], force),
-    }
+fn read_card(
+    rt: &(impl Files + std::io::Input + Env),
+    words: &Words,
+) -> Result<CardFile, Complained> {
+    let image = read_file(rt, words)?;
+    let arguments = Arguments {
+        chip: words.chip.ok_or(Complained)?,
+        controller: words.controller.unwrap_or(0),
+        level: words.level.unwrap_or(NEWEST_LEVEL),
+        layout: layout_of(words, image.len()),
+        first_edition: words.first_edition.unwrap_or(false),
+    };
+    let named = size::named(words.size, image.len());
+    Ok(CardFile {
+        image,
+        arguments,
+        named,
+    })
 }
 
-// `magic`, on what is in a file.
-fn write_magic(rt: &(impl Files<File = File> + Env), input: Input, words: Words) -> u8 {
-    let size = layout_of(words, input.length).size;
-    let places = words.places;
-    wake::write(
-        rt,
-        input,
-        size,
-        words.sized,
-        words.magic,
-        places[1],
-        words.force,
-    )
-}
-
-// A command that takes a file.
-fn run_with_file(rt: &(impl Files<File = File> + std::io::Input + Env), words: Words) -> u8 {
-    let places = words.places;
-    let input = input::read_file(rt, places[0]);
-    if !input.found {
-        return status::USAGE;
+fn run(rt: &(impl Files<File = File> + std::io::Input + Env)) -> Result<Status, Complained> {
+    let words = arguments::read(rt)?;
+    match words.command {
+        Command::Read => {
+            let file = read_card(rt, &words)?;
+            Ok(listing::show(file.card(), file.named).into())
+        }
+        Command::Older => {
+            let file = read_card(rt, &words)?;
+            Ok(older::show(file.card(), file.named).into())
+        }
+        Command::Walk => {
+            let file = read_card(rt, &words)?;
+            looks::show(rt, file.card(), file.named, place_of(&words, 2)?)
+        }
+        Command::Sheet => sheets::make(rt, &read_card(rt, &words)?, &words),
+        Command::Map => {
+            let file = read_card(rt, &words)?;
+            let place = place_of(&words, 2)?;
+            picture::show(rt, file.card(), file.named, place, words.force)
+        }
+        Command::Write => sheets::write(rt, &read_file(rt, &words)?, &words),
+        Command::Magic => wake::write(rt, read_file(rt, &words)?, &words),
+        Command::Widen => convert(rt, &read_file(rt, &words)?, Form::Narrow, &words),
+        Command::Narrow => convert(rt, &read_file(rt, &words)?, Form::Wide, &words),
+        Command::Refusals => Ok(refusals()),
+        Command::Help => Ok(usage()),
     }
-    if words.command == command::MAGIC {
-        return write_magic(rt, input, words);
-    }
-    let bytes = input.bytes;
-    run_on(rt, part(&bytes, 0, input.length), words)
-}
-
-fn run(rt: &(impl Files<File = File> + std::io::Input + Env), words: Words) -> u8 {
-    if !words.fine {
-        return status::USAGE;
-    }
-    let command = words.command;
-    if command == command::HELP {
-        return usage();
-    }
-    if command == command::REFUSALS {
-        return refusals();
-    }
-    run_with_file(rt, words)
 }
 
 fn main(rt: HostRuntime) {
-    status::report(run(&rt, arguments::read(&rt)));
+    run(&rt).unwrap_or(Status::Usage).report();
 }

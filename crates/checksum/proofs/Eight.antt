@@ -4,7 +4,7 @@
 use mathlib.Core.Path.{◌≡◌, refl, sym, ap, ap₂, ◌∙◌}
 use mathlib.Core.Bool.{Bool}
 use mathlib.Core.List.{List}
-use Prim.Native.Nat.{ℕ, zero, suc, ◌+◌, ◌*◌, ◌/◌, ◌%◌, ◌^◌, ◌<◌, ◌≤◌, ◌-◌}
+use Prim.Native.Nat.{ℕ, zero, suc, ◌+◌, ◌*◌, ◌/◌, ◌%◌, ◌^◌, ◌<◌, ◌≤◌}
 use native.Mathlib.Nat.{mod-lt, zero-add, suc-add, add_comm, add-zero}
 use native.Mathlib.Omega.{arith}
 use lib.Dec.{T, eqb, eqb→eq, lit<}
@@ -129,48 +129,7 @@ word-at-once r w s h =
     ∙ sym (bits-low 8 0 (crc8_bits 8 r (byte_at s (2 * w + 1))) (word s w))
     ∙ ap (crc8_bits 8 (crc8_bits 8 r (byte_at s (2 * w + 1)))) low
 
--- as the code feeds it: the byte at `up` and then the byte at `at`
-pub word-fed : (s : List ℕ) (w r at low up high fed x : ℕ) → byte_at s (2 * w) < 256 → at ≡ 2 * w → low ≡ byte_at s at
-    → up ≡ 2 * w + 1 → high ≡ byte_at s up → fed ≡ crc8_bits 8 r high → x ≡ crc8_bits 8 fed low → x ≡ crc8_bits 16 r (word s w)
-word-fed s w r at low up high fed x h ea el eu eh ef ex =
-    ex ∙ ap₂ (crc8_bits 8) (ef ∙ ap (crc8_bits 8 r) (eh ∙ ap (byte_at s) eu)) (el ∙ ap (byte_at s) ea) ∙ sym (word-at-once r w s h)
-
 -- ## Word by word
-
-words_more : (m w r : ℕ) (s : List ℕ) → w < m
-    → crc8_words (m - w) w r s ≡ crc8_words (m - (w + 1)) (w + 1) (crc8_bits 16 r (word s w)) s
-unfolding crc8_words
-words_more m w r s h = let e : m - w ≡ suc (m - (w + 1)) = omega arith in rw e
-
--- of the words before `end`, with word w fed, what is left is the words behind it
-pub words-next : (s : List ℕ) (end w r x whole : ℕ) → w < end → x ≡ crc8_bits 16 r (word s w) → crc8_words (end - w) w r s ≡ whole
-    → crc8_words (end - (w + 1)) (w + 1) x s ≡ whole
-words-next s end w r x whole h e all =
-    ap (λ (n : ℕ). crc8_words (end - (w + 1)) (w + 1) n s) e ∙ sym (words_more end w r s h) ∙ all
-
--- and with the two from w on fed, what is left is the words behind them
-pub pair-next : (s : List ℕ) (end w r x y whole : ℕ) → w + 1 < end → x ≡ crc8_bits 16 r (word s w) → y ≡ crc8_bits 16 x (word s (w + 1))
-    → crc8_words (end - w) w r s ≡ whole → crc8_words (end - (w + 2)) (w + 2) y s ≡ whole
-pair-next s end w r x y whole h e f all =
-    let two : (w + 1) + 1 ≡ w + 2 = omega arith in
-    rw two at (words-next s end (w + 1) x y whole h f (words-next s end w r x whole (omega arith) e all))
-
--- where none is left, or one
-pub none_left : (s : List ℕ) (end w r : ℕ) → w ≡ end → r ≡ crc8_words (end - w) w r s
-unfolding crc8_words
-none_left s end w r e = let z : end - w ≡ 0 = omega arith in rw z
-
-pub one_left : (s : List ℕ) (end w r x : ℕ) → w + 1 ≡ end → x ≡ crc8_bits 16 r (word s w) → x ≡ crc8_words (end - w) w r s
-unfolding crc8_words
-one_left s end w r x e f = let z : end - w ≡ suc zero = omega arith in rw z f
-
--- after the last word, the high byte of the next
-pub words-done : (s : List ℕ) (n first end r at b x : ℕ) → end ≡ first + n → r ≡ crc8_words n first (ones 8) s
-    → at ≡ 2 * end + 1 → b ≡ byte_at s at → x ≡ crc8_bits 8 r b → x ≡ crc8 n first s
-unfolding crc8
-words-done s n first end r at b x z all p q g =
-    let place : at ≡ 2 * (first + n) + 1 = omega arith in
-    g ∙ ap₂ (crc8_bits 8) all (q ∙ ap (byte_at s) place)
 
 words_last : (n w r : ℕ) (s : List ℕ) → crc8_words (suc n) w r s ≡ crc8_bits 16 (crc8_words n w r s) (word s (w + n))
 unfolding crc8_words

@@ -1,2 +1,7 @@
 pub mod Characters
+pub mod CommandNamed
+pub mod Digits
+pub mod Equal
+pub mod Named
+pub mod OptionNamed
 pub mod WordsWorked

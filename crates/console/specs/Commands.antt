@@ -1,10 +1,24 @@
 -- The commands, and the words that each takes.
-use Rattle.std.specs.Prelude.{ℕ, Bool, ◌||◌, List, eqb, leb, ltb}
+use Rattle.std.specs.Prelude.{ℕ, Bool, ◌||◌, List, Option, Some, None, eqb, leb, ltb}
 use Rattle.rom.specs.Bytes.{pick}
 use Rattle.text.specs.Quoted.{quoted}
 use Rattle.text.specs.Numbers.{is_among, decimal_number}
 use Rattle.text.specs.Tables.{words_for}
 use Rattle.console.specs.Options.{size_option, edition_option, magic_option, force_option, wide_option}
+use Rattle.console.specs.declared.command.Command.{Command}
+use Rattle.console.specs.declared.command.Command.TheVariants.{
+  Read,
+  Older,
+  Walk,
+  Sheet,
+  Map,
+  Write,
+  Magic,
+  Widen,
+  Narrow,
+  Refusals,
+  Help,
+}
 
 abbrev pub read_command : ℕ
 read_command = 1
@@ -32,6 +46,38 @@ narrow_command = 9
 
 abbrev pub help_command : ℕ
 help_command = 11
+
+-- the code's commands by their names, and by these numbers
+abbrev pub command_name : Command → List ℕ
+command_name Read = quoted "read"
+command_name Older = quoted "older"
+command_name Walk = quoted "walk"
+command_name Sheet = quoted "sheet"
+command_name Map = quoted "map"
+command_name Write = quoted "write"
+command_name Magic = quoted "magic"
+command_name Widen = quoted "widen"
+command_name Narrow = quoted "narrow"
+command_name Refusals = quoted "refusals"
+command_name Help = quoted "help"
+
+abbrev pub command_as_number : Command → ℕ
+command_as_number Read = read_command
+command_as_number Older = older_command
+command_as_number Walk = walk_command
+command_as_number Sheet = sheet_command
+command_as_number Map = map_command
+command_as_number Write = write_command
+command_as_number Magic = magic_command
+command_as_number Widen = 8
+command_as_number Narrow = narrow_command
+command_as_number Refusals = 10
+command_as_number Help = help_command
+
+-- 0 for none
+abbrev pub named_as_number : Option Command → ℕ
+named_as_number None = 0
+named_as_number (Some command) = command_as_number command
 
 unfoldable pub command_table : List ℕ
 command_table = quoted "read 1\nolder 2\nwalk 3\nsheet 4\nmap 5\nwrite 6\nmagic 7\nwiden 8\nnarrow 9\nrefusals 10\nhelp 11\n"

@@ -1,533 +1,333 @@
 // The words that the program was started with.
-use crate::{command, option, typed, value};
-use block::NEWEST_LEVEL;
+use crate::command::Command;
+use crate::option::{CommandOption, Expected, Role, chip_of, role_of};
+use crate::value::BYTES;
+use crate::{typed, value};
+use arrayvec::ArrayVec;
 use magic::Magic;
-use rom::Layout;
 use std::rt::Env;
 use text::line::Line;
-use text::slice::{part, same};
+use text::slice::part;
 
 // The longest word that is looked at, a path apart.
 const LONGEST: usize = 255;
 
 // The plain words whose places are kept: one more than any command takes, `walk` apart.
-pub const KEPT: usize = 4;
+const KEPT: usize = 4;
 
-// The options by their numbers, of which 0 is none's.
-const OPTIONS: usize = 11;
+// The command's place. What is wrong with the words as a whole is said of it.
+const COMMAND_AT: usize = 1;
 
-// What the words ask for. Not fine is what has been complained of. The plain words are those behind the command that are no
-// options and no values of options; the count of them goes no further than the places that are kept. The layout is as the
-// options say it, of the smaller size where --size is not given, and `sized` where it is. `from` is the place of the value
-// of --magic in `write`, `magic` what the options of `magic` say, and `wide` that the sheet is. A card of version 1 is of
-// edition 1.00 where that is given, and else of 1.01.
-#[derive(Clone, Copy)]
+// What the words ask for, as far as they say it.
+#[derive(Drop)]
 pub struct Words {
-    pub fine: bool,
-    pub command: u8,
-    pub count: usize,
-    pub places: [usize; KEPT],
-    pub chip: u16,
-    pub controller: u8,
-    pub level: u8,
-    pub layout: Layout,
-    pub sized: bool,
-    pub first_edition: bool,
-    pub from: usize,
-    pub magic: Magic,
+    pub command: Command,
+    // Of the first plain words: those behind the command that are no options and no values of options.
+    pub places: ArrayVec<usize, KEPT>,
+    pub chip: Option<u16>,
+    pub controller: Option<u8>,
+    pub level: Option<u8>,
+    pub size: Option<u16>,
+    // Whether a card of version 1 is of edition 1.00, or of 1.01.
+    pub first_edition: Option<bool>,
+    // Whether the card is laid out with a Magic Packet block, and in `write` the place of the word that names an image with one.
+    pub magic: bool,
+    pub from: Option<usize>,
     pub wide: bool,
     pub force: bool,
-    given: [bool; OPTIONS],
+    password: Option<[u8; BYTES]>,
+    address: Option<[u8; BYTES]>,
+    command_word: Option<u16>,
+    // What those three say, in `magic`.
+    pub block: Option<Magic>,
 }
 
 // ## Complaints
 
+// What has been complained of.
+#[derive(Clone, Copy)]
+pub struct Complained;
+
 // A complaint about a word.
-pub fn complain(rt: &impl Env, what: &[u8], place: usize) {
-    let line = Line::new().text(b"card: ").text(what).text(b": '");
-    let mut room = [0u8; LONGEST];
-    let length = typed::word(rt, place, &mut room);
-    line.text(part(&room[..length], 0, 60))
+pub fn complain(rt: &impl Env, what: &[u8], place: usize) -> Complained {
+    let word = typed::word::<LONGEST>(rt, place);
+    Line::new()
+        .text(b"card: ")
+        .text(what)
+        .text(b": '")
+        .text(part(&word, 0, 60))
         .byte(b'\'')
         .complain();
+    Complained
 }
 
-// The second line of a complaint: what there is instead.
-pub fn suggest(what: &[u8]) {
-    Line::new().to(6).text(what).complain();
+impl Complained {
+    // The second line of a complaint: what there is instead.
+    pub fn suggest(self, what: &[u8]) -> Complained {
+        Line::new().to(6).text(what).complain();
+        self
+    }
 }
 
-// ## Words by their places
-
-// Whether a word is this one.
-pub(crate) fn is_word(rt: &impl Env, place: usize, word: &[u8]) -> bool {
-    let mut room = [0u8; LONGEST];
-    let length = typed::word(rt, place, &mut room);
-    same(&room[..length], word)
+// What is wrong with a word, and what there is instead.
+#[derive(Clone, Copy)]
+struct Wrong {
+    what: &'static [u8],
+    place: usize,
+    instead: &'static [u8],
 }
 
-fn command_at(rt: &impl Env, place: usize) -> u8 {
-    let mut room = [0u8; LONGEST];
-    let length = typed::word(rt, place, &mut room);
-    command::command_of(&room[..length])
+impl Wrong {
+    fn new(what: &'static [u8], place: usize, instead: &'static [u8]) -> Wrong {
+        Wrong {
+            what,
+            place,
+            instead,
+        }
+    }
+
+    fn show(self, rt: &impl Env) -> Complained {
+        complain(rt, self.what, self.place).suggest(self.instead)
+    }
 }
 
-fn role_at(rt: &impl Env, place: usize, before: u8, command: u8) -> u8 {
-    let mut room = [0u8; LONGEST];
-    let length = typed::word(rt, place, &mut room);
-    option::role_of(&room[..length], before, command)
+impl Expected {
+    // Where a word is no such value.
+    fn wrong(self, what: &'static [u8], place: usize) -> Wrong {
+        let instead: &'static [u8] = match self {
+            Expected::Number => b"--controller N counts from 0, and --level N is 0 to 7",
+            Expected::Size => b"--size N is how many bytes the card's ROM has",
+            Expected::Edition => b"--edition E is 1.00 or 1.01, for a card of version 1",
+            Expected::Bytes => b"--password P and --address A are xx:xx:xx:xx:xx:xx in hexadecimal",
+            Expected::Word => {
+                b"--command C is one to four hexadecimal digits, with 0x before or not"
+            }
+            Expected::File => b"write SHEET OUT --magic FROM keeps the block of the image FROM",
+        };
+        Wrong::new(what, place, instead)
+    }
+
+    // Where no such value stands behind an option.
+    fn missing(self, place: usize) -> Wrong {
+        let what: &'static [u8] = match self {
+            Expected::Number | Expected::Size => b"no number behind the option",
+            Expected::Edition => b"no edition behind the option",
+            Expected::Bytes => b"no bytes behind the option",
+            Expected::Word => b"no word behind the option",
+            Expected::File => b"no file behind the option",
+        };
+        self.wrong(what, place)
+    }
 }
 
-fn number_at(rt: &impl Env, place: usize) -> u32 {
-    let mut room = [0u8; LONGEST];
-    let length = typed::word(rt, place, &mut room);
-    text::number(&room[..length])
-}
+const COMMANDS: &[u8] = b"try read, older, walk, sheet, write, widen, narrow, magic, map, dump,
+      refusals or help";
 
-fn chip_at(rt: &impl Env, place: usize) -> u16 {
-    let mut room = [0u8; LONGEST];
-    let length = typed::word(rt, place, &mut room);
-    option::chip_of(&room[..length])
-}
+const PLAIN_WORDS: &[u8] = b"./card help says which words each takes";
 
-fn names_first_at(rt: &impl Env, place: usize) -> bool {
-    let mut room = [0u8; LONGEST];
-    let length = typed::word(rt, place, &mut room);
-    value::names_first(&room[..length])
-}
+const OPTIONS: &[u8] = b"./card help says which options each takes";
 
-fn names_edition_at(rt: &impl Env, place: usize) -> bool {
-    let mut room = [0u8; LONGEST];
-    let length = typed::word(rt, place, &mut room);
-    value::names_edition(&room[..length])
-}
+const ALL_OPTIONS: &[u8] =
+    b"options: --controller N, --level N, --size N, --edition E, --magic, --wide
+      and --force";
 
-fn is_six_bytes_at(rt: &impl Env, place: usize) -> bool {
-    let mut room = [0u8; LONGEST];
-    let length = typed::word(rt, place, &mut room);
-    value::is_six_bytes(&room[..length])
-}
+const MAGIC_OPTIONS: &[u8] =
+    b"options: --password P, --address A, --command C, --size N and --force";
 
-fn six_bytes_at(rt: &impl Env, place: usize) -> [u8; value::BYTES] {
-    let mut room = [0u8; LONGEST];
-    let length = typed::word(rt, place, &mut room);
-    value::six_bytes(&room[..length])
-}
+const NEEDED_OPTIONS: &[u8] = b"magic takes all of --password P, --address A and --command C";
 
-fn command_word_at(rt: &impl Env, place: usize) -> usize {
-    let mut room = [0u8; LONGEST];
-    let length = typed::word(rt, place, &mut room);
-    value::command_word(&room[..length])
-}
+const CHIPS: &[u8] = b"the chips are 21041, 21140, 21142, 21143 and 21145";
 
-// ## One word more
+// ## What the words say
 
 impl Words {
     // A command without its words.
-    fn of(command: u8) -> Words {
+    fn of(command: Command) -> Words {
         Words {
-            fine: true,
             command,
-            count: 0,
-            places: [0; KEPT],
-            chip: 0,
-            controller: 0,
-            level: NEWEST_LEVEL,
-            layout: Layout {
-                size: rom::SMALL_SIZE,
-                magic: false,
-            },
-            sized: false,
-            first_edition: false,
-            from: 0,
-            magic: Magic {
-                password: [0; value::BYTES],
-                address: [0; value::BYTES],
-                command: 0,
-            },
+            places: ArrayVec::new(),
+            chip: None,
+            controller: None,
+            level: None,
+            size: None,
+            first_edition: None,
+            magic: false,
+            from: None,
             wide: false,
             force: false,
-            given: [false; OPTIONS],
+            password: None,
+            address: None,
+            command_word: None,
+            block: None,
         }
     }
 
-    // What is complained of, with what there is instead.
-    fn wrong(self, rt: &impl Env, what: &[u8], place: usize, instead: &[u8]) -> Words {
-        complain(rt, what, place);
-        suggest(instead);
-        let mut next = self;
-        next.fine = false;
-        next
-    }
-
-    fn wrong_number(self, rt: &impl Env, what: &[u8], place: usize) -> Words {
-        self.wrong(
-            rt,
-            what,
-            place,
-            b"--controller N counts from 0, and --level N is 0 to 7",
-        )
-    }
-
-    fn wrong_size(self, rt: &impl Env, what: &[u8], place: usize) -> Words {
-        self.wrong(
-            rt,
-            what,
-            place,
-            b"--size N is how many bytes the card's ROM has",
-        )
-    }
-
-    fn wrong_edition(self, rt: &impl Env, what: &[u8], place: usize) -> Words {
-        self.wrong(
-            rt,
-            what,
-            place,
-            b"--edition E is 1.00 or 1.01, for a card of version 1",
-        )
-    }
-
-    fn wrong_bytes(self, rt: &impl Env, what: &[u8], place: usize) -> Words {
-        self.wrong(
-            rt,
-            what,
-            place,
-            b"--password P and --address A are xx:xx:xx:xx:xx:xx in hexadecimal",
-        )
-    }
-
-    fn wrong_command(self, rt: &impl Env, what: &[u8], place: usize) -> Words {
-        self.wrong(
-            rt,
-            what,
-            place,
-            b"--command C is one to four hexadecimal digits, with 0x before or not",
-        )
-    }
-
-    fn wrong_count(self, rt: &impl Env, what: &[u8], place: usize) -> Words {
-        self.wrong(rt, what, place, b"./card help says which words each takes")
-    }
-
-    fn with_plain(self, place: usize) -> Words {
-        let count = self.count;
-        if KEPT <= count {
-            return self;
+    // One word more, of a role. Plain ones past those that are kept are not counted.
+    fn add(&mut self, role: Role, word: &[u8], place: usize) -> Result<(), Wrong> {
+        match role {
+            Role::Plain => {
+                let _ = self.places.try_push(place);
+                Ok(())
+            }
+            Role::Named(option) => self.give(option, place),
+            Role::Value(option) => self.set(option, word, place),
+            Role::Unknown => Err(self.unknown(place)),
         }
-        let mut next = self;
-        next.places[count] = place;
-        next.count = count + 1;
-        next
-    }
-
-    // Whether an option has been given.
-    fn has(self, option: u8) -> bool {
-        let given = self.given;
-        given[(option as usize) % OPTIONS]
-    }
-
-    fn with_given(self, option: u8) -> Words {
-        let mut next = self;
-        next.given[(option as usize) % OPTIONS] = true;
-        if option == option::MAGIC {
-            next.layout.magic = true;
-        }
-        if option == option::WIDE {
-            next.wide = true;
-        }
-        if option == option::FORCE {
-            next.force = true;
-        }
-        next
-    }
-
-    fn with_option(self, rt: &impl Env, option: u8, place: usize) -> Words {
-        let takes = command::takes(self.command, option);
-        if !takes {
-            return self.wrong(
-                rt,
-                b"the command takes no such option",
-                place,
-                b"./card help says which options each takes",
-            );
-        }
-        let given = self.has(option);
-        if given {
-            return self.wrong(
-                rt,
-                b"the option is given twice",
-                place,
-                b"each is given at most once",
-            );
-        }
-        self.with_given(option)
     }
 
     // What begins as an option does, and is none.
-    fn unknown(self, rt: &impl Env, place: usize) -> Words {
-        if self.command == command::MAGIC {
-            return self.wrong(
-                rt,
-                b"no such option",
+    fn unknown(&self, place: usize) -> Wrong {
+        let instead = if self.command == Command::Magic {
+            MAGIC_OPTIONS
+        } else {
+            ALL_OPTIONS
+        };
+        Wrong::new(b"no such option", place, instead)
+    }
+
+    // Whether an option has been given.
+    fn has(&self, option: CommandOption) -> bool {
+        match option {
+            CommandOption::Controller => self.controller.is_some(),
+            CommandOption::Level => self.level.is_some(),
+            CommandOption::Size => self.size.is_some(),
+            CommandOption::Edition => self.first_edition.is_some(),
+            CommandOption::Password => self.password.is_some(),
+            CommandOption::Address => self.address.is_some(),
+            CommandOption::Command => self.command_word.is_some(),
+            CommandOption::Magic => self.magic,
+            CommandOption::Force => self.force,
+            CommandOption::Wide => self.wide,
+        }
+    }
+
+    fn give(&mut self, option: CommandOption, place: usize) -> Result<(), Wrong> {
+        if !self.command.takes(option) {
+            return Err(Wrong::new(b"the command takes no such option", place, OPTIONS));
+        }
+        if self.has(option) {
+            return Err(Wrong::new(
+                b"the option is given twice",
                 place,
-                b"options: --password P, --address A, --command C, --size N and --force",
-            );
+                b"each is given at most once",
+            ));
         }
-        let words = self.wrong(
-            rt,
-            b"no such option",
-            place,
-            b"options: --controller N, --level N, --size N, --edition E, --magic, --wide",
-        );
-        suggest(b"and --force");
-        words
+        self.magic |= option == CommandOption::Magic;
+        self.force |= option == CommandOption::Force;
+        self.wide |= option == CommandOption::Wide;
+        Ok(())
     }
 
-    // The value of --controller or --level.
-    fn with_number(self, rt: &impl Env, option: u8, place: usize) -> Words {
-        let number = number_at(rt, place);
-        if 255 < number {
-            return self.wrong_number(rt, b"no number from 0 to 255", place);
-        }
-        let mut next = self;
-        if option == option::CONTROLLER {
-            next.controller = number as u8;
-        } else {
-            next.level = number as u8;
-        }
-        next
-    }
-
-    // The value of --size.
-    fn with_size(self, rt: &impl Env, place: usize) -> Words {
-        let number = number_at(rt, place);
-        if 65_535 < number {
-            return self.wrong_size(rt, b"no number from 0 to 65535", place);
-        }
-        let size = number as u16;
-        let mut next = self;
-        next.layout.size = size;
-        next.sized = true;
-        next
-    }
-
-    // The value of --edition.
-    fn with_edition(self, rt: &impl Env, place: usize) -> Words {
-        let named = names_edition_at(rt, place);
-        if !named {
-            return self.wrong_edition(rt, b"no edition of version 1", place);
-        }
-        let mut next = self;
-        next.first_edition = names_first_at(rt, place);
-        next
-    }
-
-    // The value of --password or --address.
-    fn with_bytes(self, rt: &impl Env, option: u8, place: usize) -> Words {
-        let found = is_six_bytes_at(rt, place);
-        if !found {
-            return self.wrong_bytes(rt, b"no six bytes with colons between them", place);
-        }
-        let bytes = six_bytes_at(rt, place);
-        let mut magic = self.magic;
-        if option == option::PASSWORD {
-            magic.password = bytes;
-        } else {
-            magic.address = bytes;
-        }
-        let mut next = self;
-        next.magic = magic;
-        next
-    }
-
-    // The value of --command.
-    fn with_command(self, rt: &impl Env, place: usize) -> Words {
-        let number = command_word_at(rt, place);
-        if 65_535 < number {
-            return self.wrong_command(rt, b"no word of one to four digits", place);
-        }
-        let command = number as u16;
-        let mut next = self;
-        next.magic.command = command;
-        next
-    }
-
-    // The value of --magic, a file's name.
-    fn with_from(self, place: usize) -> Words {
-        let mut next = self;
-        next.from = place;
-        next
-    }
-
-    fn with_value(self, rt: &impl Env, option: u8, place: usize) -> Words {
+    // The value of an option that takes one.
+    fn set(&mut self, option: CommandOption, word: &[u8], place: usize) -> Result<(), Wrong> {
         match option {
-            option::PASSWORD | option::ADDRESS => self.with_bytes(rt, option, place),
-            option::COMMAND => self.with_command(rt, place),
-            option::SIZE => self.with_size(rt, place),
-            option::EDITION => self.with_edition(rt, place),
-            option::MAGIC => self.with_from(place),
-            _ => self.with_number(rt, option, place),
-        }
-    }
-
-    // An option behind which no value stands.
-    fn without_value(self, rt: &impl Env, option: u8, place: usize) -> Words {
-        match option {
-            option::PASSWORD | option::ADDRESS => {
-                self.wrong_bytes(rt, b"no bytes behind the option", place)
+            CommandOption::Controller => self.controller = Some(byte(word, place)?),
+            CommandOption::Level => self.level = Some(byte(word, place)?),
+            CommandOption::Size => {
+                let wrong = Expected::Size.wrong(b"no number from 0 to 65535", place);
+                self.size = Some(value::number(word).ok_or(wrong)?);
             }
-            option::COMMAND => self.wrong_command(rt, b"no word behind the option", place),
-            option::SIZE => self.wrong_size(rt, b"no number behind the option", place),
-            option::EDITION => self.wrong_edition(rt, b"no edition behind the option", place),
-            option::MAGIC => self.wrong(
-                rt,
-                b"no file behind the option",
-                place,
-                b"write SHEET OUT --magic FROM keeps the block of the image FROM",
-            ),
-            _ => self.wrong_number(rt, b"no number behind the option", place),
+            CommandOption::Edition => {
+                let wrong = Expected::Edition.wrong(b"no edition of version 1", place);
+                self.first_edition = Some(value::first_edition(word).ok_or(wrong)?);
+            }
+            CommandOption::Password => self.password = Some(bytes(word, place)?),
+            CommandOption::Address => self.address = Some(bytes(word, place)?),
+            CommandOption::Command => {
+                let wrong = Expected::Word.wrong(b"no word of one to four digits", place);
+                self.command_word = Some(value::command_word(word).ok_or(wrong)?);
+            }
+            CommandOption::Magic => self.from = Some(place),
+            CommandOption::Force | CommandOption::Wide => {}
         }
-    }
-
-    // No word more, behind the last one, of a role.
-    fn ended(self, rt: &impl Env, role: u8, last: usize) -> Words {
-        let waits = option::takes_value(self.command, role);
-        if !waits {
-            return self;
-        }
-        self.without_value(rt, role, last)
-    }
-
-    // The place of a plain word.
-    fn place(self, number: usize) -> usize {
-        if KEPT <= number {
-            return 0;
-        }
-        let places = self.places;
-        places[number]
+        Ok(())
     }
 
     // Whether there are as many plain words as the command takes.
-    fn counted(self, rt: &impl Env) -> Words {
-        if !self.fine {
-            return self;
+    fn counted(&self) -> Result<(), Wrong> {
+        if self.places.len() < self.command.fewest() {
+            return Err(Wrong::new(b"the command takes more words", COMMAND_AT, PLAIN_WORDS));
         }
-        if self.count < command::fewest(self.command) {
-            return self.wrong_count(rt, b"the command takes more words", 1);
+        if let Some(most) = self.command.most()
+            && let Some(place) = self.places.get(most)
+        {
+            return Err(Wrong::new(b"a word too many", *place, PLAIN_WORDS));
         }
-        let most = command::most(self.command);
-        if most < self.count {
-            return self.wrong_count(rt, b"a word too many", self.place(most));
-        }
-        self
+        Ok(())
     }
 
-    fn with_chip(self, rt: &impl Env) -> Words {
-        if !self.fine {
-            return self;
+    // The chip, for a command that takes one behind its file.
+    fn with_chip(&mut self, rt: &impl Env) -> Result<(), Wrong> {
+        if self.command.takes_chip()
+            && let Some(place) = self.places.get(1).copied()
+        {
+            let word = typed::word::<LONGEST>(rt, place);
+            let chip = chip_of(&word).ok_or(Wrong::new(b"no such chip", place, CHIPS))?;
+            self.chip = Some(chip);
         }
-        let takes = command::takes_chip(self.command);
-        if !takes {
-            return self;
-        }
-        let place = self.place(1);
-        let mut next = self;
-        next.chip = chip_at(rt, place);
-        if next.chip == 0 {
-            return next.wrong(
-                rt,
-                b"no such chip",
-                place,
-                b"the chips are 21041, 21140, 21142, 21143 and 21145",
-            );
-        }
-        next
+        Ok(())
     }
 
-    fn missing(self, rt: &impl Env, what: &[u8]) -> Words {
-        self.wrong(
-            rt,
-            what,
-            1,
-            b"magic takes all of --password P, --address A and --command C",
-        )
-    }
-
-    // Whether the options are given that `magic` cannot do without.
-    fn complete(self, rt: &impl Env) -> Words {
-        if !self.fine {
-            return self;
+    // The block, for `magic`, which cannot do without any of its three options.
+    fn with_block(&mut self) -> Result<(), Wrong> {
+        if self.command == Command::Magic {
+            let needed = |what| Wrong::new(what, COMMAND_AT, NEEDED_OPTIONS);
+            self.block = Some(Magic {
+                password: self
+                    .password
+                    .ok_or(needed(b"the command needs --password P"))?,
+                address: self
+                    .address
+                    .ok_or(needed(b"the command needs --address A"))?,
+                command: self
+                    .command_word
+                    .ok_or(needed(b"the command needs --command C"))?,
+            });
         }
-        if self.command != command::MAGIC {
-            return self;
-        }
-        if !self.has(option::PASSWORD) {
-            return self.missing(rt, b"the command needs --password P");
-        }
-        if !self.has(option::ADDRESS) {
-            return self.missing(rt, b"the command needs --address A");
-        }
-        if !self.has(option::COMMAND) {
-            return self.missing(rt, b"the command needs --command C");
-        }
-        self
+        Ok(())
     }
 }
 
-// One word more, of a role, behind one of another.
-fn with_word(rt: &impl Env, words: Words, place: usize, role: u8, before: u8) -> Words {
-    match role {
-        option::PLAIN => words.with_plain(place),
-        option::VALUE => words.with_value(rt, before, place),
-        option::UNKNOWN => words.unknown(rt, place),
-        _ => words.with_option(rt, role, place),
-    }
+fn byte(word: &[u8], place: usize) -> Result<u8, Wrong> {
+    let wrong = Expected::Number.wrong(b"no number from 0 to 255", place);
+    value::byte(word).ok_or(wrong)
+}
+
+fn bytes(word: &[u8], place: usize) -> Result<[u8; BYTES], Wrong> {
+    let wrong = Expected::Bytes.wrong(b"no six bytes with colons between them", place);
+    value::six_bytes(word).ok_or(wrong)
 }
 
 // ## All words
 
-// The words behind a command, up to the first that is wrong.
-fn read_behind(rt: &impl Env, command: u8) -> Words {
+// What the words ask for, up to the first that is wrong.
+fn words_of(rt: &impl Env) -> Result<Words, Wrong> {
     let end = typed::count(rt);
+    if end <= COMMAND_AT {
+        return Ok(Words::of(Command::Help));
+    }
+    let word = typed::word::<LONGEST>(rt, COMMAND_AT);
+    let no_command = Wrong::new(b"no such command", COMMAND_AT, COMMANDS);
+    let command = Command::named(&word).ok_or(no_command)?;
     let mut words = Words::of(command);
-    let mut role = option::PLAIN;
-    let mut last = 1;
-    let mut place = 2;
-    while place < end {
-        let before = role;
-        role = role_at(rt, place, before, command);
-        words = with_word(rt, words, place, role, before);
-        if !words.fine {
-            return words;
-        }
-        last = place;
-        place += 1;
+    let mut role = Role::Plain;
+    for place in COMMAND_AT + 1..end {
+        let word = typed::word::<LONGEST>(rt, place);
+        role = role_of(&word, role, command);
+        words.add(role, &word, place)?;
     }
-    words.ended(rt, role, last)
+    if let Role::Named(option) = role
+        && let Some(expected) = option.value(command)
+    {
+        return Err(expected.missing(end - 1));
+    }
+    words.counted()?;
+    words.with_chip(rt)?;
+    words.with_block()?;
+    Ok(words)
 }
 
-fn no_command(rt: &impl Env) -> Words {
-    let words = Words::of(command::NONE).wrong(
-        rt,
-        b"no such command",
-        1,
-        b"try read, older, walk, sheet, write, widen, narrow, magic, map, dump,",
-    );
-    suggest(b"refusals or help");
-    words
-}
-
-// What the words ask for, or a complaint about the first that is wrong.
-pub fn read(rt: &impl Env) -> Words {
-    if typed::count(rt) < 2 {
-        return Words::of(command::HELP);
-    }
-    let command = command_at(rt, 1);
-    if command == command::NONE {
-        return no_command(rt);
-    }
-    read_behind(rt, command)
-        .counted(rt)
-        .with_chip(rt)
-        .complete(rt)
+// What the words ask for. Where one is wrong, the first of them has been complained of.
+pub fn read(rt: &impl Env) -> Result<Words, Complained> {
+    words_of(rt).map_err(|wrong| wrong.show(rt))
 }

@@ -1,155 +1,170 @@
 // The commands, and the words that each takes.
 ghost use Rattle.std.specs.Prelude.{◌≡◌};
+ghost use Rattle.std.specs.Option.{unwrap_or};
 ghost use Rattle.console.specs.Commands.{command_of, takes_chip, fewest_of, most_of};
-ghost use Rattle.console.specs.Commands.{takes_arguments, takes_force, takes_size, takes_wide, takes_option};
+ghost use Rattle.console.specs.Commands.{takes_arguments, takes_force, takes_layout, takes_size, takes_wide, takes_option};
+ghost use Rattle.console.specs.Commands.{command_name, command_as_number, named_as_number};
+ghost use Rattle.console.specs.Options.{option_as_number};
 
-use crate::arguments::KEPT;
-use crate::option;
+use crate::option::CommandOption;
 
-pub const NONE: u8 = 0;
-
-pub const READ: u8 = 1;
-
-pub const OLDER: u8 = 2;
-
-pub const WALK: u8 = 3;
-
-pub const SHEET: u8 = 4;
-
-pub const MAP: u8 = 5;
-
-pub const WRITE: u8 = 6;
-
-pub const MAGIC: u8 = 7;
-
-pub const WIDEN: u8 = 8;
-
-pub const NARROW: u8 = 9;
-
-pub const REFUSALS: u8 = 10;
-
-pub const HELP: u8 = 11;
-
-// The command that a word names.
-pub(crate) fn command_of(word: &[u8]) -> u8
-    ensures { result ≡ command_of word.now }
-{
-    let number = text::number(text::words(
-        b"read 1
-older 2
-walk 3
-sheet 4
-map 5
-write 6
-magic 7
-widen 8
-narrow 9
-refusals 10
-help 11
-",
-        word,
-    ));
-    if (HELP as u32) < number {
-        return NONE;
-    }
-    number as u8
+#[derive(Clone, Copy, PartialEq, Eq)]
+pub enum Command {
+    Read,
+    Older,
+    Walk,
+    Sheet,
+    Map,
+    Write,
+    Magic,
+    Widen,
+    Narrow,
+    Refusals,
+    Help,
 }
 
-// Whether a command reads a card, and so takes a chip behind the file.
-pub(crate) fn takes_chip(command: u8) -> bool
-    ensures { result ≡ takes_chip command }
-{
-    command <= MAP
-}
+impl Command {
+    const ALL: [Command; 11] = [
+        Command::Read,
+        Command::Older,
+        Command::Walk,
+        Command::Sheet,
+        Command::Map,
+        Command::Write,
+        Command::Magic,
+        Command::Widen,
+        Command::Narrow,
+        Command::Refusals,
+        Command::Help,
+    ];
 
-// The fewest plain words behind a command.
-pub(crate) fn fewest(command: u8) -> usize
-    ensures { result ≡ fewest_of command }
-{
-    if NARROW < command {
-        return 0;
+    fn name(self) -> &'static [u8]
+        ensures { result.now ≡ command_name self }
+    {
+        match self {
+            Command::Read => b"read",
+            Command::Older => b"older",
+            Command::Walk => b"walk",
+            Command::Sheet => b"sheet",
+            Command::Map => b"map",
+            Command::Write => b"write",
+            Command::Magic => b"magic",
+            Command::Widen => b"widen",
+            Command::Narrow => b"narrow",
+            Command::Refusals => b"refusals",
+            Command::Help => b"help",
+        }
     }
-    if WRITE <= command {
-        return 2;
-    }
-    if command <= OLDER {
-        return 2;
-    }
-    3
-}
 
-// The most of them: `walk` has no bound.
-pub(crate) fn most(command: u8) -> usize
-    ensures { result ≡ most_of command }
-{
-    if command == WALK {
-        return KEPT;
+    // The command that a word names.
+    pub(crate) fn named(word: &[u8]) -> Option<Command>
+        ensures { named_as_number result ≡ command_of word.now }
+    {
+        Command::ALL
+            .iter()
+            .copied()
+            .find(|command| command.name() == word)
     }
-    fewest(command)
-}
 
-fn takes_arguments(command: u8) -> bool
-    ensures { result ≡ takes_arguments command }
-{
-    if command == READ {
-        return true;
+    // Whether it reads a card, and so takes a chip behind the file.
+    #[tactic(auto, unfolding(crate::specs::Commands::takes_chip))]
+    pub(crate) fn takes_chip(self) -> bool
+        ensures { result ≡ takes_chip (command_as_number self) }
+    {
+        matches!(
+            self,
+            Command::Read | Command::Older | Command::Walk | Command::Sheet | Command::Map
+        )
     }
-    if command == OLDER {
-        return true;
-    }
-    if command == WALK {
-        return true;
-    }
-    command == MAP
-}
 
-fn takes_force(command: u8) -> bool
-    ensures { result ≡ takes_force command }
-{
-    if command < SHEET {
-        return false;
+    // The fewest plain words behind it.
+    #[tactic(auto, unfolding(crate::specs::Commands::fewest_of, rom::specs::Bytes::pick))]
+    pub(crate) fn fewest(self) -> usize
+        ensures { result ≡ fewest_of (command_as_number self) }
+    {
+        match self {
+            Command::Refusals | Command::Help => 0,
+            Command::Read | Command::Older => 2,
+            Command::Write | Command::Magic | Command::Widen | Command::Narrow => 2,
+            Command::Walk | Command::Sheet | Command::Map => 3,
+        }
     }
-    command <= NARROW
-}
 
-// Whether a command takes the size of a card's ROM.
-fn takes_size(command: u8) -> bool
-    ensures { result ≡ takes_size command }
-{
-    command <= MAGIC
-}
+    // The most of them: `walk` has no bound.
+    #[tactic(auto, unfolding(crate::specs::Commands::most_of, rom::specs::Bytes::pick))]
+    pub(crate) fn most(self) -> Option<usize>
+        ensures { unwrap_or result 4 ≡ most_of (command_as_number self) }
+    {
+        if self == Command::Walk {
+            None
+        } else {
+            Some(self.fewest())
+        }
+    }
 
-// Whether a command takes a sheet of either form.
-fn takes_wide(command: u8) -> bool
-    ensures { result ≡ takes_wide command }
-{
-    if command == SHEET {
-        return true;
+    #[tactic(auto, unfolding(crate::specs::Commands::takes_arguments))]
+    fn takes_arguments(self) -> bool
+        ensures { result ≡ takes_arguments (command_as_number self) }
+    {
+        matches!(
+            self,
+            Command::Read | Command::Older | Command::Walk | Command::Map
+        )
     }
-    command == WRITE
-}
 
-// Whether a command takes an option.
-pub(crate) fn takes(command: u8, option: u8) -> bool
-    ensures { result ≡ takes_option command option }
-{
-    if option == option::FORCE {
-        return takes_force(command);
+    #[tactic(auto, unfolding(crate::specs::Commands::takes_force))]
+    fn takes_force(self) -> bool
+        ensures { result ≡ takes_force (command_as_number self) }
+    {
+        matches!(
+            self,
+            Command::Sheet
+                | Command::Map
+                | Command::Write
+                | Command::Magic
+                | Command::Widen
+                | Command::Narrow
+        )
     }
-    if option == option::MAGIC {
-        return command <= WRITE;
+
+    // Whether it reads a card or writes one from a sheet, and so takes a layout and an edition.
+    #[tactic(auto, unfolding(crate::specs::Commands::takes_chip))]
+    fn takes_layout(self) -> bool
+        ensures { result ≡ takes_layout (command_as_number self) }
+    {
+        self.takes_chip() || self == Command::Write
     }
-    if option == option::SIZE {
-        return takes_size(command);
+
+    // Whether it takes the size of a card's ROM.
+    #[tactic(auto, unfolding(crate::specs::Commands::takes_size))]
+    fn takes_size(self) -> bool
+        ensures { result ≡ takes_size (command_as_number self) }
+    {
+        self.takes_layout() || self == Command::Magic
     }
-    if option == option::EDITION {
-        return command <= WRITE;
+
+    // Whether it takes a sheet of either form.
+    #[tactic(auto, unfolding(crate::specs::Commands::takes_wide))]
+    fn takes_wide(self) -> bool
+        ensures { result ≡ takes_wide (command_as_number self) }
+    {
+        matches!(self, Command::Sheet | Command::Write)
     }
-    if option == option::WIDE {
-        return takes_wide(command);
+
+    // Whether it takes an option.
+    #[tactic(auto, unfolding(crate::specs::Commands::takes_option, rom::specs::Bytes::pick))]
+    pub(crate) fn takes(self, option: CommandOption) -> bool
+        ensures { result ≡ takes_option (command_as_number self) (option_as_number option) }
+    {
+        match option {
+            CommandOption::Controller | CommandOption::Level => self.takes_arguments(),
+            CommandOption::Size => self.takes_size(),
+            CommandOption::Edition | CommandOption::Magic => self.takes_layout(),
+            CommandOption::Password | CommandOption::Address | CommandOption::Command => {
+                self == Command::Magic
+            }
+            CommandOption::Force => self.takes_force(),
+            CommandOption::Wide => self.takes_wide(),
+        }
     }
-    if option::EDITION < option {
-        return command == MAGIC;
-    }
-    takes_arguments(command)
 }

@@ -1,12 +1,14 @@
 // A file that holds an image or a sheet: raw, or as hexadecimal text, which is told apart by itself.
 ghost use Rattle.io.specs.Counts.{IsPrefixLen};
 
-use crate::arguments::{complain, is_word, suggest};
+use crate::arguments::{Complained, complain};
 use crate::typed::PATH_MAX;
 use crate::{failure, typed};
+use arrayvec::ArrayVec;
+use hexadecimal::Problem;
 use hexadecimal::held::ROOM;
 use std::fs;
-use std::io::{Read, Result};
+use std::io::Read;
 use std::rt::{Env, Files};
 use text::line;
 use text::slice::part;
@@ -14,118 +16,73 @@ use text::slice::part;
 // The most bytes of a file: the longest sheet has fewer in every form of text.
 const LONGEST: usize = 8192;
 
-// The bytes of a file, or that there are none to be had, which has been said.
-#[derive(Drop)]
-pub struct Input {
-    pub found: bool,
-    pub bytes: [u8; ROOM],
-    pub length: usize,
+const TOO_MANY: &[u8] = b"found more than 2,048 bytes";
+
+// The bytes of a file.
+pub type Input = ArrayVec<u8, ROOM>;
+
+fn refuse(rt: &impl Env, what: &[u8], place: usize) -> Complained {
+    complain(rt, what, place).suggest(
+        b"expected raw bytes, or hexadecimal text; ./card help names its forms",
+    )
 }
 
-fn nothing() -> Input {
-    Input {
-        found: false,
-        bytes: [0; ROOM],
-        length: 0,
+fn problem_words(problem: Problem) -> &'static [u8] {
+    match problem {
+        Problem::NoOffset => b"found a line that no offset begins",
+        Problem::WrongOffset => b"found an offset that is not the next byte's",
+        Problem::NoByte => b"found no byte or word where one belongs",
+        Problem::TooMany => TOO_MANY,
+        Problem::NoBytes => b"found text that is not hexadecimal",
     }
-}
-
-fn refuse(rt: &impl Env, what: &[u8], place: usize) -> Input {
-    complain(rt, what, place);
-    suggest(b"expected raw bytes, or hexadecimal text; ./card help names its forms");
-    nothing()
-}
-
-fn refuse_text(rt: &impl Env, problem: u8, place: usize) -> Input {
-    if problem == hexadecimal::NO_OFFSET {
-        return refuse(rt, b"found a line that no offset begins", place);
-    }
-    if problem == hexadecimal::WRONG_OFFSET {
-        return refuse(rt, b"found an offset that is not the next byte's", place);
-    }
-    if problem == hexadecimal::NO_BYTE {
-        return refuse(rt, b"found no byte or word where one belongs", place);
-    }
-    if problem == hexadecimal::NO_BYTES {
-        return refuse(rt, b"found text that is not hexadecimal", place);
-    }
-    refuse(rt, b"found more than 2,048 bytes", place)
-}
-
-fn raw(source: &[u8]) -> Input {
-    let mut input = nothing();
-    let mut i = 0;
-    while i < source.len() {
-        if ROOM <= i {
-            return input;
-        }
-        input.bytes[i] = source[i];
-        i += 1;
-    }
-    input.length = i;
-    input.found = true;
-    input
 }
 
 // The line with which something is wrong.
 fn show_line(source: &[u8], number: u32) {
-    let line = line::of(b"      found in line #: ", [number as u64, 0, 0, 0]);
-    line.text(part(text::line_number(source, number), 0, 54))
+    line::of(b"      found in line #: ", [u64::from(number), 0, 0, 0])
+        .text(part(text::line_number(source, number), 0, 54))
         .complain();
 }
 
-fn decoded(rt: &impl Env, source: &[u8], place: usize) -> Input {
+fn decoded(rt: &impl Env, source: &[u8], place: usize) -> Result<Input, Complained> {
     let reading = hexadecimal::decode(source);
-    let held = reading.held;
-    let problem = held.problem;
-    if problem == hexadecimal::FINE {
-        let bytes = held.bytes;
-        return Input {
-            found: true,
-            bytes,
-            length: held.length,
-        };
-    }
-    let input = refuse_text(rt, problem, place);
-    if problem != hexadecimal::NO_BYTES {
+    let Some(problem) = reading.held.problem else {
+        return Ok(reading.held.bytes);
+    };
+    let complained = refuse(rt, problem_words(problem), place);
+    if problem != Problem::NoBytes {
         show_line(source, reading.line);
     }
-    input
+    Err(complained)
 }
 
-fn told_apart(rt: &impl Env, source: &[u8], place: usize) -> Input {
-    if source.len() == 0 {
-        return refuse(rt, b"found an empty file", place);
+fn told_apart(rt: &impl Env, source: &[u8], place: usize) -> Result<Input, Complained> {
+    if source.is_empty() {
+        return Err(refuse(rt, b"found an empty file", place));
     }
     if text::is_text(source) {
         return decoded(rt, source, place);
     }
-    if ROOM < source.len() {
-        return refuse(rt, b"found more than 2,048 bytes", place);
-    }
-    raw(source)
+    ArrayVec::try_from(source).map_err(|_| refuse(rt, TOO_MANY, place))
 }
 
 // A read of no bytes tells a file from what is none, as a directory.
 fn is_readable(file: &mut impl Read) -> bool {
-    let mut nothing = [0u8; 0];
-    file.read(&mut nothing).is_ok()
+    file.read(&mut []).is_ok()
 }
 
 // How many bytes a read brings to the front of the room: none where it fails.
 fn bytes_read(file: &mut impl Read, room: &mut [u8]) -> usize
     ensures { IsPrefixLen result room.new }
 {
-    match file.read(room) {
-        Ok(length) => length,
-        Err(_) => 0,
-    }
+    file.read(room).unwrap_or(0)
 }
 
 // Fills the front of the room, up to the file's end, and answers how far.
 fn fill(file: &mut impl Read, room: &mut [u8]) -> usize
     ensures { IsPrefixLen result room.new }
 {
+    // A `while`: the place goes on by what a read brings, and no `for` or method does that more plainly.
     let mut done = 0;
     while done < room.len() {
         let read = bytes_read(file, &mut room[done..]);
@@ -137,49 +94,32 @@ fn fill(file: &mut impl Read, room: &mut [u8]) -> usize
     done
 }
 
-// Whether a file that has been read as far as there is room goes on.
-fn goes_on(file: &mut impl Read) -> bool {
-    let mut next = [0u8; 1];
-    0 < bytes_read(file, &mut next)
-}
-
-fn read_from(file: &mut impl Read, rt: &impl Env, place: usize) -> Input {
-    let readable = is_readable(file);
-    if !readable {
-        return refuse(rt, b"found no file that can be read", place);
+fn read_from(file: &mut impl Read, rt: &impl Env, place: usize) -> Result<Input, Complained> {
+    if !is_readable(file) {
+        return Err(refuse(rt, b"found no file that can be read", place));
     }
-    let mut room = [0u8; LONGEST];
+    let mut room = [0; LONGEST];
     let length = fill(file, &mut room);
-    if goes_on(file) {
-        return refuse(rt, b"found more than 8,192 bytes", place);
+    if 0 < bytes_read(file, &mut [0]) {
+        return Err(refuse(rt, b"found more than 8,192 bytes", place));
     }
     told_apart(rt, &room[..length], place)
 }
 
 // Opens the file of a name for reading.
-fn open<R: Files>(rt: &R, name: &[u8]) -> Result<R::File> {
-    match failure::text_of(name) {
-        Ok(name) => fs::open(rt, name),
-        Err(error) => Err(error),
-    }
+fn open<R: Files>(rt: &R, name: &[u8]) -> std::io::Result<R::File> {
+    fs::open(rt, failure::text_of(name)?)
 }
 
 // The file that a word names, '-' for standard input.
-pub fn read_file(rt: &(impl Files + std::io::Input + Env), place: usize) -> Input {
-    if is_word(rt, place, b"-") {
+pub fn read_file(
+    rt: &(impl Files + std::io::Input + Env),
+    place: usize,
+) -> Result<Input, Complained> {
+    let name = typed::word::<PATH_MAX>(rt, place);
+    if matches!(name.as_slice(), b"-") {
         return read_from(&mut rt.reader(), rt, place);
     }
-    let mut room = [0u8; PATH_MAX];
-    let length = typed::word(rt, place, &mut room);
-    let name = &room[..length];
-    match open(rt, name) {
-        Ok(file) => {
-            let mut file = file;
-            read_from(&mut file, rt, place)
-        }
-        Err(error) => {
-            failure::show(name, error);
-            nothing()
-        }
-    }
+    let mut file = open(rt, &name).map_err(|error| failure::show(&name, error))?;
+    read_from(&mut file, rt, place)
 }

@@ -1,115 +1,149 @@
 // What a word behind the command is: an option, an option's value, or a plain word.
-ghost use Rattle.std.specs.Prelude.{◌≡◌};
+ghost use Rattle.std.specs.Prelude.{◌≡◌, ◌≢◌, ◌<◌, ◌↔◌, IsTrue, IsSome, IfSome};
+ghost use Rattle.std.specs.Option.{unwrap_or};
+ghost use Rattle.format.specs.Chips.{row_of};
 ghost use Rattle.console.specs.Word.{chip_named};
-ghost use Rattle.console.specs.Options.{option_of};
+ghost use Rattle.console.specs.Commands.{command_as_number};
+ghost use Rattle.console.specs.Options.{option_number, option_of, option_name, option_as_number, found_as_number, role_as_number};
 ghost use Rattle.console.specs.Roles.{takes_value, role_of};
 
-use crate::command;
+use crate::command::Command;
+use crate::value;
 use block::chip;
-use text::slice::{part, same};
 
 // ## The roles of a word
 
-pub const PLAIN: u8 = 0;
-
-pub const CONTROLLER: u8 = 1;
-
-pub const LEVEL: u8 = 2;
-
-pub const SIZE: u8 = 3;
-
-pub const EDITION: u8 = 4;
-
-pub const PASSWORD: u8 = 5;
-
-pub const ADDRESS: u8 = 6;
-
-pub const COMMAND: u8 = 7;
-
-pub const MAGIC: u8 = 8;
-
-pub const FORCE: u8 = 9;
-
-pub const WIDE: u8 = 10;
-
-// It begins as an option does, and is none.
-pub const UNKNOWN: u8 = 11;
-
-// The value of the option before it.
-pub const VALUE: u8 = 12;
-
-// Whether an option of a command takes a value: all but --force, --wide and --magic do, and in `write` --magic does.
-pub(crate) fn takes_value(command: u8, option: u8) -> bool
-    ensures { result ≡ takes_value command option }
-{
-    if option == PLAIN {
-        return false;
-    }
-    if option <= COMMAND {
-        return true;
-    }
-    if option != MAGIC {
-        return false;
-    }
-    command == command::WRITE
+#[derive(Clone, Copy, PartialEq, Eq)]
+pub enum CommandOption {
+    Controller,
+    Level,
+    Size,
+    Edition,
+    Password,
+    Address,
+    Command,
+    Magic,
+    Force,
+    Wide,
 }
 
-// The option that a word is.
-fn option_of(word: &[u8]) -> u8
-    ensures { result ≡ option_of word.now }
+#[derive(Clone, Copy, PartialEq, Eq)]
+pub enum Role {
+    Plain,
+    Named(CommandOption),
+    // The value of the option before it.
+    Value(CommandOption),
+    // It begins as an option does, and is none.
+    Unknown,
+}
+
+// What an option's value should be.
+#[derive(Clone, Copy)]
+pub(crate) enum Expected {
+    Number,
+    Size,
+    Edition,
+    Bytes,
+    Word,
+    File,
+}
+
+impl CommandOption {
+    const ALL: [CommandOption; 10] = [
+        CommandOption::Controller,
+        CommandOption::Level,
+        CommandOption::Size,
+        CommandOption::Edition,
+        CommandOption::Password,
+        CommandOption::Address,
+        CommandOption::Command,
+        CommandOption::Magic,
+        CommandOption::Force,
+        CommandOption::Wide,
+    ];
+
+    fn name(self) -> &'static [u8]
+        ensures { result.now ≡ option_name self }
+    {
+        match self {
+            CommandOption::Controller => b"--controller",
+            CommandOption::Level => b"--level",
+            CommandOption::Size => b"--size",
+            CommandOption::Edition => b"--edition",
+            CommandOption::Password => b"--password",
+            CommandOption::Address => b"--address",
+            CommandOption::Command => b"--command",
+            CommandOption::Magic => b"--magic",
+            CommandOption::Force => b"--force",
+            CommandOption::Wide => b"--wide",
+        }
+    }
+
+    // The option that a word names.
+    fn named(word: &[u8]) -> Option<CommandOption>
+        ensures { found_as_number result ≡ option_number word.now }
+    {
+        CommandOption::ALL
+            .iter()
+            .copied()
+            .find(|option| option.name() == word)
+    }
+
+    // The value that it takes: --force and --wide take none, and --magic does in `write`.
+    #[tactic(auto, unfolding(crate::specs::Roles::takes_value))]
+    pub(crate) fn value(self, command: Command) -> Option<Expected>
+        ensures { IsSome result ↔ IsTrue (takes_value (command_as_number command) (option_as_number self)) }
+    {
+        match self {
+            CommandOption::Controller | CommandOption::Level => Some(Expected::Number),
+            CommandOption::Size => Some(Expected::Size),
+            CommandOption::Edition => Some(Expected::Edition),
+            CommandOption::Password | CommandOption::Address => Some(Expected::Bytes),
+            CommandOption::Command => Some(Expected::Word),
+            CommandOption::Magic if command == Command::Write => Some(Expected::File),
+            CommandOption::Magic | CommandOption::Force | CommandOption::Wide => None,
+        }
+    }
+}
+
+// What a word is by itself.
+#[tactic(auto, using(crate::proofs::OptionNamed::option_picked), unfolding(crate::specs::Options::option_of))]
+fn option_of(word: &[u8]) -> Role
+    ensures role { role_as_number result ≡ option_of word.now }
+    ensures no_value { (option : CommandOption) → result ≢ Role.Value option }
 {
-    let number = text::number(text::words(
-        b"--controller 1
---level 2
---size 3
---edition 4
---password 5
---address 6
---command 7
---magic 8
---force 9
---wide 10
-",
-        word,
-    ));
-    if number <= (WIDE as u32) {
-        return number as u8;
+    match CommandOption::named(word) {
+        Some(option) => Role::Named(option),
+        None if word.starts_with(b"--") => Role::Unknown,
+        None => Role::Plain,
     }
-    let dashed = same(part(word, 0, 2), b"--");
-    if dashed {
-        return UNKNOWN;
-    }
-    PLAIN
 }
 
 // The role of a word of a command, behind one of a role.
-pub fn role_of(word: &[u8], before: u8, command: u8) -> u8
-    ensures { result ≡ role_of word.now before command }
+#[tactic(auto, unfolding(crate::specs::Roles::role_of, crate::specs::Roles::takes_value, rom::specs::Bytes::pick))]
+pub fn role_of(word: &[u8], before: Role, command: Command) -> Role
+    ensures role { role_as_number result ≡ role_of word.now (role_as_number before) (command_as_number command) }
+    ensures value { (option : CommandOption) → result ≡ Role.Value option → before ≡ Role.Named option }
 {
-    let value = takes_value(command, before);
-    if value {
-        return VALUE;
+    match before {
+        Role::Named(option) if option.value(command).is_some() => Role::Value(option),
+        _ => option_of(word),
     }
-    option_of(word)
 }
 
 // ## What the words mean
 
-// The chip that a word names, or 0. The 21140A counts as 21140.
-pub(crate) fn chip_of(word: &[u8]) -> u16
-    ensures { result ≡ chip_named word.now }
+const REVISED: &[u8] = b"21140A";
+
+// The chip that a word names. The 21140A counts as 21140.
+#[tactic(auto, unfolding(crate::specs::Word::chip_named, text::specs::Slices::same_bytes, rom::specs::Bytes::pick))]
+pub(crate) fn chip_of(word: &[u8]) -> Option<u16>
+    ensures number { unwrap_or result 0 ≡ chip_named word.now }
+    ensures known { IfSome result (λ chip. row_of chip < 5) }
 {
-    let revised = same(word, b"21140A");
-    if revised {
-        return 21140;
+    if word == REVISED {
+        return Some(21140);
     }
-    let number = text::number(word);
-    if 65_535 < number {
-        return 0;
-    }
-    let chip = number as u16;
-    if chip::CHIP_COUNT <= chip::row_of(chip) {
-        return 0;
-    }
-    chip
+    let number = value::number(word)?;
+    (chip::row_of(number) < chip::CHIP_COUNT).then_some(number)
 }

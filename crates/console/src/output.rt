@@ -1,22 +1,19 @@
 // A file that is written whole or not at all: a temporary one beside it takes the bytes, and at the end its name.
-use crate::arguments::complain;
+use crate::arguments::{Complained, complain};
 use crate::typed::PATH_MAX;
 use crate::{failure, typed};
-use std::fs;
+use arrayvec::ArrayVec;
 use std::fs::{File, OpenOptions, Permissions};
-use std::io::{ErrorKind, Result};
+use std::io::{ErrorKind, Write};
 use std::os::fd::AsRawFd;
 use std::os::unix::fs::{OpenOptionsExt, PermissionsExt};
 use std::rt::{Env, Files};
-use text::slice::part;
+use std::{fs, io};
 
 // Paths are shorter, so that there is room for a temporary file's ending.
 const PATH_LIMIT: usize = 4000;
 
-// That ending's length.
-const ENDING: usize = 7;
-
-// The last number that it can have.
+// The last number that the ending can have.
 const LAST: u32 = 999_999;
 
 // Who may read and write a file: its owner alone until it is whole, and what the system asks for else.
@@ -24,187 +21,118 @@ const PRIVATE: u32 = 0o600;
 
 const PUBLIC: u32 = 0o666;
 
-// A temporary file that is open for writing, the descriptor that its bytes go to, and its path.
+type FilePath = ArrayVec<u8, PATH_MAX>;
+
+// A temporary file that is open for writing: the descriptor that its bytes go to, its path, and the place of the word that names the
+// file that it becomes.
 #[derive(Drop)]
 pub struct Output {
     pub descriptor: i32,
     file: File,
-    path: [u8; PATH_MAX],
-    length: usize,
+    path: FilePath,
+    place: usize,
 }
 
-// A path with the ending behind it.
-fn with_ending(path: [u8; PATH_MAX], length: usize) -> [u8; PATH_MAX] {
-    let start = length % PATH_LIMIT;
-    let mut long = path;
-    let mut k = 0;
-    while k < ENDING {
-        long[start + k] = b'X';
-        k += 1;
-    }
-    long[start] = b'.';
-    long
-}
-
-// The same with a number in the ending.
-fn numbered(path: [u8; PATH_MAX], length: usize, number: u32) -> [u8; PATH_MAX] {
-    let start = length % PATH_LIMIT;
-    let mut long = path;
-    let mut left = number;
-    let mut k = ENDING - 1;
-    while 0 < k {
-        long[start + k] = b'0' + ((left % 10) as u8);
-        left /= 10;
-        k -= 1;
-    }
-    long
+// The path of a temporary file with a number, beside a file of a name.
+fn numbered(name: &[u8], number: u32) -> io::Result<FilePath> {
+    let mut path = FilePath::new();
+    path.write_all(name)?;
+    write!(path, ".{number:06}")?;
+    Ok(path)
 }
 
 // Makes a file, where there is none of its name.
-fn create(rt: &impl Files<File = File>, name: &[u8], mode: u32) -> Result<File> {
-    match failure::text_of(name) {
-        Ok(name) => OpenOptions::new()
-            .write(true)
-            .create_new(true)
-            .mode(mode)
-            .open(rt, name),
-        Err(error) => Err(error),
-    }
+fn create(rt: &impl Files<File = File>, name: &[u8], mode: u32) -> io::Result<File> {
+    OpenOptions::new()
+        .write(true)
+        .create_new(true)
+        .mode(mode)
+        .open(rt, failure::text_of(name)?)
 }
 
 fn make_numbered(
     rt: &impl Files<File = File>,
-    path: [u8; PATH_MAX],
-    length: usize,
+    name: &[u8],
     number: u32,
-) -> Result<Output> {
-    let path = numbered(path, length, number);
-    let length = length % PATH_LIMIT + ENDING;
-    match create(rt, part(&path, 0, length), PRIVATE) {
-        Ok(file) => {
-            let descriptor = file.as_raw_fd();
-            Ok(Output {
-                descriptor,
-                file,
-                path,
-                length,
-            })
-        }
-        Err(error) => Err(error),
-    }
-}
-
-// Whether there is a file of the name already.
-fn is_taken(made: &Result<Output>) -> bool {
-    match made {
-        Ok(_) => false,
-        Err(error) => error.kind() == ErrorKind::AlreadyExists,
-    }
+) -> io::Result<(File, FilePath)> {
+    let path = numbered(name, number)?;
+    let file = create(rt, &path, PRIVATE)?;
+    Ok((file, path))
 }
 
 // Makes the temporary file whose path has the first number that no file has.
-fn make(rt: &impl Files<File = File>, path: [u8; PATH_MAX], length: usize) -> Result<Output> {
-    let mut number = 0u32;
-    let mut made = make_numbered(rt, path, length, number);
-    while number < LAST {
-        if !is_taken(&made) {
-            return made;
-        }
-        number += 1;
-        made = make_numbered(rt, path, length, number);
-    }
-    made
-}
-
-// Makes the temporary file beside the one that a word names. Where there is none, that has been said.
-pub fn begin(rt: &(impl Files<File = File> + Env), place: usize) -> Option<Output> {
-    let mut room = [0u8; PATH_MAX];
-    let length = typed::word(rt, place, &mut room);
-    let name = &room[..length];
-    if PATH_LIMIT <= length {
-        complain(rt, b"the path is too long", place);
-        return None;
-    }
-    let mut path = [0u8; PATH_MAX];
-    path[..length].copy_from_slice(name);
-    let path = with_ending(path, length);
-    match make(rt, path, length) {
-        Ok(output) => {
-            let _ = output.file.set_permissions(Permissions::from_mode(0o644));
-            Some(output)
-        }
-        Err(error) => {
-            failure::show(part(&path, 0, length + ENDING), error);
-            None
+fn make(rt: &impl Files<File = File>, name: &[u8]) -> io::Result<(File, FilePath)> {
+    for number in 0..LAST {
+        match make_numbered(rt, name, number) {
+            Err(error) if error.kind() == ErrorKind::AlreadyExists => {}
+            made => return made,
         }
     }
-}
-
-// Takes the name, where no file has it.
-fn reserve(rt: &impl Files<File = File>, name: &[u8]) -> bool {
-    match create(rt, name, PUBLIC) {
-        Ok(_) => true,
-        Err(error) => {
-            failure::show(name, error);
-            false
-        }
-    }
-}
-
-fn give_name(rt: &impl Files, path: &[u8], name: &[u8]) -> Result<()> {
-    fs::rename(rt, failure::text_of(path)?, failure::text_of(name)?)
+    make_numbered(rt, name, LAST)
 }
 
 // Gives the temporary file a name, over a file that has it only where that is forced.
-fn rename(rt: &impl Files<File = File>, path: &[u8], name: &[u8], force: bool) -> bool {
+fn rename(rt: &impl Files<File = File>, path: &[u8], name: &[u8], force: bool) -> io::Result<()> {
     if !force {
-        let reserved = reserve(rt, name);
-        if !reserved {
-            return false;
-        }
+        create(rt, name, PUBLIC)?;
     }
-    match give_name(rt, path, name) {
-        Ok(()) => true,
-        Err(error) => {
-            failure::show(name, error);
-            false
-        }
-    }
+    fs::rename(rt, failure::text_of(path)?, failure::text_of(name)?)
 }
 
-fn remove(rt: &impl Files, path: &[u8]) -> Result<()> {
+fn remove(rt: &impl Files, path: &[u8]) -> io::Result<()> {
     fs::remove_file(rt, failure::text_of(path)?)
 }
 
-// Gives the temporary file, where it is whole, the name that a word is, or removes it.
-pub fn finish(
-    rt: &(impl Files<File = File> + Env),
-    output: Output,
-    place: usize,
-    whole: bool,
-    force: bool,
-) -> bool {
-    let mut room = [0u8; PATH_MAX];
-    let length = typed::word(rt, place, &mut room);
-    let name = &room[..length];
-    let Output {
-        descriptor: _,
-        file,
-        path,
-        length,
-    } = output;
-    let path = part(&path, 0, length);
-    let kept = file.sync_all().is_ok();
-    drop(file);
-    if !kept {
-        complain(rt, b"not all could be kept", place);
-    } else if whole {
-        if rename(rt, path, name, force) {
-            return true;
+impl Output {
+    // Makes the temporary file beside the one that a word names.
+    pub fn begin(rt: &(impl Files<File = File> + Env), place: usize) -> Result<Output, Complained> {
+        let mut name = typed::word::<PATH_MAX>(rt, place);
+        if PATH_LIMIT <= name.len() {
+            return Err(complain(rt, b"the path is too long", place));
         }
-    } else {
-        complain(rt, b"not all could be written", place);
+        match make(rt, &name) {
+            Ok((file, path)) => {
+                let _ = file.set_permissions(Permissions::from_mode(0o644));
+                Ok(Output {
+                    descriptor: file.as_raw_fd(),
+                    file,
+                    path,
+                    place,
+                })
+            }
+            Err(error) => {
+                let _ = name.write_all(b".XXXXXX");
+                Err(failure::show(&name, error))
+            }
+        }
     }
-    let _ = remove(rt, path);
-    false
+
+    // Gives the temporary file, where it is whole, the name that the word is, or removes it.
+    pub fn finish(
+        self,
+        rt: &(impl Files<File = File> + Env),
+        whole: bool,
+        force: bool,
+    ) -> Result<(), Complained> {
+        let Output {
+            descriptor: _,
+            file,
+            path,
+            place,
+        } = self;
+        let name = typed::word::<PATH_MAX>(rt, place);
+        let kept = file.sync_all().is_ok();
+        drop(file);
+        let finished = if !kept {
+            Err(complain(rt, b"not all could be kept", place))
+        } else if !whole {
+            Err(complain(rt, b"not all could be written", place))
+        } else {
+            rename(rt, &path, &name, force).map_err(|error| failure::show(&name, error))
+        };
+        if finished.is_err() {
+            let _ = remove(rt, &path);
+        }
+        finished
+    }
 }

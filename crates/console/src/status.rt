@@ -1,33 +1,42 @@
 // What the program ends with.
-ghost use Rattle.std.specs.Prelude.{◌≡◌};
-ghost use Rattle.console.specs.Status.{status_of};
-
-// The image or sheet is accepted.
-pub const ACCEPTED: u8 = 0;
-
-pub const REFUSED: u8 = 1;
-
-// A word is wrong, or a file cannot be read or written.
-pub const USAGE: u8 = 2;
 
 // A program has no exit status of its own: the launcher reads it here, as a digit.
 const FILE: i32 = 3;
 
-pub fn report(status: u8) {
-    if status == ACCEPTED {
-        io::write_all(FILE, b"0");
-    } else if status == REFUSED {
-        io::write_all(FILE, b"1");
-    } else {
-        io::write_all(FILE, b"2");
+#[derive(Clone, Copy, PartialEq, Eq)]
+pub enum Status {
+    // The image or sheet is accepted.
+    Accepted,
+    Refused,
+    // A word is wrong, or a file cannot be read or written.
+    Usage,
+}
+
+impl Status {
+    pub fn report(self) {
+        io::write_all(
+            FILE,
+            match self {
+                Status::Accepted => b"0",
+                Status::Refused => b"1",
+                Status::Usage => b"2",
+            },
+        );
     }
 }
 
-pub fn of(accepted: bool) -> u8
-    ensures { result ≡ status_of accepted }
-{
-    if accepted {
-        return ACCEPTED;
+impl From<bool> for Status {
+    ghost use Rattle.std.specs.Prelude.{◌≡◌};
+    ghost use Rattle.console.specs.Status.{status_of, status_as_number};
+
+    ghost from_gives = { λ accepted status. status_as_number status ≡ status_of accepted };
+
+    #[tactic(auto, unfolding(crate::specs::Status::status_of, rom::specs::Bytes::pick))]
+    fn from(accepted: bool) -> Status {
+        if accepted {
+            Status::Accepted
+        } else {
+            Status::Refused
+        }
     }
-    REFUSED
 }

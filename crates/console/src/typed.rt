@@ -1,20 +1,22 @@
 // The words that the program was started with, by their places, of which 0 is the program's name.
-ghost use Rattle.std.specs.Prelude.{◌≤◌, length};
+ghost use Rattle.std.specs.Prelude.{◌≤◌};
+ghost use Rattle.arrayvec.specs.ArrayVec.{array_vec_len};
 
+use arrayvec::ArrayVec;
 use std::env::FillError;
 use std::rt::Env;
 
 // The longest word that is looked at: the longest path is shorter.
 pub(crate) const PATH_MAX: usize = 4096;
 
-// Copies a word to the front of the room, and answers its length: 0 where there is none, or where the room is too small.
-pub fn word(rt: &impl Env, place: usize, room: &mut [u8]) -> usize
-    ensures { result ≤ length room.new }
+// A word: empty where there is none, or where it is longer than is asked for.
+pub fn word<const N: usize>(rt: &impl Env, place: usize) -> ArrayVec<u8, N>
+    ensures { array_vec_len result ≤ N }
 {
-    match rt.arg(place, room) {
-        Ok(length) => length,
-        Err(_) => 0,
-    }
+    let mut word = ArrayVec::from([0; N]);
+    let length = rt.arg(place, word.as_mut_slice()).unwrap_or(0);
+    word.truncate(length);
+    word
 }
 
 // How many words there are, the program's name among them.

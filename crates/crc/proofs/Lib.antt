@@ -1,3 +1,5 @@
+pub mod Answered
+pub mod Words
 pub mod Turns
 pub mod Tabulated
 pub mod Mirror

@@ -2,7 +2,7 @@
 -- Assumes nothing.
 use mathlib.Core.Path.{◌≡◌, refl, sym, ap, ap₂, ◌∙◌}
 use mathlib.Core.List.{List, [], ◌∷◌}
-use Prim.Native.Nat.{ℕ, zero, suc, ◌+◌, ◌*◌, ◌/◌, ◌%◌, ◌^◌, ◌<◌, ◌≤◌}
+use Prim.Native.Nat.{ℕ, zero, suc, ◌+◌, ◌*◌, ◌/◌, ◌%◌, ◌^◌, ◌<◌, ◌≤◌, ◌-◌}
 use native.Mathlib.Nat.{mul-mod_left, mod-eq_of_lt}
 use native.Mathlib.Numerals.{add-one}
 use native.Mathlib.Omega.{arith}
@@ -14,7 +14,7 @@ use Rattle.crc.specs.Inside.{reflected, turn, turns, bits_in, bytes_in}
 use Rattle.checksum.proofs.Xor.{xor-half, xor-odd, odd-lt, step-lt}
 use Rattle.crc.proofs.Turns.{bits_in-turns}
 use lib.ListN.{length, take, drop, get_or}
-use lib.Seq.{drop-cons, get_or-take, length-take-le, drop-length}
+use Rattle.std.proofs.lemmas.List.{drop_more, drop_all, take_rest}
 
 reversed-xor : (n a b x y : ℕ) → reversed n (bit_xor a b) (bit_xor x y) ≡ bit_xor (reversed n a x) (reversed n b y)
 unfolding reversed
@@ -101,39 +101,54 @@ mirror-bits (suc k) r x h =
     (mirror-step 31 srom_polynomial r (x % 2) h (odd-lt x)
     ∙ ap (λ (p : ℕ). turn p (bit_xor (reversed 32 0 r) (x % 2))) poly)
 
-pub mirror-bytes : (xs : List ℕ) (r : ℕ) → r < 2 ^ 32 → bytes_in reflected (reversed 32 0 r) xs ≡ reversed 32 0 (srom_bytes r xs)
+mirror-bytes : (xs : List ℕ) (r : ℕ) → r < 2 ^ 32 → bytes_in reflected (reversed 32 0 r) xs ≡ reversed 32 0 (srom_bytes r xs)
 unfolding srom_bytes bytes_in
 mirror-bytes [] r h = refl
 mirror-bytes (x ∷ xs) r h =
     ap (λ (s : ℕ). bytes_in reflected s xs) (sym (mirror-bits 8 r x h))
     ∙ mirror-bytes xs (srom_bits 8 r x) (srom_bits-lt 8 r x h)
 
-pub mirror-ones : (xs : List ℕ) → bytes_in reflected (ones 32) xs ≡ reversed 32 0 (srom_bytes (ones 32) xs)
+mirror-ones : (xs : List ℕ) → bytes_in reflected (ones 32) xs ≡ reversed 32 0 (srom_bytes (ones 32) xs)
 unfolding reversed
 mirror-ones xs = mirror-bytes xs (ones 32) (lit< tt)
 
 -- ## Byte by byte, each XORed into the register before its eight steps
 
-module _ (p m : ℕ) (s : List ℕ) (long : m ≤ length s) where
-  -- one byte more, with i of the first m taken
-  more : (i r : ℕ) → i < m → get_or s i 0 < 256
-      → bytes_in p r (drop i (take m s)) ≡ bytes_in p (turns p 8 (bit_xor r (get_or s i 0))) (drop (i + 1) (take m s))
-  unfolding bytes_in
-  more i r h byte =
-      let inside : i < length (take m s) = rw (length-take-le m s long) h in
-      rw (drop-cons (take m s) i 0 inside, get_or-take m s i 0 h, ← bits_in-turns p 8 r (get_or s i 0) byte, add-one)
+mixed-in : (p r x : ℕ) (xs : List ℕ) → x < 256 → bytes_in p (turns p 8 (bit_xor r x)) xs ≡ bytes_in p r (x ∷ xs)
+unfolding bytes_in
+mixed-in p r x xs h = ap (λ (s : ℕ). bytes_in p s xs) (sym (bits_in-turns p 8 r x h))
 
-  pub first_byte : (r mixed : ℕ) → 0 < m → get_or s 0 0 < 256 → mixed ≡ bit_xor r (get_or s 0 0)
-      → bytes_in p (turns p 8 mixed) (drop 1 (take m s)) ≡ bytes_in p r (take m s)
-  first_byte r mixed h byte e = rw e (sym (more 0 r h byte))
+-- the first of them
+pub first_byte : (s : List ℕ) (x : ℕ) → 1 ≤ length s → x ≡ get_or s 0 0 → x < 256
+    → bytes_in reflected (turns reflected 8 (bit_xor (ones 32) x)) (take (length s - 1) (drop 1 s)) ≡ bytes_in reflected (ones 32) s
+first_byte s x long e h =
+    mixed-in reflected (ones 32) x _ h
+    ∙ ap₂ (λ (y : ℕ) (ys : List ℕ). bytes_in reflected (ones 32) (y ∷ ys)) e (take_rest s 1)
+    ∙ ap (bytes_in reflected (ones 32)) (sym (drop_more s 0 0 long))
 
-  pub next-byte : (i mixed next whole : ℕ) → i < m → get_or s i 0 < 256 → next ≡ bit_xor (turns p 8 mixed) (get_or s i 0)
-      → bytes_in p (turns p 8 mixed) (drop i (take m s)) ≡ whole
-      → bytes_in p (turns p 8 next) (drop (i + 1) (take m s)) ≡ whole
-  next-byte i mixed next whole h byte e w = rw e (sym (more i (turns p 8 mixed) h byte) ∙ w)
+-- one more
+pub next-byte : (p : ℕ) (xs : List ℕ) (i mixed next whole : ℕ) → i < length xs → get_or xs i 0 < 256
+    → next ≡ bit_xor (turns p 8 mixed) (get_or xs i 0) → bytes_in p (turns p 8 mixed) (drop i xs) ≡ whole
+    → bytes_in p (turns p 8 next) (drop (i + 1) xs) ≡ whole
+next-byte p xs i mixed next whole inside h e all =
+    ap (λ (n : ℕ). bytes_in p (turns p 8 n) (drop (i + 1) xs)) e
+    ∙ mixed-in p (turns p 8 mixed) (get_or xs i 0) (drop (i + 1) xs) h
+    ∙ ap (bytes_in p (turns p 8 mixed)) (sym (drop_more xs i 0 inside))
+    ∙ all
 
-  pub last_byte : (i r : ℕ) → i ≤ m → m ≤ i → r ≡ bytes_in p r (drop i (take m s))
-  unfolding bytes_in
-  last_byte i r h g =
-      let e : i ≡ length (take m s) = rw (length-take-le m s long) (omega arith) in
-      rw (e, drop-length (take m s))
+-- and none
+pub last_byte : (s xs : List ℕ) (i mixed r : ℕ) → length xs ≤ i → r ≡ bit_xor (turns reflected 8 mixed) 0
+    → bytes_in reflected (turns reflected 8 mixed) (drop i xs) ≡ bytes_in reflected (ones 32) s
+    → r ≡ reversed 32 0 (srom_bytes (ones 32) s)
+unfolding bytes_in
+last_byte s xs i mixed r h e all =
+    e ∙ xor_zero_r (turns reflected 8 mixed)
+    ∙ ap (bytes_in reflected (turns reflected 8 mixed)) (sym (drop_all i xs h))
+    ∙ all ∙ mirror-ones s
+
+pub no-byte : (s : List ℕ) → length s < 1 → ones 32 ≡ reversed 32 0 (srom_bytes (ones 32) s)
+unfolding srom_bytes reversed
+no-byte [] h = refl
+no-byte (x ∷ xs) h = absurd (omega arith)
+
+pub ruleset bytes_fed = (first_byte, next-byte, last_byte, no-byte)

@@ -1,13 +1,12 @@
 // The CRC8 of the ID block and of the Magic Packet block, a byte at a time. The chip takes each word from its top bit, so the
 // high byte comes first.
-ghost use Rattle.std.specs.Prelude.{◌≡◌, ◌+◌, ◌-◌, ◌*◌, ◌<◌, ◌≤◌, length};
-ghost use Rattle.checksum.specs.Crc.{crc8_bits, word, crc8_words, crc8};
-ghost use Rattle.crc.specs.Inside.{crc8_table};
+ghost use Rattle.std.specs.Prelude.{◌≡◌, ◌+◌, ◌*◌, ◌<◌, length};
+ghost use Rattle.checksum.specs.Crc.{crc8_bits, crc8};
 
 use rom::WordNumber;
 
 // What eight steps make of each register.
-const TABLE: [u8; 256] = [
+static TABLE: [u8; 256] = [
     0x00, 0x07, 0x0E, 0x09, 0x1C, 0x1B, 0x12, 0x15, 0x38, 0x3F, 0x36, 0x31, 0x24, 0x23, 0x2A, 0x2D,
     0x70, 0x77, 0x7E, 0x79, 0x6C, 0x6B, 0x62, 0x65, 0x48, 0x4F, 0x46, 0x41, 0x54, 0x53, 0x5A, 0x5D,
     0xE0, 0xE7, 0xEE, 0xE9, 0xFC, 0xFB, 0xF2, 0xF5, 0xD8, 0xDF, 0xD6, 0xD1, 0xC4, 0xC3, 0xCA, 0xCD,
@@ -26,58 +25,26 @@ const TABLE: [u8; 256] = [
     0xDE, 0xD9, 0xD0, 0xD7, 0xC2, 0xC5, 0xCC, 0xCB, 0xE6, 0xE1, 0xE8, 0xEF, 0xFA, 0xFD, 0xF4, 0xF3,
 ];
 
-// The table, on the caller's stack, set up once a call.
-fn table() -> [u8; 256]
-    ensures { result ≡ crc8_table }
-{
-    TABLE
-}
-
 // The register after one byte more.
-fn feed(table: &[u8; 256], register: u8, byte: u8) -> u8
-    requires { table.now ≡ crc8_table }
+#[tactic(auto, using(crate::proofs::Tabulated::byte_fed))]
+fn feed(register: u8, byte: u8) -> u8
     ensures { result ≡ crc8_bits 8 register byte }
 {
-    table[(register ^ byte) as usize]
+    TABLE[usize::from(register ^ byte)]
 }
 
-// The register after one word more.
-fn feed_word(table: &[u8; 256], register: u8, image: &[u8], w: WordNumber) -> u8
-    requires { (table.now ≡ crc8_table) × (2 * w.0 + 1 < length image.now) }
-    ensures { result ≡ crc8_bits 16 register (word image.now w.0) }
-{
-    let low = w.low_byte().0;
-    let high = w.high_byte().0;
-    feed(table, feed(table, register, image[high]), image[low])
-}
-
-// The register after the words that are left, one at most.
-fn feed_rest(table: &[u8; 256], register: u8, image: &[u8], w: WordNumber, end: u16) -> u8
-    requires { (table.now ≡ crc8_table) × (w.0 ≤ end) × (end ≤ w.0 + 1) × (2 * end + 1 < length image.now) }
-    ensures { result ≡ crc8_words (end - w.0) w.0 register image.now }
-{
-    if w.0 == end {
-        return register;
-    }
-    feed_word(table, register, image, w)
-}
-
-// The CRC8 of so many words from a word on, fed two at a time, and then of the high byte of the next.
+// The CRC8 of so many words from a word on, and then of the high byte of the next.
+#[tactic(auto, using(crate::proofs::Words::words_fed))]
 pub(crate) fn of(image: &[u8], first: WordNumber, count: u16) -> u8
-    requires { (first.0 + count < 65536) × (2 * (first.0 + count) + 1 < length image.now) }
+    requires { 2 * (first.0 + count) + 1 < length image.now }
     ensures { result ≡ crc8 count first.0 image.now }
 {
-    let table = table();
-    let end = first.0 + count;
-    let mut register: u8 = 0xFF;
-    let even = first.0 + count / 2 * 2;
-    let mut w = first.0;
-    while w < even {
-        register = feed_word(&table, register, image, WordNumber(w));
-        register = feed_word(&table, register, image, WordNumber(w + 1));
-        w += 2;
+    let start = first.low_byte().0;
+    let end = start + 2 * usize::from(count);
+    let (words, _) = image[start..end].as_chunks::<2>();
+    let mut register = 0xFF;
+    for [low, high] in words {
+        register = feed(feed(register, *high), *low);
     }
-    let fed = feed_rest(&table, register, image, WordNumber(even), end);
-    let last = WordNumber(end).high_byte().0;
-    feed(&table, fed, image[last])
+    feed(register, image[end + 1])
 }

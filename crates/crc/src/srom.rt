@@ -1,14 +1,14 @@
 // The SROM CRC, a byte at a time: the register is kept with its bits in reverse and shifts right.
-ghost use Rattle.std.specs.Prelude.{◌≡◌, ◌≤◌, length, take};
+ghost use Rattle.std.specs.Prelude.{◌≡◌, ◌≤◌, length};
 ghost use Rattle.std.specs.Int.Bits.{bit_xor};
 ghost use Rattle.rom.specs.Geometry.{checked_length};
 ghost use Rattle.checksum.specs.Crc.{srom_bytes, reversed, ones, srom_crc};
-ghost use Rattle.crc.specs.Inside.{reflected, turns, srom_table};
+ghost use Rattle.crc.specs.Inside.{reflected, turns};
 
 use rom::Layout;
 
 // What eight steps make of each value of the eight lowest bits.
-const TABLE: [u32; 256] = [
+static TABLE: [u32; 256] = [
     0x00000000, 0x77073096, 0xEE0E612C, 0x990951BA, 0x076DC419, 0x706AF48F, 0xE963A535, 0x9E6495A3,
     0x0EDB8832, 0x79DCB8A4, 0xE0D5E91E, 0x97D2D988, 0x09B64C2B, 0x7EB17CBD, 0xE7B82D07, 0x90BF1D91,
     0x1DB71064, 0x6AB020F2, 0xF3B97148, 0x84BE41DE, 0x1ADAD47D, 0x6DDDE4EB, 0xF4D4B551, 0x83D385C7,
@@ -43,41 +43,35 @@ const TABLE: [u32; 256] = [
     0xB3667A2E, 0xC4614AB8, 0x5D681B02, 0x2A6F2B94, 0xB40BBE37, 0xC30C8EA1, 0x5A05DF1B, 0x2D02EF8D,
 ];
 
-// The table, on the caller's stack: a constant has no place of its own, so it is set up once a call and not once a byte.
-fn table() -> [u32; 256]
-    ensures { result ≡ srom_table }
-{
-    TABLE
-}
-
 // The register after eight steps, with the byte that comes next XORed in. XORed in here, that byte is not waited for.
-fn turned(table: &[u32; 256], mixed: u32, next: u8) -> u32
-    requires { table.now ≡ srom_table }
+#[tactic(auto, using(crate::proofs::Tabulated::eight_at_once))]
+fn turned(mixed: u32, next: u8) -> u32
     ensures { result ≡ bit_xor (turns reflected 8 mixed) next }
 {
-    table[(mixed % 256) as usize] ^ ((mixed >> 8) ^ (next as u32))
+    // A cast: no `From` makes a `usize` of a `u32`.
+    TABLE[(mixed % 256) as usize] ^ ((mixed >> 8) ^ u32::from(next))
 }
 
-// The register after the checked bytes.
-fn register_of(image: &[u8], layout: Layout) -> u32
-    requires { checked_length layout ≤ length image.now }
-    ensures { result ≡ reversed 32 0 (srom_bytes (ones 32) (take (checked_length layout) image.now)) }
+// The register after those bytes.
+#[tactic(auto, using(crate::proofs::Mirror::bytes_fed))]
+fn register_of(bytes: &[u8]) -> u32
+    ensures { result ≡ reversed 32 0 (srom_bytes (ones 32) bytes.now) }
 {
-    let table = table();
-    let checked = layout.checked_length();
-    let mut mixed: u32 = 0xFFFF_FFFF ^ (image[0] as u32);
-    let mut at: usize = 1;
-    while at < checked {
-        mixed = turned(&table, mixed, image[at]);
-        at += 1;
+    let [first, rest @ ..] = bytes else {
+        return u32::MAX;
+    };
+    let mut mixed = u32::MAX ^ u32::from(*first);
+    for next in rest {
+        mixed = turned(mixed, *next);
     }
-    turned(&table, mixed, 0)
+    turned(mixed, 0)
 }
 
 // The CRC that the board's last word should hold.
+#[tactic(auto, unfolding(checksum::specs::Crc::srom_crc))]
 pub(crate) fn of(image: &[u8], layout: Layout) -> u16
     requires { checked_length layout ≤ length image.now }
     ensures { result ≡ srom_crc layout image.now }
 {
-    ((0xFFFF_FFFF - register_of(image, layout)) % 0x1_0000) as u16
+    (!register_of(&image[..layout.checked_length()]) % 0x1_0000) as u16
 }

@@ -1,5 +1,5 @@
 -- The header's causes, one after another, as the tests of the code find them, and what an accepted header says. Assumes nothing.
-use Prim.Native.Nat.{ℕ, zero, suc, ◌+◌, ◌-◌, ◌≤◌, ◌<◌}
+use Prim.Native.Nat.{ℕ, zero, suc, ◌+◌, ◌-◌, ◌≤◌, ◌<◌, min, max}
 use native.Mathlib.Omega.{arith}
 use mathlib.Core.List.{List, ◌++◌}
 use mathlib.Core.Path.{◌≡◌, refl, ap, sym, ◌∙◌}
@@ -7,7 +7,7 @@ use mathlib.Core.Bool.{Bool, true, false, ◌||◌, not}
 use lib.Dec.{eqb, leb, ltb, eqb-suc-zero}
 use lib.ListN.{length, take, drop, length-drop, drop_of_length-le}
 use lib.Seq.{take_all, take-nil, drop-length}
-use borrow.Author.Tests.{eq-eqb, ne_eqb, le-leb, lt-leb, lt-ltb, le-ltb, eqb-true, eqb-false}
+use borrow.Author.Tests.{eq-eqb, ne_eqb, le-leb, lt-leb, lt-ltb, le-ltb, eqb-true, eqb-false, leb-true, leb-false}
 use Rattle.rom.specs.declared.Layout.{Layout}
 use Rattle.rom.specs.Geometry.{wrong_length, leaves_end, most_controllers}
 use Rattle.rom.specs.Bytes.{pick, byte_at, word_at, is_in}
@@ -18,12 +18,11 @@ use Rattle.packet.specs.Answer.{magic_length_cause, magic_block_causes, magic_re
 use Rattle.format.specs.Chips.{chips, place_of, row_of}
 use Rattle.format.proofs.Lists.{in_place}
 use Rattle.image.specs.declared.Arguments.{Arguments}
-use Rattle.header.specs.declared.Header.{Header}
 use Rattle.image.specs.Image.{versions, controller_count, reserved_at, base_address, address_of, header_length, control_byte, blocks_at}
 use Rattle.image.specs.Image.{block_count, bad_count, magic_causes, image_causes, argument_causes, leaf_header_causes}
 use Rattle.image.specs.Arguments.{row_for, edition_for, leaf_for, count_for, header_causes}
 use Rattle.image.proofs.Causes.{image-numbered, argument-numbered, whole-image, start_fits}
-use Rattle.header.specs.Header.{no_header, found_header, header_for}
+use Rattle.header.specs.Header.{HeaderAnswer, no_header, found_header, header_for}
 
 -- ## The image alone
 
@@ -58,10 +57,14 @@ module _ (l : Layout) (image : List ℕ) where
   unfolding bad_count
   count-fine n h = simp (ne_eqb (controller_count image) 0 n, le-ltb (most_controllers l) (controller_count image) h)
 
-  pub magic-judged : wrong_length l.size (length image) ≡ false → l.magic ≡ true
+  pub magic_judged : wrong_length l.size (length image) ≡ false → l.magic ≡ true
       → magic_read_number l.size image ≡ first_met (magic_causes l image)
   unfolding magic_causes first_met pick magic_read_number magic_read_causes magic_block_causes magic_length_cause
-  magic-judged h e = rw (e, h)
+  magic_judged h e = rw (e, h)
+
+  pub magic_untold : l.magic ≡ false → 0 ≡ first_met (magic_causes l image)
+  unfolding magic_causes first_met pick
+  magic_untold e = rw e
 
 -- ## The arguments
 
@@ -75,6 +78,8 @@ module _ (chip : ℕ) where
   unfolding row_of chips
   a-chip h = rw (← in_place chip chips) (simp (lt-ltb (place_of chip chips) 5 h))
 
+pub ruleset chip_tests = (no-chip, a-chip)
+
 -- ## The leaf's header
 
 module _ (end leaf reserved row : ℕ) where
@@ -87,20 +92,41 @@ module _ (end leaf reserved row : ℕ) where
   pub in_bounds : reserved < leaf → blocks_at row leaf ≤ end → (leb leaf reserved || ltb end (blocks_at row leaf)) ≡ false
   in_bounds h g = simp (lt-leb leaf reserved h, le-ltb end (blocks_at row leaf) g)
 
--- ## The image up to where leaves end, where the image or the leaves end before it, and where the image ends inside it
+-- ## The image up to where leaves end, whichever ends first
 
 module _ (s : List ℕ) (end start : ℕ) where
-  pub rest-past : length s < start → take (length s - length s) (drop (length s) s) ≡ take (end - start) (drop start s)
+  rest-past : length s < start → take (length s - length s) (drop (length s) s) ≡ take (end - start) (drop start s)
   rest-past h =
       rw (drop-length s, drop_of_length-le s {i = start} (omega arith)) (take-nil (length s - length s) ∙ sym (take-nil (end - start)))
 
-  pub rest-none : end < start → take (start - start) (drop start s) ≡ take (end - start) (drop start s)
-  rest-none h = let e : start - start ≡ end - start = omega arith in ap (λ (n : ℕ). take n (drop start s)) e
-
-  pub rest-cut : start ≤ length s → length s < end → take (length s - start) (drop start s) ≡ take (end - start) (drop start s)
+  rest-cut : start ≤ length s → length s < end → take (length s - start) (drop start s) ≡ take (end - start) (drop start s)
   rest-cut h g =
       take_all (length s - start) (drop start s) (simp length-drop (omega arith))
       ∙ sym (take_all (end - start) (drop start s) (simp length-drop (omega arith)))
+
+  pub rest-clamped : {first last : ℕ} → first ≡ min start (length s) → last ≡ max first (min end (length s))
+      → take (last - first) (drop first s) ≡ take (end - start) (drop start s)
+  rest-clamped {first} {last} ef el = go (leb start (length s)) (leb end (length s)) refl refl
+    where
+      go : (t u : Bool) → leb start (length s) ≡ t → leb end (length s) ≡ u
+          → take (last - first) (drop first s) ≡ take (end - start) (drop start s)
+      go true true et eu =
+          let h = leb-true start (length s) et in
+          let g = leb-true end (length s) eu in
+          let f : first ≡ start = omega arith in
+          let e : last - first ≡ end - start = omega arith in
+          rw (e, f)
+      go true false et eu =
+          let h = leb-true start (length s) et in
+          let g = leb-false end (length s) eu in
+          let f : first ≡ start = omega arith in
+          let e : last - first ≡ length s - start = omega arith in
+          rw (e, f) (rest-cut h g)
+      go false u et eu =
+          let h = leb-false start (length s) et in
+          let f : first ≡ length s = omega arith in
+          let e : last - first ≡ length s - length s = omega arith in
+          rw (e, f) (rest-past h)
 
 -- ## The whole header
 
@@ -177,7 +203,7 @@ module _ (image : List ℕ) (a : Arguments) where
   header-accepted e = rw e
 
 -- The header that the code has read.
-module _ (image : List ℕ) (a : Arguments) (h : Header) (eh : h ≡ header_for image a) where
+module _ (image : List ℕ) (a : Arguments) (h : HeaderAnswer) (eh : h ≡ header_for image a) where
   pub read_number : h.number ≡ first_met (header_causes image a)
   read_number = rw eh (header-number image a)
 

@@ -1,20 +1,21 @@
 // An image's header, and the header of a controller's leaf (document 01, 'The image'; document 02, request 12).
 #![tactic(auto)]
 
-ghost use Rattle.std.specs.Prelude.{◌≡◌, not, false, ◌&&◌, ◌+◌, ◌*◌, ◌^◌, ◌<◌, ◌≤◌, min, eqb, length};
+ghost use Rattle.std.specs.Prelude.{◌≡◌, [], ◌∷◌, false, not, ◌&&◌, ◌+◌, ◌^◌, ◌<◌, ◌≤◌, min, eqb, length};
 ghost use Rattle.rom.specs.Geometry.{wrong_length, checked_length, id_crc_at, version_at};
 ghost use Rattle.rom.specs.Bytes.{byte_at, word_at, is_in};
-ghost use Rattle.rom.specs.Refusal.{first_met};
+ghost use Rattle.rom.specs.Refusal.{◌⇒◌, first_met};
+ghost use Rattle.rom.specs.Numbers.{answer_number};
 ghost use Rattle.format.specs.Chips.{first_chips};
 ghost use Rattle.checksum.specs.Crc.{srom_crc, id_crc};
 ghost use Rattle.image.specs.Image.{versions, is_first_version, controller_count, reserved_at, base_address, header_length, control_byte};
 ghost use Rattle.image.specs.Image.{up_to_leaves_end, bad_count, magic_causes, image_causes, argument_causes, leaf_header_causes};
 ghost use Rattle.image.specs.Arguments.{row_for, leaf_for};
-ghost use Rattle.header.specs.Header.{no_header, found_header, header_for};
+ghost use Rattle.header.specs.Header.{found_header, header_for, header_read, header_answer};
 
 use block::chip;
 pub use image::Arguments;
-use rom::{ByteOffset, Layout, refusal};
+use rom::{ByteOffset, Layout, Refusal};
 
 // Version 1, whose connection codes the caller's edition decides, and the later ones.
 const FIRST_VERSION: u8 = 1;
@@ -23,11 +24,9 @@ const NEXT_VERSION: u8 = 3;
 
 const LAST_VERSION: u8 = 4;
 
-// What the header says of a controller's leaf, or a refusal's number and zeros. The row is the chip's, and start is where
-// the first block stands.
+// What the header says of a controller's leaf. The row is the chip's, and start is where the first block stands.
 #[derive(Clone, Copy)]
 pub struct Header {
-    pub number: u8,
     pub row: usize,
     pub start: usize,
     pub connection: u16,
@@ -36,32 +35,15 @@ pub struct Header {
     pub blocks: u8,
 }
 
-fn refused_header(number: u8) -> Header
-    ensures { result ≡ no_header number }
-{
-    Header {
-        number,
-        row: 0,
-        start: 0,
-        connection: 0,
-        control: 0,
-        address: 0,
-        blocks: 0,
-    }
-}
-
 // Whether the version is none that is read.
+#[tactic(auto, unfolding(image::specs::Image::versions, rom::specs::Bytes::is_in))]
 fn bad_version(image: &[u8]) -> bool
     ensures { result ≡ not (is_in (byte_at image.now version_at) versions) }
 {
-    let version = rom::byte_at(image, ByteOffset(rom::VERSION_AT));
-    if version == FIRST_VERSION {
-        return false;
-    }
-    if version == NEXT_VERSION {
-        return false;
-    }
-    version != LAST_VERSION
+    !matches!(
+        rom::byte_at(image, ByteOffset(rom::VERSION_AT)),
+        FIRST_VERSION | NEXT_VERSION | LAST_VERSION,
+    )
 }
 
 // Whether the image is of version 1.
@@ -75,41 +57,14 @@ pub fn is_first_version(image: &[u8]) -> bool
 fn is_first_edition(image: &[u8], named: bool) -> bool
     ensures { result ≡ (is_first_version image.now && named) }
 {
-    let first = is_first_version(image);
-    if first {
-        return named;
-    }
-    false
+    is_first_version(image) && named
 }
 
 // Whether the image is of version 1, which does not have the chip.
 fn is_later_chip(image: &[u8], wanted: u16) -> bool
     ensures { result ≡ (is_first_version image.now && not (is_in wanted first_chips)) }
 {
-    let first = is_first_version(image);
-    if !first {
-        return false;
-    }
-    let has = chip::is_first_chip(wanted);
-    !has
-}
-
-// Whether the SROM CRC is not the stored one.
-fn bad_srom_crc(image: &[u8], layout: Layout) -> bool
-    requires { wrong_length layout.size (length image.now) ≡ false }
-    ensures { result ≡ not (eqb (word_at image.now (checked_length layout)) (srom_crc layout image.now)) }
-{
-    let stored = rom::word_at(image, ByteOffset(layout.checked_length()));
-    stored != crc::srom_crc(image, layout).value
-}
-
-// Whether the ID CRC is not the stored one.
-fn bad_id_crc(image: &[u8], size: u16) -> bool
-    requires { wrong_length size (length image.now) ≡ false }
-    ensures { result ≡ not (eqb (byte_at image.now id_crc_at) (id_crc image.now)) }
-{
-    let stored = rom::byte_at(image, ByteOffset(rom::ID_CRC_AT));
-    (stored as u16) != crc::id_crc(image, size).value
+    is_first_version(image) && !chip::is_first_chip(wanted)
 }
 
 fn controller_count(image: &[u8]) -> u8
@@ -122,63 +77,73 @@ fn controller_count(image: &[u8]) -> u8
 fn reserved_at(image: &[u8]) -> usize
     ensures { (result ≡ reserved_at image.now) × (result < 1024) }
 {
-    rom::CONTROLLERS_AT + 3 * (controller_count(image) as usize)
+    rom::CONTROLLERS_AT + 3 * usize::from(controller_count(image))
 }
 
 // Whether the controller count is out of bounds, or the reserved byte is not 0.
+#[tactic(auto, unfolding(image::specs::Image::bad_count))]
 fn bad_count(image: &[u8], layout: Layout) -> bool
     ensures { result ≡ bad_count layout image.now }
 {
     let count = controller_count(image);
-    if count == 0 {
-        return true;
+    count == 0
+        || layout.most_controllers() < count
+        || rom::byte_at(image, ByteOffset(reserved_at(image))) != 0
+}
+
+// Refusal 3: the SROM CRC is not the stored one.
+fn check_srom_crc(image: &[u8], layout: Layout) -> Result<(), Refusal>
+    requires { wrong_length layout.size (length image.now) ≡ false }
+    ensures { answer_number result
+        ≡ first_met ((3 ⇒ not (eqb (word_at image.now (checked_length layout)) (srom_crc layout image.now))) ∷ []) }
+{
+    let stored = rom::word_at(image, ByteOffset(layout.checked_length()));
+    if stored != crc::srom_crc(image, layout)? {
+        return Err(Refusal::SromCrc);
     }
-    if layout.most_controllers() < count {
-        return true;
+    Ok(())
+}
+
+// Refusal 4: the ID CRC is not the stored one.
+fn check_id_crc(image: &[u8], size: u16) -> Result<(), Refusal>
+    requires { wrong_length size (length image.now) ≡ false }
+    ensures { answer_number result ≡ first_met ((4 ⇒ not (eqb (byte_at image.now id_crc_at) (id_crc image.now))) ∷ []) }
+{
+    let stored = rom::byte_at(image, ByteOffset(rom::ID_CRC_AT));
+    if u16::from(stored) != crc::id_crc(image, size)? {
+        return Err(Refusal::IdCrc);
     }
-    let reserved = rom::byte_at(image, ByteOffset(reserved_at(image)));
-    reserved != 0
+    Ok(())
 }
 
 // Refusals 29 and 30, of a Magic Packet block where the caller says that it is there.
-fn magic_refusal(image: &[u8], layout: Layout) -> u8
+#[tactic(auto, using(crate::proofs::Headers::magic_judged, crate::proofs::Headers::magic_untold))]
+fn check_magic(image: &[u8], layout: Layout) -> Result<(), Refusal>
     requires { wrong_length layout.size (length image.now) ≡ false }
-    ensures { result ≡ first_met (magic_causes layout image.now) }
+    ensures { answer_number result ≡ first_met (magic_causes layout image.now) }
 {
     if layout.magic {
-        return magic::judge(image, layout.size);
+        magic::judge(image, layout.size)
+    } else {
+        Ok(())
     }
-    refusal::ACCEPTED
 }
 
 // Refusals 1 to 4, 29, 30 and 5, from the image alone.
-fn image_refusal(image: &[u8], layout: Layout) -> u8
-    ensures { result ≡ first_met (image_causes layout image.now) }
+fn check_image(image: &[u8], layout: Layout) -> Result<(), Refusal>
+    ensures { answer_number result ≡ first_met (image_causes layout image.now) }
 {
-    if rom::is_wrong_length(layout.size, image.len()) {
-        return refusal::IMAGE_LENGTH;
+    rom::check_length(layout.size, image.len())?;
+    if bad_version(image) {
+        return Err(Refusal::Version);
     }
-    let version = bad_version(image);
-    if version {
-        return refusal::VERSION;
+    check_srom_crc(image, layout)?;
+    check_id_crc(image, layout.size)?;
+    check_magic(image, layout)?;
+    if bad_count(image, layout) {
+        return Err(Refusal::ControllerCount);
     }
-    let srom_crc = bad_srom_crc(image, layout);
-    if srom_crc {
-        return refusal::SROM_CRC;
-    }
-    let id_crc = bad_id_crc(image, layout.size);
-    if id_crc {
-        return refusal::ID_CRC;
-    }
-    let magic = magic_refusal(image, layout);
-    if magic != refusal::ACCEPTED {
-        return magic;
-    }
-    let count = bad_count(image, layout);
-    if count {
-        return refusal::CONTROLLER_COUNT;
-    }
-    refusal::ACCEPTED
+    Ok(())
 }
 
 // A byte of the address, as the number that it stands for.
@@ -186,7 +151,7 @@ fn address_byte(image: &[u8], k: usize) -> u64
     requires { k < 6 }
     ensures { (result ≡ byte_at image.now (20 + k)) × (result < 256) }
 {
-    rom::byte_at(image, ByteOffset(rom::ADDRESS_AT + k)) as u64
+    u64::from(rom::byte_at(image, ByteOffset(rom::ADDRESS_AT + k)))
 }
 
 // The base address, byte 20 most significant.
@@ -200,106 +165,99 @@ fn base_address(image: &[u8]) -> u64
 }
 
 // Refusals 6, 7, 38, 8 and 9, from the arguments.
-fn argument_refusal(image: &[u8], arguments: Arguments) -> u8
-    ensures { result ≡ first_met (argument_causes image.now arguments) }
+#[tactic(auto, using(crate::proofs::Headers::chip_tests), unfolding(crate::proofs::Computes::arguments_compute))]
+fn check_arguments(image: &[u8], arguments: Arguments) -> Result<(), Refusal>
+    ensures { answer_number result ≡ first_met (argument_causes image.now arguments) }
 {
     if controller_count(image) <= arguments.controller {
-        return refusal::CONTROLLER;
+        return Err(Refusal::Controller);
     }
     if chip::CHIP_COUNT <= chip::row_of(arguments.chip) {
-        return refusal::CHIP;
+        return Err(Refusal::Chip);
     }
-    let later = is_later_chip(image, arguments.chip);
-    if later {
-        return refusal::FIRST_VERSION_CHIP;
+    if is_later_chip(image, arguments.chip) {
+        return Err(Refusal::FirstVersionChip);
     }
     if block::NEWEST_LEVEL < arguments.level {
-        return refusal::LEVEL;
+        return Err(Refusal::Level);
     }
-    if 0x1_0000_0000_0000 <= base_address(image) + (arguments.controller as u64) {
-        return refusal::ADDRESS;
+    if 0x1_0000_0000_0000 <= base_address(image) + u64::from(arguments.controller) {
+        return Err(Refusal::Address);
     }
-    refusal::ACCEPTED
+    Ok(())
 }
 
 // The bytes of a leaf before its blocks: the 21140 has a control byte.
+#[tactic(auto, unfolding(image::specs::Image::header_length, rom::specs::Bytes::pick))]
 pub fn header_length(row: usize) -> usize
     ensures { (result ≡ header_length row) × (3 ≤ result) × (result ≤ 4) }
 {
-    if row == chip::ROW_21140 {
-        return 4;
-    }
-    3
+    if row == chip::ROW_21140 { 4 } else { 3 }
 }
 
 // The control byte of a leaf, 0 but for the 21140.
+#[tactic(auto, unfolding(image::specs::Image::control_byte, rom::specs::Bytes::pick))]
 fn control_byte(image: &[u8], row: usize, leaf: usize) -> u8
     requires { leaf < 65536 }
     ensures { result ≡ control_byte image.now row leaf }
 {
     if row == chip::ROW_21140 {
-        return rom::byte_at(image, ByteOffset(leaf + 2));
+        rom::byte_at(image, ByteOffset(leaf + 2))
+    } else {
+        0
     }
-    0
 }
 
 // Refusals 10 and 11, from the header of the leaf.
-fn leaf_refusal(image: &[u8], layout: Layout, first_edition: bool, row: usize, leaf: usize) -> u8
+#[tactic(auto, unfolding(crate::proofs::Computes::leaf_computes))]
+fn check_leaf(
+    image: &[u8],
+    layout: Layout,
+    first_edition: bool,
+    row: usize,
+    leaf: usize,
+) -> Result<(), Refusal>
     requires { leaf < 65536 }
-    ensures { result ≡ first_met (leaf_header_causes layout image.now first_edition row leaf) }
+    ensures { answer_number result ≡ first_met (leaf_header_causes layout image.now first_edition row leaf) }
 {
-    if leaf <= reserved_at(image) {
-        return refusal::LEAF_HEADER;
+    if leaf <= reserved_at(image) || layout.leaves_end() < leaf + header_length(row) {
+        return Err(Refusal::LeafHeader);
     }
-    if layout.leaves_end() < leaf + header_length(row) {
-        return refusal::LEAF_HEADER;
+    if !chip::is_read(first_edition, row, rom::word_at(image, ByteOffset(leaf))) {
+        return Err(Refusal::ConnectionType);
     }
-    let permitted = chip::is_read(first_edition, row, rom::word_at(image, ByteOffset(leaf)));
-    if !permitted {
-        return refusal::CONNECTION_TYPE;
-    }
-    refusal::ACCEPTED
+    Ok(())
 }
 
 // The header of the leaf at an offset, where nothing is refused.
 fn header_at(image: &[u8], arguments: Arguments, row: usize, leaf: usize) -> Header
     requires { (row ≡ row_for arguments) × (leaf ≡ leaf_for image.now arguments) × (leaf < 65536) }
-    ensures { result ≡ found_header image.now arguments }
+    ensures { header_read result ≡ found_header image.now arguments }
 {
     let start = leaf + header_length(row);
     Header {
-        number: refusal::ACCEPTED,
         row,
         start,
         connection: rom::word_at(image, ByteOffset(leaf)),
         control: control_byte(image, row, leaf),
-        address: base_address(image) + (arguments.controller as u64),
+        address: base_address(image) + u64::from(arguments.controller),
         blocks: rom::byte_at(image, ByteOffset(start - 1)),
     }
 }
 
 // The header, or the first of refusals 1 to 4, 29, 30, 5 to 7, 38 and 8 to 11.
-pub fn read_header(image: &[u8], arguments: Arguments) -> Header
-    ensures { result ≡ header_for image.now arguments }
+pub fn read_header(image: &[u8], arguments: Arguments) -> Result<Header, Refusal>
+    ensures { header_answer result ≡ header_for image.now arguments }
 {
-    let layout = arguments.layout;
-    let number = image_refusal(image, layout);
-    if number != refusal::ACCEPTED {
-        return refused_header(number);
-    }
-    let number = argument_refusal(image, arguments);
-    if number != refusal::ACCEPTED {
-        return refused_header(number);
-    }
+    check_image(image, arguments.layout)?;
+    check_arguments(image, arguments)?;
     let row = chip::row_of(arguments.chip);
-    let controller = arguments.controller as usize;
-    let leaf = rom::word_at(image, ByteOffset(rom::CONTROLLERS_AT + 3 * controller + 1)) as usize;
+    let controller = usize::from(arguments.controller);
+    let leaf_at = ByteOffset(rom::CONTROLLERS_AT + 3 * controller + 1);
+    let leaf = usize::from(rom::word_at(image, leaf_at));
     let first_edition = is_first_edition(image, arguments.first_edition);
-    let number = leaf_refusal(image, layout, first_edition, row, leaf);
-    if number != refusal::ACCEPTED {
-        return refused_header(number);
-    }
-    header_at(image, arguments, row, leaf)
+    check_leaf(image, arguments.layout, first_edition, row, leaf)?;
+    Ok(header_at(image, arguments, row, leaf))
 }
 
 // The image from a byte on, up to where leaves end, as part of it: its bytes, and that they are the image's own, from that byte.
@@ -308,16 +266,8 @@ pub fn up_to_leaves_end(image: &[u8], layout: Layout, start: usize) -> &[u8]
     ensures result_value { result.now ≡ up_to_leaves_end layout image.now start }
     ensures ref_ptr_value { result.ref_ptr ≡ (image.entry.ref_ptr.0, min start (length image.now) + image.entry.ref_ptr.1) }
 {
-    let end = layout.leaves_end();
     let length = image.len();
-    if length < start {
-        return &image[length..];
-    }
-    if end < start {
-        return &image[start..start];
-    }
-    if length < end {
-        return &image[start..];
-    }
-    &image[start..end]
+    let first = start.min(length);
+    let end = layout.leaves_end().clamp(first, length);
+    &image[first..end]
 }

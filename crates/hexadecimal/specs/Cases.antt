@@ -1,8 +1,10 @@
 -- A text of each form, and texts with which something is wrong.
-use Rattle.std.specs.Prelude.{ℕ, List, [], ◌∷◌, ◌++◌, take, replicate}
+use Rattle.std.specs.Prelude.{ℕ, List, [], ◌∷◌, ◌++◌, replicate, Some}
 use Prim.Native.String.{String}
 use Rattle.text.specs.Quoted.{quoted}
-use Rattle.hexadecimal.specs.Held.{no_offset, wrong_offset, no_byte, no_bytes}
+use Rattle.hexadecimal.specs.Held.{problem_number}
+use Rattle.hexadecimal.specs.declared.held.Problem.{Problem}
+use Rattle.hexadecimal.specs.declared.held.Problem.TheVariants.{NoOffset, WrongOffset, NoByte, NoBytes}
 use Rattle.hexadecimal.specs.Text.{decoded}
 use Rattle.hexadecimal.specs.declared.DecodedText.{DecodedText}
 
@@ -13,7 +15,7 @@ pub record Found : Type 0 where
   pub bytes : List ℕ
 
 unfoldable pub found_in : DecodedText → Found
-found_in r = record { problem = r.held.problem; lines = r.line; bytes = take r.held.length r.held.bytes }
+found_in r = record { problem = problem_number r.held.problem; lines = r.line; bytes = r.held.bytes.items }
 
 -- a text and what is found of it
 pub record TextCase : Type 0 where
@@ -26,8 +28,11 @@ found_again x = record { source = x.source; found = found_in (decoded (quoted x.
 abbrev fine_text : String → ℕ → List ℕ → TextCase
 fine_text source lines bytes = record { source = source; found = record { problem = 0; lines = lines; bytes = bytes } }
 
-abbrev bad_text : String → ℕ → ℕ → List ℕ → TextCase
-bad_text source problem lines bytes = record { source = source; found = record { problem = problem; lines = lines; bytes = bytes } }
+abbrev bad_text : String → Problem → ℕ → List ℕ → TextCase
+bad_text source problem lines bytes = record {
+  source = source;
+  found = record { problem = problem_number (Some problem); lines = lines; bytes = bytes };
+}
 
 abbrev four_bytes : List ℕ
 four_bytes = 0x34 ∷ 0x20 ∷ 0x04 ∷ 0x01 ∷ []
@@ -45,12 +50,12 @@ text_cases =
     ∷ fine_text "\n34200401" 2 four_bytes
     ∷ fine_text " 34 2004\r\n\t01\r\n" 2 four_bytes
     ∷ fine_text "0000000 0000 0000 0000 0000 0000 0000 0000 0000\n*\n0000020 0001\n0000022\n" 4 (replicate 32 0 ++ 1 ∷ 0 ∷ [])
-    ∷ bad_text "pan 3: card replaced on Tuesday\n" no_bytes 1 []
-    ∷ bad_text "notes\n3420\n" no_bytes 2 []
-    ∷ bad_text "00000000: 3420\n34 20\n" no_offset 2 (0x34 ∷ 0x20 ∷ [])
-    ∷ bad_text "00000010: 3420\n" wrong_offset 1 []
-    ∷ bad_text "000000 34 2\n" no_byte 1 (0x34 ∷ [])
-    ∷ bad_text "000000 34 2g\n" no_byte 1 (0x34 ∷ [])
-    ∷ bad_text "000000 34 20 0|\n" no_byte 1 (0x34 ∷ 0x20 ∷ [])
-    ∷ bad_text "34 2 0" no_byte 1 (0x34 ∷ [])
+    ∷ bad_text "pan 3: card replaced on Tuesday\n" NoBytes 1 []
+    ∷ bad_text "notes\n3420\n" NoBytes 2 []
+    ∷ bad_text "00000000: 3420\n34 20\n" NoOffset 2 (0x34 ∷ 0x20 ∷ [])
+    ∷ bad_text "00000010: 3420\n" WrongOffset 1 []
+    ∷ bad_text "000000 34 2\n" NoByte 1 (0x34 ∷ [])
+    ∷ bad_text "000000 34 2g\n" NoByte 1 (0x34 ∷ [])
+    ∷ bad_text "000000 34 20 0|\n" NoByte 1 (0x34 ∷ 0x20 ∷ [])
+    ∷ bad_text "34 2 0" NoByte 1 (0x34 ∷ [])
     ∷ []

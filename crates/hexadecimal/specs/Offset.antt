@@ -1,8 +1,13 @@
 -- Where a line's offset stands and what it says. A line begins with no blank here.
-use Rattle.std.specs.Prelude.{ℕ, suc, ◌+◌, ◌*◌, ◌%◌, Bool, true, false, not, ◌&&◌, ◌||◌, List, [], ◌∷◌, length, take, drop, ◌==◌, nat_lt}
+use Rattle.std.specs.Prelude.{ℕ, suc, ◌+◌, ◌*◌, ◌%◌, Bool, true, false, not, ◌&&◌, ◌||◌, List, [], ◌∷◌, length, take, drop}
+use Rattle.std.specs.Prelude.{Option, Some, None, ◌==◌, nat_lt}
 use Rattle.rom.specs.Bytes.{pick, byte_at}
 use Rattle.text.specs.Numbers.{digit_of}
-use Rattle.hexadecimal.specs.Form.{unknown_form, ethtool, numbered, xxd, bytes_alone, words_alone}
+use Rattle.hexadecimal.specs.Form.{is_numbered}
+use Rattle.hexadecimal.specs.declared.form.TextForm.{TextForm}
+use Rattle.hexadecimal.specs.declared.form.TextForm.TheVariants.{Plain, Ethtool, Numbered, Xxd, Bytes, Words}
+use Rattle.hexadecimal.specs.declared.offset.Beginning.{Beginning}
+use Rattle.hexadecimal.specs.declared.offset.Beginning.TheVariants.{Marked, Colon, Alone}
 
 -- ## Characters
 
@@ -57,33 +62,49 @@ abbrev pub value_of : List ℕ → ℕ
 value_of digits = value_from 0 digits
 
 -- in bytes: the number of a word counts twice
-unfoldable pub offset_of : ℕ → List ℕ → ℕ
-offset_of form line = pick (form == numbered) (2 * (value_of (digits_of line) % 0x100000000)) (value_of (digits_of line) % 0x100000000)
+unfoldable pub offset_of : TextForm → List ℕ → ℕ
+offset_of form line = pick (is_numbered form) (2 * (value_of (digits_of line) % 0x100000000)) (value_of (digits_of line) % 0x100000000)
 
 -- ## The form of a line
 
--- how a line begins: 0 with no offset, 1 with one between 0x and a colon, 2 with a colon behind it, 3 with one alone
-unfoldable pub beginning_of : List ℕ → ℕ
-beginning_of line = pick (is_offset line) (pick (is_marked line) (pick (has_colon line) 1 0) (pick (has_colon line) 2 3)) 0
+-- how a line begins, if with an offset: with one between 0x and a colon, with a colon behind it, or with one alone
+unfoldable pub beginning_of : List ℕ → Option Beginning
+beginning_of line =
+    pick (is_offset line)
+    (pick (is_marked line) (pick (has_colon line) (Some Marked) None) (pick (has_colon line) (Some Colon) (Some Alone))) None
 
 -- how the lines of a form begin
-unfoldable pub beginning_for : ℕ → ℕ
-beginning_for form = pick (form == ethtool || form == numbered) 1 (pick (form == xxd) 2 3)
+unfoldable pub beginning_for : TextForm → Beginning
+beginning_for Plain = Alone
+beginning_for Ethtool = Marked
+beginning_for Numbered = Marked
+beginning_for Xxd = Colon
+beginning_for Bytes = Alone
+beginning_for Words = Alone
+
+-- whether a line begins so
+abbrev pub begins : Option Beginning → Beginning → Bool
+begins (Some Marked) Marked = true
+begins (Some Colon) Colon = true
+begins (Some Alone) Alone = true
+begins _ _ = false
 
 -- the form of a line by the digits of its first byte or word
-unfoldable pub form_by_width : ℕ → ℕ → ℕ → ℕ
-form_by_width width of_bytes of_words = pick (width == 2) of_bytes (pick (width == 4) of_words unknown_form)
+unfoldable pub form_by_width : ℕ → TextForm → TextForm → Option TextForm
+form_by_width width of_bytes of_words = pick (width == 2) (Some of_bytes) (pick (width == 4) (Some of_words) None)
 
 unfoldable pub width_of : List ℕ → ℕ
 width_of line = run_of true (without_blanks (row_part line))
 
 -- the form of a line that begins with an offset; one that stands alone has six digits at least
-unfoldable pub form_of : List ℕ → ℕ
-form_of line =
-    pick (beginning_of line == 1) (form_by_width (width_of line) ethtool numbered)
-    (pick (beginning_of line == 2) (form_by_width (width_of line) xxd xxd)
-    (pick (beginning_of line == 0 || nat_lt (length (digits_of line)) 6) unknown_form
-    (form_by_width (width_of line) bytes_alone words_alone)))
+abbrev pub form_begun : Option Beginning → List ℕ → Option TextForm
+form_begun None line = None
+form_begun (Some Marked) line = form_by_width (width_of line) Ethtool Numbered
+form_begun (Some Colon) line = form_by_width (width_of line) Xxd Xxd
+form_begun (Some Alone) line = pick (nat_lt (length (digits_of line)) 6) None (form_by_width (width_of line) Bytes Words)
+
+unfoldable pub form_of : List ℕ → Option TextForm
+form_of line = form_begun (beginning_of line) line
 
 -- whether a line begins with digits and nothing else before a blank
 unfoldable pub is_plain : List ℕ → Bool

@@ -1,10 +1,13 @@
 // The bytes of a text as far as it has been read.
+#![tactic(auto, unfolding(crate::proofs::Opened::of_bytes_held))]
+
 ghost use Rattle.std.specs.Prelude.{◌≡◌, ◌≤◌};
 ghost use Rattle.rom.specs.Bytes.{byte_at};
 ghost use Rattle.hexadecimal.specs.Held.{nothing_held, faulted, pushed, with_value, with_group, closed, repeated_from, repeated_to};
 
-use crate::group::Group;
-use crate::{form, group};
+use crate::form::TextForm;
+use crate::group::{Group, Standing};
+use arrayvec::ArrayVec;
 use text::slice::byte_at;
 
 // The most bytes that a text can have: more than any ROM or sheet.
@@ -13,116 +16,108 @@ pub const ROOM: usize = 2048;
 // The bytes of a row, for which a '*' stands again.
 const ROW: usize = 16;
 
-// The bytes are the first so many; a problem is one of the numbers in lib.rt.
-#[derive(Clone, Copy)]
+// What is wrong with a line.
+#[derive(Clone, Copy, PartialEq, Eq)]
+pub enum Problem {
+    // It begins with no offset of the text's form.
+    NoOffset = 1,
+    // Its offset is not the next byte's.
+    WrongOffset,
+    // What stands in its row is no byte or word of the form.
+    NoByte,
+    // The text has more bytes than there is room for.
+    TooMany,
+    // The text has none.
+    NoBytes,
+}
+
+#[derive(Drop)]
 pub struct Held {
-    pub bytes: [u8; ROOM],
-    pub length: usize,
-    pub problem: u8,
+    pub bytes: ArrayVec<u8, ROOM>,
+    pub problem: Option<Problem>,
 }
 
-pub(crate) fn nothing_held() -> Held
-    ensures { result ≡ nothing_held }
-{
-    Held {
-        bytes: [0; ROOM],
-        length: 0,
-        problem: crate::FINE,
+impl Held {
+    pub(crate) fn new() -> Held
+        ensures { result ≡ nothing_held }
+    {
+        Held {
+            bytes: ArrayVec::new(),
+            problem: None,
+        }
     }
-}
 
-pub(crate) fn faulted(held: Held, problem: u8) -> Held
-    ensures { result ≡ faulted problem held }
-{
-    let mut next = held;
-    next.problem = problem;
-    next
-}
+    pub(crate) fn fault(&mut self, problem: Problem)
+        ensures { self.new ≡ faulted problem self.old }
+    {
+        self.problem = Some(problem);
+    }
 
-fn pushed(held: Held, byte: u8) -> Held
-    ensures { result ≡ pushed byte held }
-{
-    let at = held.length;
-    if at < ROOM {
-        let mut next = held;
-        next.bytes[at] = byte;
-        next.length = at + 1;
-        return next;
+    fn push(&mut self, byte: u8)
+        ensures { self.new ≡ pushed byte self.old }
+    {
+        if self.bytes.try_push(byte).is_err() {
+            self.fault(Problem::TooMany);
+        }
     }
-    faulted(held, crate::TOO_MANY)
-}
 
-// A byte, or a word, low byte first.
-fn with_value(held: Held, value: u16, form: u8) -> Held
-    ensures { result ≡ with_value form value held }
-{
-    let low = (value % 256) as u8;
-    let words = form::is_words(form);
-    if words {
-        return pushed(pushed(held, low), (value / 256) as u8);
+    // A byte, or a word, low byte first.
+    fn push_value(&mut self, value: u16, form: TextForm)
+        ensures { self.new ≡ with_value form value self.old }
+    {
+        let [low, high] = value.to_le_bytes();
+        self.push(low);
+        if form.is_words() {
+            self.push(high);
+        }
     }
-    pushed(held, low)
-}
 
-// The byte or word that a row has come to the end of, if it has.
-pub(crate) fn with_group(held: Held, group: Group, form: u8) -> Held
-    ensures { result ≡ with_group form group held }
-{
-    if group.state == group::WHOLE {
-        return with_value(held, group.value, form);
+    // The byte or word that a row has come to the end of, if it has.
+    pub(crate) fn push_group(&mut self, group: Group, form: TextForm)
+        ensures { self.new ≡ with_group form group self.old }
+    {
+        if group.standing == Standing::Whole {
+            self.push_value(group.value, form);
+        }
     }
-    held
-}
 
-// At the end of a row no digit is left over.
-pub(crate) fn closed(held: Held, group: Group) -> Held
-    ensures { result ≡ closed group held }
-{
-    if group.state == group::WRONG {
-        return faulted(held, crate::NO_BYTE);
+    // At the end of a row no digit is left over.
+    pub(crate) fn close(&mut self, group: Group)
+        ensures { self.new ≡ closed group self.old }
+    {
+        if group.standing == Standing::Wrong || group.digits != 0 {
+            self.fault(Problem::NoByte);
+        }
     }
-    if group.digits != 0 {
-        return faulted(held, crate::NO_BYTE);
-    }
-    held
-}
 
-fn byte_held(held: Held, at: usize) -> u8
-    ensures { result ≡ byte_at held.bytes at }
-{
-    let bytes = held.bytes;
-    byte_at(&bytes, at)
-}
+    // A byte, 0 past the end.
+    fn byte(&self, at: usize) -> u8
+        ensures { result ≡ byte_at self.now.bytes.items at }
+    {
+        byte_at(&self.bytes, at)
+    }
 
-// So many bytes more, each like the one at a place and on.
-fn repeated_from(held: Held, start: usize, count: usize) -> Held
-    requires { (start ≤ 2048) × (count ≤ 2048) }
-    ensures { result ≡ repeated_from start count held }
-{
-    let mut next = held;
-    let mut at = start;
-    let mut left = count;
-    while 0 < left {
-        next = pushed(next, byte_held(next, at));
-        at += 1;
-        left -= 1;
+    // So many bytes more, each like the one at a place and on.
+    fn repeat_from(&mut self, start: usize, count: usize)
+        requires { (start ≤ 2048) × (count ≤ 2048) }
+        ensures { self.new ≡ repeated_from start count self.old }
+    {
+        for at in start..start + count {
+            self.push(self.byte(at));
+        }
     }
-    next
-}
 
-// The row before, again and again, up to an offset.
-pub(crate) fn repeated_to(held: Held, offset: usize) -> Held
-    ensures { result ≡ repeated_to offset held }
-{
-    let length = held.length;
-    if ROOM < offset {
-        return faulted(held, crate::TOO_MANY);
+    // The row before, again and again, up to an offset.
+    pub(crate) fn repeat_to(&mut self, offset: usize)
+        ensures { self.new ≡ repeated_to offset self.old }
+    {
+        let length = self.bytes.len();
+        if ROOM < offset {
+            self.fault(Problem::TooMany);
+        } else if length < ROW {
+            self.fault(Problem::WrongOffset);
+        } else {
+            self.repeat_from(length - ROW, offset.saturating_sub(length));
+        }
     }
-    if length < ROW {
-        return faulted(held, crate::WRONG_OFFSET);
-    }
-    if offset <= length {
-        return held;
-    }
-    repeated_from(held, length - ROW, offset - length)
 }

@@ -1,7 +1,7 @@
 // Hexadecimal text as programs print it, back to its bytes. specs/Text.antt says which forms there are.
 #![tactic(auto)]
 
-mod form;
+pub mod form;
 mod group;
 pub mod held;
 pub mod mode;
@@ -11,33 +11,11 @@ mod row;
 ghost use Rattle.std.specs.Prelude.{◌≡◌};
 ghost use Rattle.hexadecimal.specs.Text.{unread, line_read, finished, decoded};
 
-use held::{Held, faulted, nothing_held};
-use mode::{Mode, mode_after, unread_mode};
+use held::Held;
+pub use held::Problem;
+use mode::Mode;
 use offset::without_blanks;
-use row::with_line;
-use std::num::wrapping_add_u32;
 use text::{behind_line, first_line};
-
-// ## What is wrong with a line
-
-pub const FINE: u8 = 0;
-
-// It begins with no offset of the text's form.
-pub const NO_OFFSET: u8 = 1;
-
-// Its offset is not the next byte's.
-pub const WRONG_OFFSET: u8 = 2;
-
-// What stands in its row is no byte or word of the form.
-pub const NO_BYTE: u8 = 3;
-
-// The text has more bytes than there is room for.
-pub const TOO_MANY: u8 = 4;
-
-// The text has none.
-pub const NO_BYTES: u8 = 5;
-
-// ## The text
 
 // What has been read of a text: its bytes, how its lines read, and how many lines that is.
 #[derive(Drop)]
@@ -47,64 +25,54 @@ pub struct DecodedText {
     pub line: u32,
 }
 
-fn nothing_read() -> DecodedText
-    ensures { result ≡ unread }
-{
-    DecodedText {
-        held: nothing_held(),
-        mode: unread_mode(),
-        line: 0,
+#[tactic(auto, unfolding(crate::proofs::Opened::of_texts))]
+impl DecodedText {
+    fn new() -> DecodedText
+        ensures { result ≡ unread }
+    {
+        DecodedText {
+            held: Held::new(),
+            mode: Mode::new(),
+            line: 0,
+        }
     }
-}
 
-// One line more.
-fn with_line_read(reading: DecodedText, line: &[u8]) -> DecodedText
-    ensures { result ≡ line_read line.now reading }
-{
-    let line = without_blanks(line);
-    let before = reading.mode;
-    let after = mode_after(before, line);
-    let held = reading.held;
-    DecodedText {
-        held: with_line(held, line, before, after),
-        mode: after,
-        line: wrapping_add_u32(reading.line, 1),
+    // One line more.
+    fn read_line(&mut self, line: &[u8])
+        ensures { self.new ≡ line_read line.now self.old }
+    {
+        let line = without_blanks(line);
+        let before = self.mode;
+        self.mode = before.after(line);
+        self.held.read_line(line, before, self.mode);
+        self.line = self.line.wrapping_add(1);
     }
-}
 
-// A text has a byte at least.
-fn finish(reading: DecodedText) -> DecodedText
-    ensures { result ≡ finished reading }
-{
-    let held = reading.held;
-    if held.problem != FINE {
-        return reading;
-    }
-    if held.length != 0 {
-        return reading;
-    }
-    let mode = reading.mode;
-    DecodedText {
-        held: faulted(held, NO_BYTES),
-        mode,
-        line: reading.line,
+    // A text has a byte at least.
+    fn finish(&mut self)
+        ensures { self.new ≡ finished self.old }
+    {
+        if self.held.problem.is_none() && self.held.bytes.is_empty() {
+            self.held.fault(Problem::NoBytes);
+        }
     }
 }
 
 // The bytes of a text, or what is wrong with it and in which line, counted from 1.
+#[tactic(auto, using(text::proofs::Lines::lines_behind, text::proofs::Lines::behind_shorter), unfolding(crate::proofs::Opened::of_texts))]
 pub fn decode(source: &[u8]) -> DecodedText
     ensures { result ≡ decoded source.now }
 {
-    let mut reading = nothing_read();
+    let mut reading = DecodedText::new();
+    // By rests and no `split`, which gives one line more where a text ends with the end of a line: each line counts.
     let mut rest = source;
-    while 0 < rest.len() {
-        reading = with_line_read(reading, first_line(rest));
-        let held = reading.held;
-        if held.problem != FINE {
+    while !rest.is_empty() {
+        reading.read_line(first_line(rest));
+        if reading.held.problem.is_some() {
             return reading;
         }
-        let next = behind_line(rest);
-        rest = next;
+        rest = behind_line(rest);
     }
-    finish(reading)
+    reading.finish();
+    reading
 }

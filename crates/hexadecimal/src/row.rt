@@ -1,73 +1,67 @@
 // What a line adds to the bytes.
+#![tactic(auto, unfolding(crate::proofs::Opened::of_rows))]
+
 ghost use Rattle.std.specs.Prelude.{◌≡◌};
 ghost use Rattle.hexadecimal.specs.Text.{row_read, placed_row, with_offset, with_line};
 
-use crate::form;
-use crate::group::{next_group, no_group};
-use crate::held::{Held, closed, faulted, repeated_to, with_group};
-use crate::mode::Mode;
-use crate::offset::{beginning_for, beginning_of, offset_of, row_part};
+use crate::form::TextForm;
+use crate::group::Group;
+use crate::held::{Held, Problem};
+use crate::mode::{Mode, Stage};
+use crate::offset::{beginning_of, offset_of, row_part};
 
-// The bytes of a row.
-fn with_row(held: Held, row: &[u8], form: u8) -> Held
-    ensures { result ≡ row_read form row.now held }
-{
-    let mut next = held;
-    let mut group = no_group();
-    let mut i = 0;
-    while i < row.len() {
-        group = next_group(group, row[i], form);
-        next = with_group(next, group, form);
-        i += 1;
+impl Held {
+    // The bytes of a row.
+    fn read_row(&mut self, row: &[u8], form: TextForm)
+        ensures { self.new ≡ row_read form row.now self.old }
+    {
+        let mut group = Group::new();
+        for byte in row {
+            group = group.next(*byte, form);
+            self.push_group(group, form);
+        }
+        self.close(group);
     }
-    closed(next, group)
-}
 
-// The row of a line whose offset must be the next byte's.
-fn placed_row(held: Held, line: &[u8], form: u8) -> Held
-    ensures { result ≡ placed_row form line.now held }
-{
-    if held.problem != crate::FINE {
-        return held;
+    // The row of a line whose offset must be the next byte's.
+    fn read_placed(&mut self, line: &[u8], form: TextForm)
+        ensures { self.new ≡ placed_row form line.now self.old }
+    {
+        if self.problem.is_some() {
+            return;
+        }
+        if self.bytes.len() != offset_of(line, form) {
+            self.fault(Problem::WrongOffset);
+        } else {
+            self.read_row(row_part(line), form);
+        }
     }
-    if held.length != offset_of(line, form) {
-        return faulted(held, crate::WRONG_OFFSET);
-    }
-    with_row(held, row_part(line), form)
-}
 
-// A line with an offset, behind a '*' or not.
-fn with_offset(held: Held, line: &[u8], form: u8, repeats: bool) -> Held
-    ensures { result ≡ with_offset form repeats line.now held }
-{
-    if beginning_of(line) != beginning_for(form) {
-        return faulted(held, crate::NO_OFFSET);
+    // A line with an offset, behind a '*' or not.
+    fn read_offset(&mut self, line: &[u8], form: TextForm, repeats: bool)
+        ensures { self.new ≡ with_offset form repeats line.now self.old }
+    {
+        if beginning_of(line) != Some(form.beginning()) {
+            self.fault(Problem::NoOffset);
+            return;
+        }
+        if repeats {
+            self.repeat_to(offset_of(line, form));
+        }
+        self.read_placed(line, form);
     }
-    if repeats {
-        return placed_row(repeated_to(held, offset_of(line, form)), line, form);
-    }
-    placed_row(held, line, form)
-}
 
-// A line, by how the text read before it and how it reads behind it.
-pub(crate) fn with_line(held: Held, line: &[u8], before: Mode, after: Mode) -> Held
-    ensures { result ≡ with_line before after line.now held }
-{
-    if line.len() == 0 {
-        return held;
+    // A line, by how the text read before it and how it reads behind it.
+    pub(crate) fn read_line(&mut self, line: &[u8], before: Mode, after: Mode)
+        ensures { self.new ≡ with_line before after line.now self.old }
+    {
+        if line.is_empty() || after.repeats {
+            return;
+        }
+        match after.stage {
+            Stage::Headings | Stage::Ended => {}
+            Stage::Rows(TextForm::Plain) => self.read_row(line, TextForm::Plain),
+            Stage::Rows(form) => self.read_offset(line, form, before.repeats),
+        }
     }
-    if after.repeats {
-        return held;
-    }
-    let form = after.form;
-    if form == form::UNKNOWN {
-        return held;
-    }
-    if form == form::ENDED {
-        return held;
-    }
-    if form == form::PLAIN {
-        return with_row(held, line, form::PLAIN);
-    }
-    with_offset(held, line, form, before.repeats)
 }

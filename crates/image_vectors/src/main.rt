@@ -4,112 +4,67 @@
 #![tactic(auto)]
 
 use reader::{Answer, Arguments};
-use rom::{ByteOffset, Layout};
-use text::line::{STDIN, STDOUT};
-use text::slice::part;
+use text::line::STDOUT;
+use vectors::{print, print_bytes, print_number};
 
 // The bytes of a record before the image's.
 const HEAD: usize = 10;
 
-fn print_space() {
-    io::write_all(STDOUT, b" ");
-}
-
-fn print_refusal(number: u8) {
-    io::write_all(STDOUT, b"refused ");
-    io::print_decimal(STDOUT, number as u64);
-}
-
-fn print_count(n: u8) {
-    print_space();
-    io::print_decimal(STDOUT, n as u64);
-}
-
 fn print_answer(answer: Answer) {
-    io::write_all(STDOUT, b"accepted ");
-    io::print_hex(STDOUT, answer.connection as u64, 4);
-    print_space();
-    io::print_hex(STDOUT, answer.control as u64, 2);
-    print_space();
+    print(b"accepted ");
+    io::print_hex(STDOUT, u64::from(answer.connection), 4);
+    print(b" ");
+    io::print_hex(STDOUT, u64::from(answer.control), 2);
+    print(b" ");
     io::print_hex(STDOUT, answer.address, 12);
-    print_count(answer.blocks);
-    print_count(answer.listed);
-    print_count(answer.resets);
-    print_count(answer.skipped);
-    print_count(answer.power);
-    print_count(answer.default_number);
+    for count in [
+        answer.blocks,
+        answer.listed,
+        answer.resets,
+        answer.skipped,
+        answer.power,
+        answer.default_number,
+    ] {
+        print(b" ");
+        print_number(u64::from(count));
+    }
 }
 
 fn print_entry(kind: u16, offset: u16) {
-    print_space();
-    io::print_decimal(STDOUT, kind as u64);
-    io::write_all(STDOUT, b"@");
-    io::print_decimal(STDOUT, offset as u64);
+    print(b" ");
+    print_number(u64::from(kind));
+    print(b"@");
+    print_number(u64::from(offset));
 }
 
-// The block of an entry, as the view hands it back.
-fn print_block(image: &[u8], arguments: Arguments, entry: usize) {
-    io::write_all(STDOUT, b":");
-    vectors::print_bytes(reader::view(image, arguments, entry));
-}
-
-fn print_table(image: &[u8], arguments: Arguments, kinds: &[u16], offsets: &[u16], listed: usize) {
-    let mut i = 0;
-    while i < listed {
-        if i < kinds.len() {
-            if i < offsets.len() {
-                print_entry(kinds[i], offsets[i]);
-                print_block(image, arguments, i);
-            }
-        }
-        i += 1;
+// The entries of the table, each with its block as the view hands it back.
+fn print_table(image: &[u8], arguments: Arguments, kinds: &[u16], offsets: &[u16]) {
+    for (entry, (kind, offset)) in kinds.iter().zip(offsets).enumerate() {
+        print_entry(*kind, *offset);
+        print(b":");
+        print_bytes(reader::view(image, arguments, entry));
     }
 }
 
 fn print_reading(image: &[u8], arguments: Arguments) {
-    let mut kinds = [0u16; 255];
-    let mut offsets = [0u16; 255];
-    let answer = reader::read(image, arguments, &mut kinds, &mut offsets);
-    if answer.number != rom::refusal::ACCEPTED {
-        print_refusal(answer.number);
-    } else {
-        print_answer(answer);
-        print_table(image, arguments, &kinds, &offsets, answer.listed as usize);
+    let mut kinds = [0; 255];
+    let mut offsets = [0; 255];
+    match reader::read(image, arguments, &mut kinds, &mut offsets) {
+        Ok(reading) => {
+            let listed = usize::from(reading.tally.listed);
+            print_answer(Answer::from(Ok(reading)));
+            print_table(image, arguments, &kinds[..listed], &offsets[..listed]);
+        }
+        Err(refusal) => vectors::print_refusal(refusal),
     }
-    io::write_all(STDOUT, b"\n");
-}
-
-// One record to one line; false at the end of the input.
-fn next_record() -> bool {
-    let mut head = [0u8; HEAD];
-    let got = io::read_full(STDIN, &mut head);
-    if got < HEAD {
-        return false;
-    }
-    let length = rom::word_at(&head, ByteOffset(0)) as usize;
-    let arguments = Arguments {
-        chip: rom::word_at(&head, ByteOffset(2)),
-        controller: head[4],
-        level: head[5],
-        layout: Layout {
-            size: rom::word_at(&head, ByteOffset(6)),
-            magic: head[8] == 1,
-        },
-        first_edition: head[9] == 1,
-    };
-    let mut room = io::buffer();
-    vectors::read_front(&mut room, length);
-    print_reading(part(&room, 0, length), arguments);
-    true
+    print(b"\n");
 }
 
 fn main() {
-    let mut left: u32 = 1_000_000;
-    while 0 < left {
-        let more = next_record();
-        if !more {
+    for _ in 0..vectors::RECORDS {
+        let Some(record) = vectors::next_record::<HEAD>() else {
             return;
-        }
-        left -= 1;
+        };
+        print_reading(&record.rest, vectors::arguments_in(&record.head));
     }
 }

@@ -12,7 +12,7 @@ use lib.Seq.{take_all}
 use Rattle.rom.specs.Refusal.{first_met, Numbered}
 use Rattle.rom.proofs.First.{exact, numbered-append, both-accepted}
 use Rattle.rom.proofs.Fewer.{Fewer, end, fewer, fewer-append}
-use Rattle.block.specs.declared.Block.{Block}
+use Rattle.block.specs.Answer.{Verdict}
 use Rattle.format.specs.Block.{size_of, causes, refusal_of, the_later_version}
 use Rattle.block.specs.Answer.{block_of, number_of, size_in}
 use Rattle.format.proofs.Exact.{causes-numbered}
@@ -93,16 +93,23 @@ first-accepted row level s bs =
     (causes-numbered the_later_version row level s)
 
 -- an accepted block lies in the rest, in the terms of the code: b is what it is found to be, n its number, z its size
-pub size_fits : (row level : ℕ) (s : List ℕ) {b : Block} {n z : ℕ} → b ≡ block_of row level s → n ≡ number_of b → n ≡ 0 → z ≡ size_in b
+pub size_fits : (row level : ℕ) (s : List ℕ) {b : Verdict} {n z : ℕ} → b ≡ block_of row level s → n ≡ number_of b → n ≡ 0 → z ≡ size_in b
     → z ≤ length s
 size_fits row level s {b} {n} {z} eb en e ez =
     let v : SeenAs row level s b = rw eb (seen_as row level s) in
     let r : refusal_of row level s ≡ 0 = sym (seen-number v) ∙ sym en ∙ e in
     rw (ez, seen_size v (sym en ∙ e)) (fits row level s r)
 
--- ## A pass over accepted blocks: i are passed, and b is what the next is found to be
+-- ## A pass over accepted blocks: i are passed
 
-module _ (row level count : ℕ) (rest : List ℕ) {i : ℕ} {b : Block}
+-- the next is accepted
+pub next-refusal : (row level count : ℕ) (rest : List ℕ) {i : ℕ}
+    → first_met (block_causes the_later_version row level (cut row (count - i) rest)) ≡ 0 → i < count → refusal_of row level rest ≡ 0
+next-refusal row level count rest e h = (first-accepted row level rest _ (rw cut-more at e)).0
+
+-- and b is what it is found to be
+
+module _ (row level count : ℕ) (rest : List ℕ) {i : ℕ} {b : Verdict}
     (e : first_met (block_causes the_later_version row level (cut row (count - i) rest)) ≡ 0)
     (h : i < count) (eb : b ≡ block_of row level rest) where
   next-accepted : (refusal_of row level rest ≡ 0)

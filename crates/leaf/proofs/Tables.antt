@@ -10,7 +10,7 @@ use lib.ListN.{length, drop, get_or, length-append, length-drop}
 use lib.Seq.{drop-drop}
 use Rattle.rom.specs.Bytes.{pick, one, keep}
 use Rattle.rom.specs.Refusal.{first_met}
-use Rattle.block.specs.declared.Block.{Block}
+use Rattle.block.specs.Answer.{Verdict}
 use Rattle.format.specs.Block.{size_of, is_listed, the_later_version}
 use Rattle.block.specs.Answer.{number_of, listed_in}
 use Rattle.block.proofs.Seen.{SeenAs, seen-listed, fits}
@@ -56,7 +56,7 @@ table-length row level p ps =
     ap length (table-cons row level p ps) ∙ length-append (table row level ps) (listed_at row level p)
     ∙ ap (λ (n : ℕ). length (table row level ps) + n) (entry_length row level p)
 
-pub table_more : {row level : ℕ} {b : Block} (p : PlacedBlock) (ps : List PlacedBlock) → SeenAs row level p.rest b → number_of b ≡ 0
+pub table_more : {row level : ℕ} {b : Verdict} (p : PlacedBlock) (ps : List PlacedBlock) → SeenAs row level p.rest b → number_of b ≡ 0
     → length (table row level (p ∷ ps)) ≡ length (table row level ps) + listed_in b
 table_more {row} {level} p ps v z = table-length row level p ps ∙ ap (λ (n : ℕ). length (table row level ps) + n) (seen-listed v z)
 

@@ -1,133 +1,151 @@
 // `card read`: the verdict, and what the card says.
 #![tactic(auto)]
 
-ghost use Rattle.std.specs.Prelude.{◌<◌};
+ghost use Rattle.std.specs.Prelude.{◌<◌, ◌≤◌};
 
 use block::Block;
-use reader::{Answer, Arguments};
+use reader::{Header, Reading, Tally};
 use report::words;
-use rom::{Layout, refusal};
-use survey::Place;
+use rom::Refusal;
+use survey::{Card, Place};
+use text::line;
 use text::line::{Line, say};
 use text::slice::{byte_at, from, part, word_at};
-use text::{decimal_words, line};
 
 // ## The header
 
-fn show_header(image: &[u8], arguments: Arguments, answer: Answer) {
-    let version = byte_at(image, rom::VERSION_AT) as u64;
-    let controllers = byte_at(image, rom::CONTROLLER_COUNT_AT) as u64;
-    let line = line::of(b"  format version   #", [version, 0, 0, 0]);
-    report::edition_words(line, image, arguments.first_edition).print();
-    line::of(b"  controllers      #", [controllers, 0, 0, 0]).print();
-    report::address_words(Line::new().text(b"  station address  "), answer.address).print();
-    let line = words::connection_line(b"  connection type  ", answer.connection);
-    words::show_connection(line, answer.connection);
+fn show_header(card: Card, header: Header) {
+    let version = byte_at(card.image, rom::VERSION_AT);
+    let controllers = byte_at(card.image, rom::CONTROLLER_COUNT_AT);
+    let line = line::of(b"  format version   #", [u64::from(version), 0, 0, 0]);
+    report::edition_words(line, card).print();
+    line::of(b"  controllers      #", [u64::from(controllers), 0, 0, 0]).print();
+    report::address_words(Line::new().text(b"  station address  "), header.address).print();
+    let line = words::connection_line(b"  connection type  ", header.connection);
+    words::show_connection(line, header.connection);
 }
 
-fn show_counts(arguments: Arguments, answer: Answer) {
-    if arguments.chip == 21140 {
-        line::of(b"  control byte     0x%", [answer.control as u64, 0, 0, 0]).print();
+fn show_counts(chip: u16, header: Header, tally: Tally) {
+    if chip == 21140 {
+        line::of(
+            b"  control byte     0x%",
+            [u64::from(header.control), 0, 0, 0],
+        )
+        .print();
     }
     line::of(
         b"  blocks           #: # listed, # resets, # power",
         [
-            answer.blocks as u64,
-            answer.listed as u64,
-            answer.resets as u64,
-            answer.power as u64,
+            u64::from(header.blocks),
+            u64::from(tally.listed),
+            u64::from(tally.resets),
+            u64::from(tally.power),
         ],
     )
-    .with(b", # stepped over", [answer.skipped as u64, 0, 0, 0])
+    .with(b", # stepped over", [u64::from(tally.skipped), 0, 0, 0])
     .print();
-    if answer.default_number == rom::NONE {
-        say(b"  default medium   none");
-    } else {
-        line::of(
+    match tally.default_number {
+        Some(number) => line::of(
             b"  default medium   block #",
-            [answer.default_number as u64, 0, 0, 0],
-        )
-        .print();
+            [u64::from(number), 0, 0, 0],
+        ).print(),
+        None => say(b"  default medium   none"),
     }
 }
 
 // The Magic Packet block of a layout that has one.
-fn show_magic(image: &[u8], layout: Layout) {
-    if layout.magic {
+fn show_magic(card: Card) {
+    let layout = card.arguments.layout;
+    if layout.magic
+        && let Ok(magic) = magic::read(card.image, layout.size)
+    {
         say(b"");
-        report::show_magic(magic::read(image, layout.size).magic);
+        report::show_magic(magic);
     }
 }
 
 // ## The fields of a block
+
+// What a sequence counts.
+#[derive(Clone, Copy)]
+enum Unit {
+    Byte,
+    Word,
+}
+
+impl Unit {
+    fn length(self) -> usize
+        ensures at_least { 0 < result }
+        ensures at_most { result ≤ 2 }
+    {
+        match self {
+            Unit::Byte => 1,
+            Unit::Word => 2,
+        }
+    }
+
+    // The bytes of a sequence of so many.
+    fn times(self, count: u8) -> usize
+        ensures { result < 1000 }
+    {
+        usize::from(count) * self.length()
+    }
+
+    fn show(self, line: Line, bytes: &[u8]) -> Line {
+        match self {
+            Unit::Byte => line.with(b" 0x%", [u64::from(byte_at(bytes, 0)), 0, 0, 0]),
+            Unit::Word => line.with(b" @", [u64::from(word_at(bytes, 0)), 0, 0, 0]),
+        }
+    }
+}
 
 // Where the fields of an entry begin, and their values where they have a line of their own.
 fn field(name: &[u8]) -> Line {
     Line::new().to(6).text(name).to(20)
 }
 
-// A sequence of words, or of bytes where the unit is 1, in rows of eight.
-fn show_sequence(name: &[u8], bytes: &[u8], unit: usize) {
-    let mut line = field(name);
-    if bytes.len() == 0 {
-        line = line.text(b" none");
+// A sequence in rows of eight.
+fn show_sequence(name: &[u8], bytes: &[u8], unit: Unit) {
+    if bytes.is_empty() {
+        field(name).text(b" none").print();
     }
-    let mut i = 0;
-    while i < bytes.len() {
-        if starts_row(i, unit) {
-            line.print();
-            line = field(b"");
+    let mut name = name;
+    for row in bytes.chunks(8 * unit.length()) {
+        let mut line = field(name);
+        for bytes in row.chunks(unit.length()) {
+            line = unit.show(line, bytes);
         }
-        line = element(line, bytes, i, unit);
-        i += 1;
+        line.print();
+        name = b"";
     }
-    line.print();
 }
 
-fn starts_row(i: usize, unit: usize) -> bool {
-    if i == 0 {
-        return false;
-    }
-    if unit == 1 {
-        return i % 8 == 0;
-    }
-    i % 16 == 0
-}
+// The five media of a capability or an advertisement, by their bits.
+const ABILITIES: [(u16, &[u8]); 5] = [
+    (16, b"100BaseT4"),
+    (8, b"100BaseTx-FD"),
+    (4, b"100BaseTx"),
+    (2, b"10BaseT-FD"),
+    (1, b"10BaseT"),
+];
 
-// The byte, or the word that begins, at a place.
-fn element(line: Line, bytes: &[u8], i: usize, unit: usize) -> Line {
-    if unit == 1 {
-        return line.with(b" 0x%", [byte_at(bytes, i) as u64, 0, 0, 0]);
-    }
-    if i % 2 == 1 {
-        return line;
-    }
-    line.with(b" @", [word_at(bytes, i) as u64, 0, 0, 0])
-}
-
-fn ability(line: Line, bit: u16, name: &[u8]) -> Line {
-    if bit == 0 {
-        return line;
-    }
-    line.byte(b' ').text(name)
-}
-
-// The five media of a capability or an advertisement, as bits with 100BaseT4 highest.
 fn abilities(line: Line, bits: u16) -> Line {
-    let line = ability(line, bits / 16 % 2, b"100BaseT4");
-    let line = ability(line, bits / 8 % 2, b"100BaseTx-FD");
-    let line = ability(line, bits / 4 % 2, b"100BaseTx");
-    let line = ability(line, bits / 2 % 2, b"10BaseT-FD");
-    ability(line, bits % 2, b"10BaseT")
+    let mut line = line;
+    for (bit, name) in ABILITIES {
+        if bits & bit != 0 {
+            line = line.byte(b' ').text(name);
+        }
+    }
+    line
 }
 
 // The four words of a PHY's block, and a last byte where it has one.
 fn show_phy_words(bytes: &[u8]) {
     let capabilities = word_at(bytes, 0);
     let advertisement = word_at(bytes, 2);
-    let line = field(b"capabilities").with(b" @", [capabilities as u64, 0, 0, 0]);
+    let line = field(b"capabilities").with(b" @", [u64::from(capabilities), 0, 0, 0]);
     abilities(line, capabilities / 2048).print();
-    let line = field(b"advertisement").with(b" @", [advertisement as u64, 0, 0, 0]);
+    let line = field(b"advertisement").with(b" @", [u64::from(advertisement), 0, 0, 0]);
     abilities(line, advertisement / 32 % 32).print();
     let line = line::fields(Line::new().to(6), b"full duplex @4, threshold @6", bytes);
     if 8 < bytes.len() {
@@ -137,221 +155,172 @@ fn show_phy_words(bytes: &[u8]) {
     }
 }
 
-// The bytes of a sequence of so many bytes, or words where the unit is 2.
-fn sequence_length(count: u8, unit: usize) -> usize
-    ensures { result < 1000 }
-{
-    if unit == 1 {
-        return count as usize;
-    }
-    2 * (count as usize)
-}
-
-// A PHY's block, whose sequences count units of so many bytes.
-fn show_phy(bytes: &[u8], unit: usize) {
-    let gpr = sequence_length(byte_at(bytes, 3), unit);
-    let reset = sequence_length(byte_at(bytes, 4 + gpr), unit);
+// A PHY's block.
+fn show_phy(bytes: &[u8], unit: Unit) {
+    let gpr = unit.times(byte_at(bytes, 3));
+    let reset = unit.times(byte_at(bytes, 4 + gpr));
     show_phy_words(from(bytes, 5 + gpr + reset));
     show_sequence(b"GPR sequence", part(bytes, 4, gpr), unit);
     show_sequence(b"reset sequence", part(bytes, 5 + gpr, reset), unit);
 }
 
-// A medium's fields by the block's kind, and 1000 more where its code byte has EXT: where a mark stands is a byte of the
-// block.
-fn show_medium(bytes: &[u8], form: u64) {
-    let pattern = decimal_words(
-        b"0 GPR data 0x%3, command @4
-2 GPR control @3, data @5
-1002 CSR13 @3, CSR14 @5, CSR15 @7, GPR control @9, data @b
-4 GPR control @3, data @5, command @7
-256 GPR data 0x%1, command @2
-1257 CSR13 @1, CSR14 @3, CSR15 @5
-",
-        form,
-    );
-    if pattern.len() != 0 {
-        line::fields(Line::new().to(6), pattern, bytes).print();
+// Whether the code byte at a place has EXT.
+fn is_extended(bytes: &[u8], at: usize) -> bool {
+    byte_at(bytes, at) / 64 % 2 == 1
+}
+
+// A medium's fields by the block's kind: where a mark stands is a byte of the block.
+fn medium_fields(bytes: &[u8], kind: u16) -> Option<&'static [u8]> {
+    match kind {
+        0 => Some(b"GPR data 0x%3, command @4"),
+        2 if is_extended(bytes, 2) => {
+            Some(b"CSR13 @3, CSR14 @5, CSR15 @7, GPR control @9, data @b")
+        }
+        2 => Some(b"GPR control @3, data @5"),
+        4 => Some(b"GPR control @3, data @5, command @7"),
+        block::KIND_COMPACT => Some(b"GPR data 0x%1, command @2"),
+        block::KIND_21041 if is_extended(bytes, 0) => Some(b"CSR13 @1, CSR14 @3, CSR15 @5"),
+        _ => None,
     }
 }
 
 fn show_fields(bytes: &[u8], kind: u16) {
     match kind {
-        1 => show_phy(bytes, 1),
-        3 => show_phy(bytes, 2),
-        2 => show_medium(
-            bytes,
-            (kind as u64) + 1000 * (byte_at(bytes, 2) / 64 % 2) as u64,
-        ),
-        block::KIND_21041 => show_medium(
-            bytes,
-            (kind as u64) + 1000 * (byte_at(bytes, 0) / 64 % 2) as u64,
-        ),
-        _ => show_medium(bytes, kind as u64),
+        1 => show_phy(bytes, Unit::Byte),
+        3 => show_phy(bytes, Unit::Word),
+        _ => {
+            if let Some(pattern) = medium_fields(bytes, kind) {
+                line::fields(Line::new().to(6), pattern, bytes).print();
+            }
+        }
     }
 }
 
 // ## The media table
 
-fn marks(line: Line, b: Block) -> Line {
-    match b {
-        Block::Listed(medium) => {
-            if medium.is_default {
-                return line.text(b", DEFAULT");
-            }
-            if medium.active_invalid {
-                return line.text(b", Active_Invalid");
-            }
-            line
-        }
-        Block::Reset { size: _ } => line,
-        Block::Power { size: _, mode: _ } => line,
-        Block::Unknown { size: _ } => line,
-        Block::Refused(_) => line,
+fn marks(line: Line, block: Result<Block, Refusal>) -> Line {
+    match block {
+        Ok(Block::Listed(medium)) if medium.is_default => line.text(b", DEFAULT"),
+        Ok(Block::Listed(medium)) if medium.active_invalid => line.text(b", Active_Invalid"),
+        _ => line,
     }
 }
 
-// The number of the block at a byte, the last such before one.
-fn number_before(image: &[u8], arguments: Arguments, number: u8, start: u16) -> u8 {
-    let mut k = number;
-    while 0 < k {
-        k -= 1;
-        if survey::block_place(image, arguments, k).start == start {
-            return k;
-        }
-    }
-    rom::NONE
+// The block at a byte, the last such before one, with its number.
+fn block_before(card: Card, number: u8, start: u16) -> Option<(u8, Place)> {
+    (0..number).rev().find_map(|k| {
+        card.block_place(k)
+            .filter(|place| place.start == start)
+            .map(|place| (k, place))
+    })
 }
 
-fn show_entry(image: &[u8], arguments: Arguments, entry: usize, number: u8) {
-    let place = survey::block_place(image, arguments, number);
-    let bytes = report::block_bytes(image, arguments.layout, place);
+fn show_entry(card: Card, entry: usize, number: u8, place: Place) {
+    let bytes = report::block_bytes(card, place);
     let line = Line::new().right(entry as u64, 4).to(6);
     let line = report::place_words(line, number, place).text(b": ");
     let line = words::medium_words(line, bytes, place.kind);
-    marks(line, report::block_at(image, arguments, place.start)).print();
+    marks(line, report::block_at(card, place.start)).print();
     show_fields(bytes, place.kind);
 }
 
-fn show_entries(image: &[u8], arguments: Arguments, answer: Answer, offsets: &[u16]) {
-    let listed = answer.listed as usize;
-    let mut number = answer.blocks;
-    let mut e = 0;
-    while e < listed {
-        if e < offsets.len() {
-            number = number_before(image, arguments, number, offsets[e]);
-            show_entry(image, arguments, e, number);
+fn show_entries(card: Card, blocks: u8, starts: &[u16]) {
+    let mut before = blocks;
+    for (entry, start) in starts.iter().enumerate() {
+        if let Some((number, place)) = block_before(card, before, *start) {
+            show_entry(card, entry, number, place);
+            before = number;
         }
-        e += 1;
     }
 }
 
-fn show_table(image: &[u8], arguments: Arguments, answer: Answer, offsets: &[u16]) {
+fn show_table(card: Card, blocks: u8, starts: &[u16]) {
     say(b"");
-    if answer.listed == 0 {
+    if starts.is_empty() {
         say(b"Media table: no entry");
-        return;
+    } else {
+        say(b"Media table, in autosense order");
+        show_entries(card, blocks, starts);
     }
-    say(b"Media table, in autosense order");
-    show_entries(image, arguments, answer, offsets);
 }
 
 // ## Resets, power blocks, and what is stepped over
 
-// The sorts of blocks that have no entry.
-const RESET: u8 = 0;
-
-const POWER: u8 = 1;
-
-const UNKNOWN: u8 = 2;
-
-fn show_reset(place: Place, number: u8, bytes: &[u8]) {
-    report::place_words(Line::new().to(2), number, place).print();
-    show_sequence(b"reset sequence", from(bytes, 3), 2);
-}
-
-fn show_power(place: Place, number: u8, mode: u8, bytes: &[u8]) {
-    report::place_words(Line::new().to(2), number, place).print();
-    words::mode_words(field(b"modes"), mode).print();
-    show_sequence(b"GPR sequence", from(bytes, 4), 2);
-}
-
-fn show_unknown(place: Place, number: u8, bytes: &[u8]) {
-    report::place_words(Line::new().to(2), number, place)
-        .byte(b':')
-        .print();
-    report::show_bytes(bytes);
-}
-
-// A block, where it is of the sort that is shown.
-fn show_if(place: Place, number: u8, b: Block, bytes: &[u8], sort: u8) {
-    match b {
-        Block::Listed(_) => {}
-        Block::Reset { size: _ } => {
-            if sort == RESET {
-                show_reset(place, number, bytes);
-            }
+// A block that has no entry.
+fn show_block(card: Card, number: u8, place: Place, block: Block) {
+    let bytes = report::block_bytes(card, place);
+    let line = report::place_words(Line::new().to(2), number, place);
+    match block {
+        Block::Reset { .. } => {
+            line.print();
+            show_sequence(b"reset sequence", from(bytes, 3), Unit::Word);
         }
-        Block::Power { size: _, mode } => {
-            if sort == POWER {
-                show_power(place, number, mode, bytes);
-            }
+        Block::Power { mode, .. } => {
+            line.print();
+            words::mode_words(field(b"modes"), mode).print();
+            show_sequence(b"GPR sequence", from(bytes, 4), Unit::Word);
         }
-        Block::Unknown { size: _ } => {
-            if sort == UNKNOWN {
-                show_unknown(place, number, bytes);
-            }
+        _ => {
+            line.byte(b':').print();
+            report::show_bytes(bytes);
         }
-        Block::Refused(_) => {}
     }
 }
 
-fn show_sort(image: &[u8], arguments: Arguments, blocks: u8, sort: u8) {
-    let mut k = 0u8;
-    while k < blocks {
-        let place = survey::block_place(image, arguments, k);
-        let b = report::block_at(image, arguments, place.start);
-        let bytes = report::block_bytes(image, arguments.layout, place);
-        show_if(place, k, b, bytes, sort);
-        k += 1;
+// The blocks of a sort.
+fn show_sort<F: Fn(Block) -> bool>(card: Card, blocks: u8, is_shown: F)
+    requires { F.IsAlwaysCallable is_shown }
+{
+    for number in 0..blocks {
+        if let Some(place) = card.block_place(number)
+            && let Ok(block) = report::block_at(card, place.start)
+            && is_shown(block)
+        {
+            show_block(card, number, place, block);
+        }
     }
 }
 
-fn show_unlisted(image: &[u8], arguments: Arguments, answer: Answer) {
-    if 0 < answer.resets {
+fn show_unlisted(card: Card, blocks: u8, tally: Tally) {
+    if 0 < tally.resets {
         say(b"");
         say(b"Reset, before any medium is selected");
-        show_sort(image, arguments, answer.blocks, RESET);
+        show_sort(card, blocks, |block| matches!(block, Block::Reset { .. }));
     }
-    if 0 < answer.power {
+    if 0 < tally.power {
         say(b"");
         say(b"Power, by which a driver shuts the PHY down");
-        show_sort(image, arguments, answer.blocks, POWER);
+        show_sort(card, blocks, |block| matches!(block, Block::Power { .. }));
     }
-    if 0 < answer.skipped {
+    if 0 < tally.skipped {
         say(b"");
         line::of(
             b"STEPPED OVER, of types that a reader of level # does not know",
-            [arguments.level as u64, 0, 0, 0],
+            [u64::from(card.arguments.level), 0, 0, 0],
         )
         .print();
-        show_sort(image, arguments, answer.blocks, UNKNOWN);
+        show_sort(card, blocks, |block| matches!(block, Block::Unknown { .. }));
     }
 }
 
-// Reads the image and shows what it says; whether it is accepted. Its size may have been given.
-pub fn show(image: &[u8], arguments: Arguments, given: bool) -> bool {
+// Reads the image and shows what it says; whether it is accepted. Its size may be named.
+pub fn show(card: Card, named: Option<u16>) -> bool {
     let mut kinds = [0u16; 255];
-    let mut offsets = [0u16; 255];
-    let answer = reader::read(image, arguments, &mut kinds, &mut offsets);
-    if answer.number != refusal::ACCEPTED {
-        report::show_refused(image, arguments, given, answer.number);
-        return false;
+    let mut starts = [0u16; 255];
+    match reader::read(card.image, card.arguments, &mut kinds, &mut starts) {
+        Ok(Reading { header, tally }) => {
+            let verdict = Line::new().text(b"ACCEPTED  ");
+            report::arguments_words(verdict, card.arguments, named).print();
+            show_header(card, header);
+            show_counts(card.arguments.chip, header, tally);
+            show_magic(card);
+            show_table(card, header.blocks, &starts[..usize::from(tally.listed)]);
+            show_unlisted(card, header.blocks, tally);
+            true
+        }
+        Err(refusal) => {
+            report::show_refused(card, named, refusal);
+            false
+        }
     }
-    report::arguments_words(Line::new().text(b"ACCEPTED  "), arguments, given).print();
-    show_header(image, arguments, answer);
-    show_counts(arguments, answer);
-    show_magic(image, arguments.layout);
-    show_table(image, arguments, answer, &offsets);
-    show_unlisted(image, arguments, answer);
-    true
 }

@@ -1,15 +1,16 @@
 // The Magic Packet block of an image: its reader and its writer (000, section 4; document 02, request 1).
 #![tactic(auto)]
 
-ghost use Rattle.std.specs.Prelude.{◌≡◌, ◌+◌, ◌-◌, ◌≤◌, ◌<◌, length, take, drop, replicate, false};
-ghost use Rattle.rom.specs.Geometry.{wrong_length};
-ghost use Rattle.rom.specs.Bytes.{byte_at, word_at};
-ghost use Rattle.packet.specs.Block.{place, bad_crc, bad_reserved, block_with};
-ghost use Rattle.packet.specs.Answer.{magic_read_number, no_magic, magic_reading, magic_write_number, magic_written};
+ghost use Rattle.std.specs.Prelude.{◌≡◌, ◌+◌, ◌≤◌, ◌==◌, ◌&&◌, not, take, drop, IfOk};
+ghost use Rattle.rom.specs.Geometry.{magic_at};
+ghost use Rattle.rom.specs.Numbers.{answer_number};
+ghost use Rattle.rom.specs.Bytes.{byte_at, all_zero};
+ghost use Rattle.packet.specs.Block.{place, zeros_at, last_at, block_with};
+ghost use Rattle.packet.specs.Answer.{magic_answer_of, magic_read_number, magic_reading, magic_write_number, magic_written};
 
 pub use packet::{Magic, MagicAnswer};
 use rom::store::{put_byte, put_bytes, put_word};
-use rom::{ByteOffset, refusal};
+use rom::{ByteOffset, MAGIC_LENGTH, Refusal};
 
 // ## Its fields, counted from its first byte
 
@@ -27,155 +28,98 @@ pub const CRC: u8 = 30;
 pub const LAST: u8 = 31;
 
 // Where a field stands in an image.
+#[tactic(auto, using(packet::proofs::Reading::starts_low))]
 pub fn field_at(size: u16, field: u8) -> usize
     ensures { result ≡ place size field }
 {
-    rom::magic_at(size) + (field as usize)
+    rom::magic_at(size) + usize::from(field)
 }
 
-// The same in an image of the right length, whose last bytes the block is.
-fn place_in(image: &[u8], field: u8) -> usize
-    requires { 32 ≤ length image.now }
-    ensures { result ≡ (length image.now - 32) + field }
+// Where it stands in the block.
+fn offset(field: u8) -> ByteOffset
+    ensures { result.0 ≡ field }
 {
-    image.len() - rom::MAGIC_LENGTH + (field as usize)
-}
-
-// A byte, and a word, that are known to be there.
-fn byte_in(image: &[u8], at: usize) -> u8
-    requires { at < length image.now }
-    ensures { result ≡ byte_at image.now at }
-{
-    image[at]
-}
-
-fn word_in(image: &[u8], at: usize) -> u16
-    requires { at + 1 < length image.now }
-    ensures { result ≡ word_at image.now at }
-{
-    let low = byte_in(image, at);
-    let high = byte_in(image, at + 1);
-    (low as u16) + 256 * (high as u16)
+    ByteOffset(usize::from(field))
 }
 
 // ## Reading
 
-// Whether the block's CRC is not the stored one.
-fn bad_crc(image: &[u8], size: u16) -> bool
-    requires { wrong_length size (length image.now) ≡ false }
-    ensures { result ≡ bad_crc size image.now }
+// Whether a reserved byte is not 0.
+fn has_stray(block: &[u8; MAGIC_LENGTH]) -> bool
+    ensures { result ≡ not (all_zero (take 16 (drop zeros_at block.now)) && byte_at block.now last_at == 0) }
 {
-    let stored = byte_in(image, place_in(image, CRC));
-    (stored as u16) != crc::magic_crc(image, size).value
+    !rom::all_zero(&block[usize::from(ZEROS)..usize::from(CRC)]) || block[usize::from(LAST)] != 0
 }
 
-// Whether a reserved byte is not 0.
-fn bad_reserved(image: &[u8], size: u16) -> bool
-    requires { wrong_length size (length image.now) ≡ false }
-    ensures { result ≡ bad_reserved size image.now }
+// The block of an image, its last bytes, where neither its CRC nor a reserved byte is wrong.
+#[tactic(auto, using(packet::proofs::Reading::reading))]
+fn accepted(image: &[u8], size: u16) -> Result<&[u8; MAGIC_LENGTH], Refusal>
+    ensures number { answer_number result ≡ magic_read_number size image.now }
+    ensures block { IfOk result (λ block. block.now ≡ drop (magic_at size) image.now) }
 {
-    let start = place_in(image, ZEROS);
-    let end = place_in(image, CRC);
-    let zeros = rom::all_zero(&image[start..end]);
-    if !zeros {
-        return true;
+    rom::check_length(size, image.len())?;
+    let block: &[u8; MAGIC_LENGTH] = image.last_chunk().unwrap();
+    if u16::from(block[usize::from(CRC)]) != crc::magic_crc(image, size)? {
+        return Err(Refusal::MagicCrc);
     }
-    byte_in(image, place_in(image, LAST)) != 0
+    if has_stray(block) {
+        return Err(Refusal::MagicReserved);
+    }
+    Ok(block)
 }
 
 // Why a block is refused: 1, 29 or 30.
-pub fn judge(image: &[u8], size: u16) -> u8
-    ensures { result ≡ magic_read_number size image.now }
+pub fn judge(image: &[u8], size: u16) -> Result<(), Refusal>
+    ensures { answer_number result ≡ magic_read_number size image.now }
 {
-    if rom::is_wrong_length(size, image.len()) {
-        return refusal::IMAGE_LENGTH;
-    }
-    let crc = bad_crc(image, size);
-    if crc {
-        return refusal::MAGIC_CRC;
-    }
-    let reserved = bad_reserved(image, size);
-    if reserved {
-        return refusal::MAGIC_RESERVED;
-    }
-    refusal::ACCEPTED
+    accepted(image, size)?;
+    Ok(())
 }
 
-fn six_at(image: &[u8], at: usize) -> [u8; 6]
-    requires { at + 6 ≤ length image.now }
-    ensures { result ≡ take 6 (drop at image.now) }
+// Six bytes of a block.
+fn six_at(block: &[u8; MAGIC_LENGTH], field: u8) -> [u8; 6]
+    requires { field + 6 ≤ 32 }
+    ensures { result ≡ take 6 (drop field block.now) }
 {
-    let mut six = [0u8; 6];
-    let end = at + 6;
-    put_bytes(&mut six, ByteOffset(0), &image[at..end]);
-    six
-}
-
-fn no_magic() -> Magic
-    ensures { result ≡ no_magic }
-{
-    Magic {
-        password: [0; 6],
-        address: [0; 6],
-        command: 0,
-    }
+    *block[usize::from(field)..].first_chunk().unwrap()
 }
 
 // What the block says, or the first refusal.
-pub fn read(image: &[u8], size: u16) -> MagicAnswer
-    ensures { result ≡ magic_reading size image.now }
+#[tactic(auto, using(packet::proofs::Reading::answered_reading))]
+pub fn read(image: &[u8], size: u16) -> Result<Magic, Refusal>
+    ensures { magic_answer_of result ≡ magic_reading size image.now }
 {
-    let number = judge(image, size);
-    if number != refusal::ACCEPTED {
-        return MagicAnswer {
-            number,
-            magic: no_magic(),
-        };
-    }
-    MagicAnswer {
-        number,
-        magic: Magic {
-            password: six_at(image, place_in(image, PASSWORD)),
-            address: six_at(image, place_in(image, ADDRESS)),
-            command: word_in(image, place_in(image, COMMAND)),
-        },
-    }
+    let block = accepted(image, size)?;
+    Ok(Magic {
+        password: six_at(block, PASSWORD),
+        address: six_at(block, ADDRESS),
+        command: rom::word_at(block, offset(COMMAND)),
+    })
 }
 
 // ## Writing
 
-fn blank_block() -> [u8; rom::MAGIC_LENGTH]
-    ensures { result ≡ replicate 32 0 }
-{
-    [0; rom::MAGIC_LENGTH]
-}
-
 // The block's bytes, but for its CRC.
-fn block_of(magic: Magic) -> [u8; rom::MAGIC_LENGTH]
+fn block_of(magic: Magic) -> [u8; MAGIC_LENGTH]
     ensures { result ≡ block_with 0 magic }
 {
-    let mut block = blank_block();
-    let password = magic.password;
-    put_bytes(&mut block, ByteOffset(PASSWORD as usize), &password);
-    let address = magic.address;
-    put_bytes(&mut block, ByteOffset(ADDRESS as usize), &address);
-    put_word(&mut block, ByteOffset(COMMAND as usize), magic.command);
+    let mut block = [0; MAGIC_LENGTH];
+    put_bytes(&mut block, offset(PASSWORD), &magic.password);
+    put_bytes(&mut block, offset(ADDRESS), &magic.address);
+    put_word(&mut block, offset(COMMAND), magic.command);
     block
 }
 
 // Writes a block behind the board's bytes, which stay as they are.
-pub fn write(magic: Magic, image: &mut [u8], size: u16) -> u8
-    ensures value { result ≡ magic_write_number size image.old }
+#[tactic(auto, using(packet::proofs::Writing::writing))]
+pub fn write(magic: Magic, image: &mut [u8], size: u16) -> Result<(), Refusal>
+    ensures value { answer_number result ≡ magic_write_number size image.old }
     ensures image_after { image.new ≡ magic_written size magic image.old }
 {
-    if rom::is_wrong_length(size, image.len()) {
-        return refusal::IMAGE_LENGTH;
-    }
-    let start = place_in(image, PASSWORD);
-    let crc_at = place_in(image, CRC);
-    let block = block_of(magic);
-    put_bytes(image, ByteOffset(start), &block);
-    let crc = crc::magic_crc(image, size).value;
-    put_byte(image, ByteOffset(crc_at), crc as u8);
-    refusal::ACCEPTED
+    rom::check_length(size, image.len())?;
+    let start = image.len() - MAGIC_LENGTH;
+    put_bytes(image, ByteOffset(start), &block_of(magic));
+    let crc = crc::magic_crc(image, size)?;
+    put_byte(image, ByteOffset(start + usize::from(CRC)), crc as u8);
+    Ok(())
 }

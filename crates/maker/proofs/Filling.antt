@@ -1,23 +1,48 @@
--- The three parts of a sheet are laid in together, block by block: what stands, with the pieces of the blocks that are left put
--- behind it in each part, is the whole. Assumes nothing.
-use Prim.Native.Nat.{ℕ, ◌+◌, ◌*◌, ◌-◌, ◌/◌, ◌%◌, ◌≤◌, ◌<◌}
-use native.Mathlib.Omega.{arith}
-use native.Mathlib.Nat.{sub-zero}
-use mathlib.Core.Path.{◌≡◌, refl, sym, ap, ap₂, ◌∙◌}
-use mathlib.Core.List.{List, [], ◌∷◌, ◌++◌}
-use lib.ListN.{length, take, drop, set, length-append}
+-- The bodies that are measured and those that are left make up the whole; so do the three parts of a sheet, which are laid in
+-- together, with the pieces of the blocks that are left put behind what stands in each. Assumes nothing.
+use Rattle.std.proofs.Common.{ℕ, ◌+◌, ◌*◌, ◌/◌, ◌%◌, ◌≡◌, ◌≤◌, ◌<◌, ◌∙◌, refl, sym, ap, List, [], ◌∷◌, ◌++◌, length, arith}
+use Rattle.std.proofs.Math.ListN.{set, length-append, get_or}
 use Rattle.rom.specs.Store.{word_bytes, put}
 use Rattle.rom.proofs.Put.{put-none, put-length, put-put, put_one, put_two, put-swap}
-use Rattle.format.specs.Block.{kind_of}
-use Rattle.leaf.proofs.Cuts.{rest_part}
 use Rattle.sheet.specs.Layout.{head_length}
 use Rattle.sheet.specs.Record.{Entry}
 use Rattle.sheet.specs.Sheet.{kind_bytes, size_bytes, body_bytes, parts_of}
-use Rattle.sheet.specs.Image.{body_of}
 use Rattle.sheet.proofs.Sheets.{kind-length, size-length}
-use Rattle.maker.specs.Inside.{AcceptedBlocks, entries_of}
-use Rattle.maker.proofs.Blocks.{entries_none, Running, running-first, from, Turn}
-use Rattle.maker.proofs.Sheets.{entries-long, three-put, parts-long}
+use Rattle.maker.specs.Blocks.{sizes_of, entries_in}
+use Rattle.maker.proofs.Turns.{SmallBlock}
+use Rattle.maker.proofs.Sheets.{three-put, parts-long}
+
+-- ## The blocks measured
+
+pub record MeasuredBlocks (all left : List (ℕ × Entry)) (size total : ℕ) : Type 0 where
+  pub sizes : size + sizes_of left ≡ sizes_of all
+  pub bodies : total + length (body_bytes (entries_in left)) ≡ length (body_bytes (entries_in all))
+  pub less : total ≤ size
+
+pub measured-start : {all left : List (ℕ × Entry)} → left ≡ all → MeasuredBlocks all left 0 0
+measured-start e = rw e (record { sizes = omega arith; bodies = omega arith; less = omega arith })
+
+module _ {all left : List (ℕ × Entry)} {size total : ℕ} (i : MeasuredBlocks all left size total) where
+  pub measured-end : left ≡ [] → (size ≡ sizes_of all) × (total ≡ length (body_bytes (entries_in all)))
+  unfolding body_bytes
+  measured-end e =
+      (omega (arith, i.sizes, ap sizes_of e), omega (arith, i.bodies, ap (λ (l : List (ℕ × Entry)). length (body_bytes (entries_in l))) e))
+
+  module _ {b : ℕ × Entry} {bs : List (ℕ × Entry)} (first : left ≡ b ∷ bs) where
+    bodies-length : length (body_bytes (entries_in left)) ≡ length b.1.body + length (body_bytes (entries_in bs))
+    unfolding body_bytes
+    bodies-length =
+        ap (λ (l : List (ℕ × Entry)). length (body_bytes (entries_in l))) first ∙ length-append b.1.body (body_bytes (entries_in bs))
+
+    pub measured-room : size + b.0 ≤ sizes_of all
+    measured-room = omega (arith, i.sizes, ap sizes_of first)
+
+    pub measured-more : SmallBlock b → MeasuredBlocks all bs (size + b.0) (total + length b.1.body)
+    measured-more w = record {
+      sizes = omega (arith, i.sizes, ap sizes_of first);
+      bodies = omega (arith, i.bodies, bodies-length);
+      less = omega (arith, i.less, w.body);
+    }
 
 -- ## Three parts, each at its own place
 
@@ -75,133 +100,80 @@ module _ (sheet : List ℕ) (a : ℕ) (x x' : List ℕ) (b : ℕ) (y y' : List �
       ∙ put-put sizes c z z' (omega (arith, put-length kinds b (y ++ y') (omega (arith, kinds-long, length-append y y')), kinds-long))
 
 -- the stores of `put_entry`, before its copy
-pub three-stores : (sheet : List ℕ) (kind a b n : ℕ) → a + 2 ≤ length sheet → b + 1 ≤ length sheet
-    → set (set (set sheet a (kind % 256)) (a + 1) (kind / 256)) b n ≡ put (put sheet a (word_bytes kind)) b (n ∷ [])
+pub three-stores : (sheet : List ℕ) (kind a b n : ℕ) {bytes : List ℕ} → a + 2 ≤ length sheet → b + 1 ≤ length sheet → kind < 65536
+    → bytes ≡ kind % 256 ∷ kind / 256 % 256 ∷ []
+    → set (set (set sheet a (get_or bytes 0 0)) (a + 1) (get_or bytes 1 0)) b n ≡ put (put sheet a (word_bytes kind)) b (n ∷ [])
 unfolding word_bytes
-three-stores sheet kind a b n h g =
+three-stores sheet kind a b n {bytes} h g low e =
+    let high : kind / 256 % 256 ≡ kind / 256 = omega arith in
     let word = put_two sheet a (kind % 256) (kind / 256) h in
-    ap (λ (l : List ℕ). set l b n) word
-    ∙ put_one (put sheet a (word_bytes kind)) b n (omega (arith, put-length sheet a (word_bytes kind) h))
+    rw (e, high) (ap (λ (l : List ℕ). set l b n) word
+    ∙ put_one (put sheet a (word_bytes kind)) b n (omega (arith, put-length sheet a (word_bytes kind) h)))
 
--- ## What the pass keeps: `to` is where the next body goes
+-- ## What the pass keeps: where the next kind, size and body go
 
--- the parts of entries from number k on
-abbrev parts_at : ℕ → List ℕ → ℕ → ℕ → List Entry → List ℕ
-parts_at count sheet k to es =
-    three_at sheet (head_length + 2 * k) (kind_bytes es) (head_length + 2 * count + k) (size_bytes es) to (body_bytes es)
+-- the parts of entries, each at its place
+abbrev parts_at : List ℕ → ℕ → ℕ → ℕ → List Entry → List ℕ
+parts_at sheet kind size body es = three_at sheet kind (kind_bytes es) size (size_bytes es) body (body_bytes es)
 
-pub record Filling (row first count : ℕ) (leaves sheet₀ : List ℕ) (k start : ℕ) (sheet : List ℕ) (to : ℕ) : Type 0 where
-  pub running : Running row first count leaves k start
-  pub filled : parts_at count sheet k to (entries_of row (count - k) (drop start leaves))
-      ≡ put sheet₀ head_length (parts_of (entries_of row count (drop first leaves)))
-  pub behind : head_length + 3 * count ≤ to
-  pub room : to + length (body_bytes (entries_of row (count - k) (drop start leaves))) ≤ length sheet
+pub record Filling (sheet₀ : List ℕ) (all left : List Entry) (sheet : List ℕ) (kind size body : ℕ) : Type 0 where
+  pub filled : parts_at sheet kind size body left ≡ put sheet₀ head_length (parts_of all)
+  pub kinds : kind + 2 * length left ≤ size
+  pub sizes : size + length left ≤ body
+  pub bodies : body + length (body_bytes left) ≤ length sheet
   pub same : length sheet ≡ length sheet₀
 
-part-lengths : (row count : ℕ) (s : List ℕ) → (length (kind_bytes (entries_of row count s)) ≡ 2 * count)
-    × (length (size_bytes (entries_of row count s)) ≡ count)
-part-lengths row count s =
-    let es = entries_of row count s in
-    (kind-length es ∙ ap (λ (n : ℕ). 2 * n) (entries-long row count s), size-length es ∙ entries-long row count s)
-
-pub filling-first : {row first count : ℕ} {leaves sheet : List ℕ} → first ≤ length leaves → AcceptedBlocks row count (drop first leaves)
-    → head_length + length (parts_of (entries_of row count (drop first leaves))) ≤ length sheet
-    → Filling row first count leaves sheet 0 first sheet (head_length + 2 * count + count)
+pub filling-start : {sheet : List ℕ} {all left : List Entry} → left ≡ all → {n : ℕ} → n ≡ length all
+    → head_length + length (parts_of all) ≤ length sheet
+    → Filling sheet all left sheet head_length (head_length + 2 * n) (head_length + 2 * n + n)
 unfolding parts_of
-filling-first {row} {first} {count} {leaves} {sheet} h e r =
-    let es = entries_of row count (drop first leaves) in
-    let l = part-lengths row count (drop first leaves) in
-    let sizes : head_length + 2 * count + 0 ≡ head_length + length (kind_bytes es) = omega (arith, l.0) in
-    let bodies : head_length + 2 * count + count ≡ head_length + 2 * count + 0 + length (size_bytes es) = omega (arith, l.1) in
-    record {
-      running = running-first h e;
-      filled = rw sub-zero (three-put sheet head_length (kind_bytes es) (size_bytes es) (body_bytes es) r refl sizes refl bodies refl);
-      behind = omega arith;
-      room = rw sub-zero (omega (arith, r, parts-long es, entries-long row count (drop first leaves)));
+filling-start {sheet} {all} e {n} en r =
+    let a : head_length + 2 * n ≡ head_length + length (kind_bytes all) = omega (arith, kind-length all) in
+    let b : head_length + 2 * n + n ≡ head_length + 2 * n + length (size_bytes all) = omega (arith, size-length all) in
+    rw e (record {
+      filled = three-put sheet head_length (kind_bytes all) (size_bytes all) (body_bytes all) r refl a refl b refl;
+      kinds = omega arith;
+      sizes = omega arith;
+      bodies = omega (arith, r, parts-long all, en);
       same = refl;
-    }
+    })
 
-module _ {row first count : ℕ} {leaves sheet₀ : List ℕ} {k start : ℕ} {sheet : List ℕ} {to : ℕ}
-    (i : Filling row first count leaves sheet₀ k start sheet to) where
-  pub filling-last : count ≤ k → sheet ≡ put sheet₀ head_length (parts_of (entries_of row count (drop first leaves)))
+module _ {sheet₀ : List ℕ} {all left : List Entry} {sheet : List ℕ} {kind size body : ℕ}
+    (i : Filling sheet₀ all left sheet kind size body) where
+  pub filling-end : left ≡ [] → sheet ≡ put sheet₀ head_length (parts_of all)
   unfolding kind_bytes size_bytes body_bytes
-  filling-last h =
-      let nothing = sym (put-none sheet (head_length + 2 * k)) ∙ sym (put-none _ (head_length + 2 * count + k)) ∙ sym (put-none _ to) in
-      nothing ∙ ap (parts_at count sheet k to) (sym (entries_none row (drop start leaves) h)) ∙ i.filled
+  filling-end e =
+      sym (put-none sheet kind) ∙ sym (put-none _ size) ∙ sym (put-none _ body) ∙ ap (parts_at sheet kind size body) (sym e) ∙ i.filled
 
-  -- a turn, in the code's terms
-  module _ (h : k < count) {size opening : ℕ} (t : Turn row first count leaves k start size opening) where
-    module _ where
-      abbrev body : List ℕ
-      body = take (size - opening) (drop opening (from leaves start))
+  module _ {e : Entry} {es : List Entry} (first : left ≡ e ∷ es) where
+    bodies-are : length (body_bytes left) ≡ length e.body + length (body_bytes es)
+    unfolding body_bytes
+    bodies-are = ap (λ (l : List Entry). length (body_bytes l)) first ∙ length-append e.body (body_bytes es)
 
-      abbrev later : List Entry
-      later = entries_of row (count - (k + 1)) (drop (start + size) leaves)
-
-      body-long : length body ≡ size - opening
-      body-long = ap length t.body ∙ t.long
-
-      bodies-long : length (body_bytes (entries_of row (count - k) (drop start leaves))) ≡ length body + length (body_bytes later)
-      unfolding body_bytes
-      bodies-long =
-          ap (λ (es : List Entry). length (body_bytes es)) t.left ∙ length-append (body_of row (drop start leaves)) _
-          ∙ ap (λ (n : ℕ). n + length (body_bytes later)) (sym (ap length t.body))
-
-    pub fill-room : ((head_length + 2 * k + 2 ≤ length sheet) × (head_length + 2 * count + k + 1 ≤ length sheet))
-        × ((to + length body ≤ length sheet) × (length body < 256))
+    pub fill-room : (kind + 2 ≤ length sheet) × (size + 1 ≤ length sheet) × (body + length e.body ≤ length sheet)
     fill-room = (
-      (omega (arith, i.behind, i.room), omega (arith, i.behind, i.room)),
-      (omega (arith, i.room, bodies-long), omega (arith, body-long, t.small)),
+      omega (arith, i.kinds, i.sizes, i.bodies, ap length first),
+      omega (arith, i.sizes, i.bodies, ap length first),
+      omega (arith, i.bodies, bodies-are),
     )
 
-    pub fill-next : to + (size - opening) ≤ length sheet
-    fill-next = omega (arith, fill-room.1.0, body-long)
-
-    module _ {kind : ℕ} {next : List ℕ} (ek : kind ≡ kind_of row (from leaves start))
-        (en : next ≡ three_at sheet (head_length + 2 * k) (word_bytes kind) (head_length + 2 * count + k) (length body ∷ []) to body) where
-      module _ where
-        lengths : (length (kind_bytes later) ≡ 2 * (count - (k + 1))) × (length (size_bytes later) ≡ count - (k + 1))
-        lengths = part-lengths row (count - (k + 1)) (drop (start + size) leaves)
-
-        joined : three_at next (head_length + 2 * k + 2) (kind_bytes later) (head_length + 2 * count + k + 1) (size_bytes later)
-            (to + length body) (body_bytes later)
-            ≡ three_at sheet (head_length + 2 * k) (word_bytes kind ++ kind_bytes later) (head_length + 2 * count + k)
-            ((length body ∷ []) ++ size_bytes later) to (body ++ body_bytes later)
-        unfolding word_bytes
-        joined =
-            ap (λ (l : List ℕ). three_at l (head_length + 2 * k + 2) (kind_bytes later) (head_length + 2 * count + k + 1) (size_bytes later)
-            (to + length body) (body_bytes later)) en
-            ∙ three-more sheet (head_length + 2 * k) (word_bytes kind) (kind_bytes later) (head_length + 2 * count + k) (length body ∷ [])
-            (size_bytes later) to body (body_bytes later) (omega (arith, lengths.0)) (omega (arith, lengths.1, i.behind))
-            (omega (arith, i.room, bodies-long))
-
-        pieces : three_at sheet (head_length + 2 * k) (word_bytes kind ++ kind_bytes later) (head_length + 2 * count + k)
-            ((length body ∷ []) ++ size_bytes later) to (body ++ body_bytes later)
-            ≡ parts_at count sheet k to (entries_of row (count - k) (drop start leaves))
-        unfolding kind_bytes size_bytes body_bytes
-        pieces =
-            ap₂ (λ (n : ℕ) (l : List ℕ). three_at sheet (head_length + 2 * k) (word_bytes n ++ kind_bytes later) (head_length + 2 * count
-            + k)
-            (length l ∷ size_bytes later) to (l ++ body_bytes later)) (rw (rest_part start leaves) at ek) t.body
-            ∙ ap (parts_at count sheet k to) (sym t.left)
-
-        same-long : length next ≡ length sheet
-        unfolding word_bytes
-        same-long =
-            let r = fill-room in
-            ap length en
-            ∙ three-long sheet (head_length + 2 * k) (word_bytes kind) (head_length + 2 * count + k) (length body ∷ []) to body r.0.0
-            r.0.1 r.1.0
-
-      pub fill_more : Filling row first count leaves sheet₀ (k + 1) (start + size) next (to + (size - opening))
-      fill_more =
-          let a : head_length + 2 * (k + 1) ≡ head_length + 2 * k + 2 = omega arith in
-          let b : head_length + 2 * count + (k + 1) ≡ head_length + 2 * count + k + 1 = omega arith in
-          let c : to + (size - opening) ≡ to + length body = omega (arith, body-long) in
-          record {
-            running = t.next;
-            filled = rw (a, b, c) (joined ∙ pieces ∙ i.filled);
-            behind = omega (arith, i.behind);
-            room = omega (arith, i.room, bodies-long, same-long, body-long);
-            same = same-long ∙ i.same;
-          }
+    pub filling-more : {next : List ℕ} → next ≡ put (put (put sheet kind (word_bytes e.kind)) size (length e.body ∷ [])) body e.body
+        → Filling sheet₀ all es next (kind + 2) (size + 1) (body + length e.body)
+    unfolding word_bytes kind_bytes size_bytes body_bytes
+    filling-more {next} en =
+        let r = fill-room in
+        let long : length next ≡ length sheet
+        = ap length en ∙ three-long sheet kind (word_bytes e.kind) size (length e.body ∷ []) body e.body r.0 r.1 r.2 in
+        let joined = three-more sheet kind (word_bytes e.kind) (kind_bytes es) size (length e.body ∷ []) (size_bytes es) body e.body
+        (body_bytes es)
+        (omega (arith, i.kinds, ap length first, kind-length es)) (omega (arith, i.sizes, ap length first, size-length es))
+        (omega (arith, i.bodies, bodies-are)) in
+        record {
+          filled =
+              ap (λ (l : List ℕ). parts_at l (kind + 2) (size + 1) (body + length e.body) es) en ∙ joined
+              ∙ ap (parts_at sheet kind size body) (sym first) ∙ i.filled;
+          kinds = omega (arith, i.kinds, ap length first);
+          sizes = omega (arith, i.sizes, ap length first);
+          bodies = omega (arith, i.bodies, bodies-are, long);
+          same = long ∙ i.same;
+        }

@@ -1,5 +1,5 @@
-pub mod Blocks
-pub mod Measuring
-pub mod Filling
+pub mod Turns
 pub mod Sheets
+pub mod Filling
+pub mod Laying
 pub mod Making

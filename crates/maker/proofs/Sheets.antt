@@ -1,12 +1,11 @@
 -- What is laid in one behind the other, and that it is the sheet. Assumes nothing.
 use Prim.Native.Nat.{ℕ, ◌+◌, ◌*◌, ◌-◌, ◌≤◌}
 use native.Mathlib.Omega.{arith}
-use native.Mathlib.Nat.{sub-zero}
 use mathlib.Core.Path.{◌≡◌, refl, sym, ap, ap₂, ◌∙◌}
-use mathlib.Core.List.{List, [], ◌∷◌, ◌++◌, append_assoc}
-use mathlib.Core.Bool.{Bool}
+use mathlib.Core.List.{List, [], ◌∷◌, ◌++◌, map, append_assoc}
 use lib.ListN.{length, take, drop, length-append, length-drop}
 use lib.Seq.{length-take-le, take-suc, drop-cons, get_or-drop}
+use mathlib.Core.Bool.{Bool}
 use Rattle.rom.specs.declared.Layout.{Layout}
 use Rattle.rom.specs.Geometry.{image_length, checked_length, leaves_end, address_at}
 use Rattle.rom.specs.Bytes.{byte_at}
@@ -16,9 +15,10 @@ use Rattle.rom.proofs.Put.{put-length, put-joined, laid-put}
 use Rattle.image.specs.Image.{up_to_leaves_end}
 use Rattle.image.proofs.Causes.{whole-image}
 use Rattle.reader.specs.declared.Answer.{Answer}
-use Rattle.reader.specs.declared.Reading.{Reading}
-use Rattle.reader.specs.Reading.{accepted_answer, accepted_reading}
-use Rattle.reader.proofs.Readings.{Accepted, reading-start, reading-end, reading-blocks}
+use Rattle.reader.specs.Reading.{Judged, accepted_answer, accepted_reading}
+use Rattle.reader.specs.Answered.{accepted_as}
+use Rattle.reader.proofs.Answered.{ok-number}
+use Rattle.reader.proofs.Readings.{Accepted, accepted-judged, reading-start, reading-end, reading-blocks}
 use Rattle.sheet.specs.Layout.{id_at, chip_at, head_length}
 use Rattle.sheet.specs.Record.{Entry}
 use Rattle.sheet.specs.declared.Form.{Form}
@@ -28,8 +28,13 @@ use Rattle.sheet.specs.Image.{leaf_start, newest_in, image_from}
 use Rattle.sheet.specs.Make.{sheet_for}
 use Rattle.sheet.proofs.Blocks.{entries-length}
 use Rattle.sheet.proofs.Sheets.{kind-length, size-length, counts-length}
-use Rattle.maker.specs.Inside.{AcceptedBlocks, entries_of, front_bytes, field_bytes}
-use Rattle.maker.proofs.Blocks.{drop-take}
+use Rattle.format.specs.Block.{size_of}
+use Rattle.leaf.specs.Leaf.{cut}
+use Rattle.sheet.specs.Image.{entry_from, sizes, leaf_end}
+use Rattle.maker.specs.Inside.{AcceptedBlocks, front_bytes, field_bytes}
+use Rattle.maker.specs.Blocks.{sized_block, sizes_of, entries_in}
+use Rattle.maker.specs.declared.source.ReadImage.{ReadImage}
+use Rattle.maker.proofs.Turns.{sized_cut}
 
 -- ## Three parts
 
@@ -156,51 +161,67 @@ module _ (l : Layout) (image : List ℕ) (whole : length image ≡ image_length 
 
 -- ## The parts
 
-pub entries-long : (row count : ℕ) (s : List ℕ) → length (entries_of row count s) ≡ count
-unfolding entries_of
-entries-long = entries-length
-
 pub parts-long : (es : List Entry) → length (parts_of es) ≡ 3 * length es + length (body_bytes es)
 unfolding parts_of
 parts-long es = simp length-append (omega (arith, kind-length es, size-length es))
 
+-- ## What a pass over blocks goes through
+
+entries-are : (row : ℕ) (bs : List (List ℕ)) → entries_in (map (sized_block row) bs) ≡ map (entry_from row) bs
+entries-are row [] = refl
+entries-are row (s ∷ bs) = ap (λ (es : List Entry). entry_from row s ∷ es) (entries-are row bs)
+
+sizes-are : (row : ℕ) (bs : List (List ℕ)) → sizes_of (map (sized_block row) bs) ≡ sizes row bs
+unfolding sizes
+sizes-are row [] = refl
+sizes-are row (s ∷ bs) = ap (λ (n : ℕ). size_of row s + n) (sizes-are row bs)
+
+pub count-is : (row count : ℕ) (s : List ℕ) → length (entries_in (sized_cut row count s)) ≡ count
+count-is row count s = ap length (entries-are row (cut row count s)) ∙ entries-length row count s
+
 -- ## The sheet of an image that is read
 
-module _ (l : Layout) (edition : Bool) (chip : ℕ) {image : List ℕ} {r : Reading} (c : Accepted image (newest_in l edition chip) r) where
-  pub read_whole_lem : length image ≡ image_length l.size
+pub its-reading : (s : ReadImage) → Accepted s.bytes.now (newest_in s.layout s.first_edition s.chip) (accepted_as s.reading)
+its-reading s = accepted-judged s.bytes.now (newest_in s.layout s.first_edition s.chip) (accepted_as s.reading) s.read (ok-number s.reading)
+
+module _ (l : Layout) (edition : Bool) (chip : ℕ) {image : List ℕ} {r : Judged} (c : Accepted image (newest_in l edition chip) r) where
+  pub image-long : length image ≡ image_length l.size
   unfolding newest_in
-  read_whole_lem = whole-image image (newest_in l edition chip) c.header
+  image-long = whole-image image (newest_in l edition chip) c.header
 
-  -- the leaf's blocks, in the image up to where leaves end
-  module _ (leaves : List ℕ) (q : leaves ≡ up_to_leaves_end l image 0) where
-    pub read-leaf : drop r.start leaves ≡ up_to_leaves_end l image r.start
-    unfolding up_to_leaves_end newest_in
-    read-leaf =
-        let e : leaves_end l - 0 ≡ r.start + (leaves_end l - r.start) = omega (arith, reading-start c) in
-        ap (drop r.start) (q ∙ ap (λ (n : ℕ). take n image) e) ∙ drop-take r.start (leaves_end l - r.start) image
-
-    pub leaves-long : length leaves ≡ leaves_end l
-    unfolding up_to_leaves_end newest_in
-    leaves-long =
-        ap length q ∙ ap (λ (n : ℕ). length (take n image)) (sub-zero (leaves_end l)) ∙ length-take-le (leaves_end l) image (reading-end c)
-
-    pub read-blocks : (r.start ≤ length leaves) × AcceptedBlocks r.row r.answer.blocks (drop r.start leaves)
+  -- its leaf's blocks
+  module _ {rest : List ℕ} (q : rest ≡ up_to_leaves_end l image r.start) where
+    pub read-accepted : AcceptedBlocks r.row r.answer.blocks rest
     unfolding newest_in
-    read-blocks = (omega (arith, leaves-long, reading-start c), rw read-leaf (reading-blocks c))
+    read-accepted = rw q (reading-blocks c)
 
-  pub read-entries : entries_of r.row r.answer.blocks (up_to_leaves_end l image r.start) ≡ (image_from l chip image).entries
-  unfolding entries_of image_from accepted_reading accepted_answer newest_in
-  read-entries = rw c.known
+    pub read-entries : entries_in (sized_cut r.row r.answer.blocks rest) ≡ (image_from l chip image).entries
+    unfolding image_from accepted_reading accepted_answer newest_in
+    read-entries = entries-are r.row (cut r.row r.answer.blocks rest) ∙ rw (q, c.known) refl
 
-  pub read_count : r.answer.blocks ≡ length (image_from l chip image).entries
-  read_count = sym (entries-long r.row r.answer.blocks (up_to_leaves_end l image r.start)) ∙ ap length read-entries
+    pub read-end : r.start + sizes_of (sized_cut r.row r.answer.blocks rest) ≡ leaf_end l chip image
+    unfolding leaf_end accepted_reading accepted_answer newest_in
+    read-end = ap (λ (n : ℕ). r.start + n) (sizes-are r.row (cut r.row r.answer.blocks rest)) ∙ rw (q, c.known) refl
 
-  pub read-content : front_bytes image
-      ++ (field_bytes l chip r.answer image
-      ++ parts_of (entries_of r.row r.answer.blocks (up_to_leaves_end l image r.start))) ≡ content_of (image_from l chip image)
-  read-content =
-      head-is l image read_whole_lem chip r.answer _ connection control
-      ∙ ap (λ (es : List Entry). head_of (image_from l chip image) ++ parts_of es) read-entries
+    pub read-within : r.start + length rest ≤ image_length l.size
+    unfolding up_to_leaves_end newest_in
+    read-within =
+        let g = geometry l in
+        omega (
+          arith,
+          ap length q ∙ length-take-le (leaves_end l - r.start) (drop r.start image)
+              (omega (arith, length-drop r.start image, reading-end c, reading-start c)),
+          reading-start c,
+        )
+
+  pub read-count : r.answer.blocks ≡ length (image_from l chip image).entries
+  read-count =
+      sym (count-is r.row r.answer.blocks (up_to_leaves_end l image r.start)) ∙ ap length (read-entries refl)
+
+  -- part by part
+  pub read-content : front_bytes image ++ (field_bytes l chip r.answer image ++ parts_of (image_from l chip image).entries)
+      ≡ content_of (image_from l chip image)
+  read-content = head-is l image image-long chip r.answer (parts_of (image_from l chip image).entries) connection control
     where
       connection : r.answer.connection ≡ (image_from l chip image).connection
       connection = unfold image_from accepted_reading accepted_answer newest_in in rw c.known
@@ -211,17 +232,12 @@ module _ (l : Layout) (edition : Bool) (chip : ℕ) {image : List ℕ} {r : Read
   pub content-long : 2 + length (content_of (image_from l chip image))
       ≡ head_length + 3 * r.answer.blocks + length (body_bytes (image_from l chip image).entries)
   content-long =
-      let es = entries_of r.row r.answer.blocks (up_to_leaves_end l image r.start) in
-      let f = front_long image (enough l image read_whole_lem) in
-      let g = field-long l image read_whole_lem chip r.answer in
-      let p = parts-long (entries_of r.row r.answer.blocks (up_to_leaves_end l image r.start)) in
-      let b : length (body_bytes (entries_of r.row r.answer.blocks (up_to_leaves_end l image r.start)))
-      ≡ length (body_bytes (image_from l chip image).entries) = ap (λ (es : List Entry). length (body_bytes es)) read-entries in
-      let n = entries-long r.row r.answer.blocks (up_to_leaves_end l image r.start) in
-      let whole : length (content_of (image_from l chip image)) ≡ 32 + length
-      (parts_of (entries_of r.row r.answer.blocks (up_to_leaves_end l image r.start)))
+      let es = (image_from l chip image).entries in
+      let f = front_long image (enough l image image-long) in
+      let g = field-long l image image-long chip r.answer in
+      let whole : length (content_of (image_from l chip image)) ≡ 32 + length (parts_of es)
       = ap length (sym read-content) ∙ simp length-append (omega (arith, f, g)) in
-      omega (arith, whole, p, b, n)
+      omega (arith, whole, parts-long es, read-count)
 
   pub read-long : (form : Form) → length (sheet_for form l image chip)
       ≡ shift form + head_length + 3 * r.answer.blocks + length (body_bytes (image_from l chip image).entries)

@@ -1,101 +1,60 @@
-// A sheet's parts that go by blocks: where an accepted leaf's blocks end, and the kind, body size and body of each. Both passes keep
-// the next block's start in `leaves`, the image up to where leaves end. Blocks of unknown types are carried too.
-ghost use Rattle.std.specs.Prelude.{◌≡◌, [], ◌∷◌, ◌+◌, ◌≤◌, ◌<◌, length, drop};
+// A sheet's parts that go by blocks: the kind, body size and body of each.
+ghost use Rattle.std.specs.Prelude.{◌≡◌, [], ◌∷◌, ◌+◌, ◌≤◌, ◌<◌, length};
 ghost use Rattle.rom.specs.Store.{word_bytes, put};
 ghost use Rattle.sheet.specs.Layout.{head_length};
-ghost use Rattle.sheet.specs.Sheet.{parts_of};
-ghost use Rattle.sheet.specs.Image.{opening_length};
-ghost use Rattle.maker.specs.Inside.{AcceptedBlocks, entries_of, measured_of};
+ghost use Rattle.sheet.specs.Sheet.{body_bytes, parts_of};
+ghost use Rattle.maker.specs.Blocks.{sizes_of, entries_in, blocks_left};
 
-use block::shape;
+use super::blocks::Blocks;
+use forms::LentEntry;
 
-// Where a leaf's blocks end, and how many bytes their bodies have.
+// How many bytes blocks have, and how many their bodies.
 #[derive(Clone, Copy)]
 pub(crate) struct Measured {
-    pub end: usize,
+    pub size: usize,
     pub bodies: usize,
 }
 
-// How many bytes stand before a block's body: the length and the type of an extended block.
-fn opening_length(rest: &[u8], row: usize) -> usize
-    ensures { result ≡ opening_length row rest.now }
+pub(crate) fn measure(blocks: Blocks) -> Measured
+    ensures size { result.size ≡ sizes_of (blocks_left blocks.entry) }
+    ensures bodies { result.bodies ≡ length (body_bytes (entries_in (blocks_left blocks.entry))) }
+    ensures within { (result.size ≤ length blocks.entry.rest.now) × (result.bodies ≤ result.size) }
 {
-    let extended = shape::is_extended(rest, row);
-    if extended {
-        return 2;
+    let mut measured = Measured { size: 0, bodies: 0 };
+    for (size, entry) in blocks {
+        measured.size += size;
+        measured.bodies += entry.body.len();
     }
-    0
+    measured
 }
 
-pub(crate) fn measure(leaves: &[u8], first: usize, count: u8, row: usize) -> Measured
-    requires { (first ≤ length leaves.now) × AcceptedBlocks row count (drop first leaves.now) }
-    ensures value { result ≡ measured_of row first count (drop first leaves.now) }
-    ensures end_in_bounds { (result.end ≤ length leaves.now) × (result.bodies ≤ result.end) }
-{
-    let mut end = first;
-    let mut k = 0u8;
-    let mut bodies: usize = 0;
-    while k < count {
-        let rest = &leaves[end..];
-        let size = shape::size_at(rest, row);
-        let opening = opening_length(rest, row);
-        bodies += size - opening;
-        end += size;
-        k += 1;
-    }
-    Measured { end, bodies }
-}
-
-// Lays in a block's kind, its body's size and its body, each at its own place.
-fn put_entry(
-    sheet: &mut [u8],
-    kind: u16,
-    body: &[u8],
-    kind_at: usize,
-    size_at: usize,
-    body_at: usize,
-)
+// Lays in an entry's kind, its body's size and its body, each at its own place.
+fn put_entry(sheet: &mut [u8], entry: LentEntry, kind_at: usize, size_at: usize, body_at: usize)
     requires kind_at_in_bounds { (kind_at + 2 ≤ length sheet.old) × (size_at + 1 ≤ length sheet.old) }
-    requires body_in_bounds { (body_at + length body.now ≤ length sheet.old) × (length body.now < 256) }
-    ensures { sheet.new
-        ≡ put (put (put sheet.old kind_at (word_bytes kind)) size_at (length body.now ∷ [])) body_at
-        body.now }
+    requires body_in_bounds { (body_at + length entry.body.now ≤ length sheet.old) × (length entry.body.now < 256) }
+    ensures { sheet.new ≡ put (put (put sheet.old kind_at (word_bytes entry.entry.kind)) size_at (length entry.entry.body.now ∷ []))
+        body_at entry.entry.body.now }
 {
-    sheet[kind_at] = (kind % 256) as u8;
-    sheet[kind_at + 1] = (kind / 256) as u8;
-    sheet[size_at] = body.len() as u8;
-    let end = body_at + body.len();
-    sheet[body_at..end].copy_from_slice(body);
+    let [low, high] = entry.kind.to_le_bytes();
+    sheet[kind_at] = low;
+    sheet[kind_at + 1] = high;
+    sheet[size_at] = entry.body.len() as u8;
+    sheet[body_at..body_at + entry.body.len()].copy_from_slice(entry.body);
 }
 
 // The three parts behind a sheet's head, in one pass.
-pub(crate) fn put_parts(sheet: &mut [u8], leaves: &[u8], first: usize, count: u8, row: usize)
-    requires first_in_bounds { (first ≤ length leaves.now) × AcceptedBlocks row count (drop first leaves.now) }
-    requires leaves_in_bounds { head_length + length (parts_of (entries_of row count (drop first leaves.now))) ≤ length sheet.old }
-    ensures { sheet.new
-        ≡ put sheet.old head_length (parts_of (entries_of row count (drop first leaves.now))) }
+pub(crate) fn put_parts(sheet: &mut [u8], blocks: Blocks)
+    requires { head_length + length (parts_of (entries_in (blocks_left blocks))) ≤ length sheet.old }
+    ensures { sheet.new ≡ put sheet.old head_length (parts_of (entries_in (blocks_left blocks.entry))) }
 {
-    let sizes_at = sheet::HEAD_LENGTH + 2 * (count as usize);
-    let mut body_at = sizes_at + (count as usize);
-    let mut start = first;
-    let mut k = 0u8;
-    while k < count {
-        let rest = &leaves[start..];
-        let size = shape::size_at(rest, row);
-        let opening = opening_length(rest, row);
-        let body = size - opening;
-        let kind = shape::kind_at(rest, row);
-        let number = k as usize;
-        put_entry(
-            sheet,
-            kind,
-            &rest[opening..size],
-            sheet::HEAD_LENGTH + 2 * number,
-            sizes_at + number,
-            body_at,
-        );
-        body_at += body;
-        start += size;
-        k += 1;
+    let count = usize::from(blocks.count);
+    let mut kind_at = sheet::HEAD_LENGTH;
+    let mut size_at = kind_at + 2 * count;
+    let mut body_at = size_at + count;
+    for (_, entry) in blocks {
+        put_entry(sheet, entry, kind_at, size_at, body_at);
+        kind_at += 2;
+        size_at += 1;
+        body_at += entry.body.len();
     }
 }

@@ -11,8 +11,7 @@ use Rattle.rom.specs.Bytes.{pick, one}
 use Rattle.rom.specs.Refusal.{first_met}
 use Rattle.image.specs.declared.Arguments.{Arguments}
 use Rattle.walk.specs.declared.Walk.{Walk}
-use Rattle.walk.specs.declared.Choice.{Choice}
-use Rattle.walk.specs.Walk.{way_of, is_fixed, fresh_walk, loaded_walk, fixed_block, chosen, switched, stepped, look_causes}
+use Rattle.walk.specs.Walk.{Choice, way_of, is_fixed, fresh_walk, loaded_walk, fixed_block, chosen, switched, stepped, look_causes}
 use Rattle.walk.specs.Walk.{load_causes, walked_to}
 use Rattle.walk.specs.Walk.{load_for, look_for, clear_for}
 use Rattle.walk.proofs.Looks.{accepted-looks}

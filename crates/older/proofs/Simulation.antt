@@ -12,10 +12,9 @@ use Rattle.rom.specs.Refusal.{first_met}
 use Rattle.rom.proofs.Truth.{and-false}
 use Rattle.image.specs.declared.Arguments.{Arguments}
 use Rattle.walk.specs.declared.Walk.{Walk}
-use Rattle.walk.specs.declared.Choice.{Choice}
 use Rattle.walk.specs.declared.Way.{Way}
 use Rattle.walk.specs.declared.Way.TheVariants.{EveryLook, Once, Fixed}
-use Rattle.walk.specs.Walk.{way_of, is_fixed, is_up, fresh_walk, last_below, stays, is_candidate, first_up, up_in, choice}
+use Rattle.walk.specs.Walk.{Choice, way_of, is_fixed, is_up, fresh_walk, last_below, stays, is_candidate, first_up, up_in, choice}
 use Rattle.walk.specs.Walk.{sensed, fixed_block}
 use Rattle.walk.specs.Walk.{chosen, stepped, look_causes, walked_to, load_for, look_for, clear_for}
 use Rattle.walk.proofs.Loads.{load-loaded}

@@ -1,3 +1,4 @@
+pub mod Zeros
 pub mod Reading
 pub mod Writing
 pub mod Returns

@@ -5,7 +5,7 @@ use native.Mathlib.Omega.{arith}
 use mathlib.Core.Path.{◌≡◌, refl, sym, ap, ap₂, ◌∙◌}
 use mathlib.Core.Bool.{Bool, true, false}
 use mathlib.Core.List.{List, [], ◌∷◌, ◌++◌}
-use lib.Dec.{lit<}
+use lib.Dec.{eqb, lit<}
 use lib.ListN.{length, take, drop, replicate, length-take, length-drop, take-append-drop, get_or-append}
 use lib.Seq.{drop-append-add, get_or-append-add, get_or-drop, get_or-take, drop-drop}
 use borrow.Author.Tests.{eq-eqb, eqb-true, not-false}
@@ -129,7 +129,7 @@ unfolding with_block
 magic-returns size m image w right =
     let crc = magic_crc size (laid_with size 0 m image) in
     ap (magic_reading size) (sym (changed size m image right))
-    ∙ sym (answer-read size (laid_with size crc m image) 0 (sym (laid-read size m image w right crc refl)) refl)
+    ∙ sym (answer-read size (laid_with size crc m image) (sym (laid-read size m image w right crc refl)))
     ∙ ap (λ (x : Magic). record { number = 0; magic = x }) (laid-fields size m image w right crc)
 
 -- ## What is read, written again
@@ -177,13 +177,15 @@ module _ (size : ℕ) (image : List ℕ) (bytes : Bytes image) (e : magic_read_n
       let g = sized size in
       let at = magic_at size in
       let b = drop at image in
-      let none = and-true _ _ (sym (zero-last (take 16 (drop (place size zeros_at) image)) (byte_at image (place size last_at)))
-      ∙ reserved) in
-      let sixteen : length (take 16 (drop (place size zeros_at) image)) ≡ 16 = simp (length-take, length-drop) (omega (arith, long)) in
+      let first = take 16 (drop (place size zeros_at) image) in
+      let last = byte_at image (place size last_at) in
+      let none : (all_zero first ≡ true) × (eqb last 0 ≡ true)
+      = and-true (all_zero first) (eqb last 0) (sym (zero-last first last) ∙ reserved) in
+      let sixteen : length first ≡ 16 = simp (length-take, length-drop) (omega (arith, long)) in
       let thirty_two : length b ≡ 32 = simp length-drop (omega (arith, long)) in
       ap₂ block_with (sym (get_or-drop at image 30 0)) said
       ∙ block-own-bytes b thirty_two (bytes_drop at image bytes)
-      (ap (take 16) (drop-drop 14 at image) ∙ zeros-are 16 (take 16 (drop (place size zeros_at) image)) none.0 sixteen)
+      (ap (take 16) (drop-drop 14 at image) ∙ zeros-are 16 first none.0 sixteen)
       (get_or-drop at image 31 0 ∙ eqb-true _ _ none.1)
 
   whole-said : SixEach (magic_in size image)

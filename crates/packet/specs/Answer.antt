@@ -1,5 +1,7 @@
 -- What the block's reader and writer answer, and why they refuse an image (document 02, request 1).
-use Rattle.std.specs.Prelude.{ℕ, List, [], ◌∷◌, eqb, length, replicate}
+use Rattle.std.specs.Prelude.{ℕ, List, [], ◌∷◌, Result, Ok, Err, eqb, length, replicate}
+use Rattle.rom.specs.declared.refusal.Refusal.{Refusal}
+use Rattle.rom.specs.Numbers.{refusal_number}
 use Rattle.rom.specs.Geometry.{wrong_length}
 use Rattle.rom.specs.Bytes.{pick}
 use Rattle.rom.specs.Refusal.{Cause, ◌⇒◌, first_met}
@@ -24,6 +26,11 @@ magic_read_number size image = first_met (magic_read_causes size image)
 -- a refusal's other fields are 0
 unfoldable pub no_magic : Magic
 no_magic = record { password = replicate 6 0; address = replicate 6 0; command = 0 }
+
+-- what is answered for a call's result
+abbrev pub magic_answer_of : Result Magic Refusal → MagicAnswer
+magic_answer_of (Ok m) = record { number = 0; magic = m }
+magic_answer_of (Err r) = record { number = refusal_number r; magic = no_magic }
 
 unfoldable pub magic_reading : ℕ → List ℕ → MagicAnswer
 magic_reading size image =

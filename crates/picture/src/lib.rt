@@ -4,202 +4,213 @@
 ghost use Rattle.std.specs.Prelude.{◌<◌};
 
 use block::{Block, NEWEST_LEVEL};
-use console::{output, status};
+use console::arguments::Complained;
+use console::output::Output;
+use console::status::Status;
 use magic::field_at;
-use reader::Arguments;
-use report::words;
-use rom::{Layout, refusal};
+use reader::{Arguments, Header};
+use report::{size, words};
+use rom::{Layout, Refusal};
 use std::fs::File;
 use std::rt::{Env, Files};
-use survey::Place;
+use survey::{Card, Place};
+use text::line;
 use text::line::{Line, say};
 use text::slice::byte_at;
-use text::{decimal_words, line};
 
 // ## What a byte belongs to
 
-const PRIVATE: u8 = 0;
+// Those of the Magic Packet block are the last; its reserved bytes are as the others.
+#[derive(Clone, Copy, PartialEq, Eq)]
+enum Field {
+    Private,
+    Id,
+    IdCrc,
+    Version,
+    Count,
+    Address,
+    Controller,
+    Reserved,
+    Leaf,
+    Medium,
+    Phy,
+    Reset,
+    Power,
+    Unknown,
+    Refused,
+    Maker,
+    SromCrc,
+    Password,
+    WakeAddress,
+    Command,
+    MagicCrc,
+}
 
-const ID: u8 = 1;
+impl Field {
+    // In the order of their numbers on the page.
+    const ALL: [Field; 21] = [
+        Field::Private,
+        Field::Id,
+        Field::IdCrc,
+        Field::Version,
+        Field::Count,
+        Field::Address,
+        Field::Controller,
+        Field::Reserved,
+        Field::Leaf,
+        Field::Medium,
+        Field::Phy,
+        Field::Reset,
+        Field::Power,
+        Field::Unknown,
+        Field::Refused,
+        Field::Maker,
+        Field::SromCrc,
+        Field::Password,
+        Field::WakeAddress,
+        Field::Command,
+        Field::MagicCrc,
+    ];
 
-const ID_CRC: u8 = 2;
-
-const VERSION: u8 = 3;
-
-const COUNT: u8 = 4;
-
-const ADDRESS: u8 = 5;
-
-const CONTROLLER: u8 = 6;
-
-const RESERVED: u8 = 7;
-
-const LEAF: u8 = 8;
-
-const MEDIUM: u8 = 9;
-
-const PHY: u8 = 10;
-
-const RESET: u8 = 11;
-
-const POWER: u8 = 12;
-
-const UNKNOWN: u8 = 13;
-
-const REFUSED: u8 = 14;
-
-const MAKER: u8 = 15;
-
-const SROM_CRC: u8 = 16;
-
-// Of the Magic Packet block, whose reserved bytes are as the others.
-const PASSWORD: u8 = 17;
-
-const WAKE_ADDRESS: u8 = 18;
-
-const COMMAND: u8 = 19;
-
-const MAGIC_CRC: u8 = 20;
-
-// How many there are.
-const FIELDS: u8 = 21;
-
-// How many a layout has: those of the Magic Packet block are the last.
-fn fields_of(layout: Layout) -> u8 {
-    if layout.magic {
-        return FIELDS;
+    // Of a block as the reader finds it.
+    fn of(found: Result<Block, Refusal>) -> Field {
+        match found {
+            Ok(Block::Listed(medium)) if matches!(medium.kind, 1 | 3) => Field::Phy,
+            Ok(Block::Listed(_)) => Field::Medium,
+            Ok(Block::Reset { .. }) => Field::Reset,
+            Ok(Block::Power { .. }) => Field::Power,
+            Ok(Block::Unknown { .. }) => Field::Unknown,
+            Err(_) => Field::Refused,
+        }
     }
-    PASSWORD
+
+    // By which the page's styles name it.
+    fn number(self) -> u64
+        ensures { result < 256 }
+    {
+        u64::from(self as u8)
+    }
+
+    fn is_of_magic(self) -> bool {
+        matches!(
+            self,
+            Field::Password | Field::WakeAddress | Field::Command | Field::MagicCrc
+        )
+    }
+
+    // Whether it is to be seen from afar.
+    fn is_loud(self) -> bool {
+        matches!(self, Field::Unknown | Field::Refused)
+    }
+
+    fn words(self) -> &'static [u8] {
+        match self {
+            Field::Private => b"private or unused",
+            Field::Id => b"ID block",
+            Field::IdCrc => b"ID CRC",
+            Field::Version => b"format version",
+            Field::Count => b"controller count",
+            Field::Address => b"base address",
+            Field::Controller => b"controller",
+            Field::Reserved => b"reserved",
+            Field::Leaf => b"leaf header",
+            Field::Medium => b"block: medium",
+            Field::Phy => b"block: MII PHY",
+            Field::Reset => b"block: reset",
+            Field::Power => b"block: power",
+            Field::Unknown => b"block: UNKNOWN type",
+            Field::Refused => b"block: REFUSED",
+            Field::Maker => b"the maker's bytes",
+            Field::SromCrc => b"SROM CRC",
+            Field::Password => b"SecureON password",
+            Field::WakeAddress => b"Magic's address",
+            Field::Command => b"Magic command",
+            Field::MagicCrc => b"Magic CRC",
+        }
+    }
+
+    // What a cell says; '#' stands for the number of its block or controller.
+    fn label(self) -> &'static [u8] {
+        match self {
+            Field::Private => b"",
+            Field::Id => b"ID",
+            Field::IdCrc | Field::SromCrc | Field::MagicCrc => b"CRC",
+            Field::Version => b"version",
+            Field::Count => b"count",
+            Field::Address | Field::WakeAddress => b"address",
+            Field::Controller => b"ctrl #",
+            Field::Reserved => b"reserved",
+            Field::Leaf => b"leaf #",
+            Field::Medium | Field::Phy | Field::Reset | Field::Power => b"block #",
+            Field::Unknown | Field::Refused => b"block #",
+            Field::Maker => b"maker",
+            Field::Password => b"password",
+            Field::Command => b"command",
+        }
+    }
+
+    fn colour(self) -> &'static [u8] {
+        match self {
+            Field::Private => b"#f4f4f4",
+            Field::Id => b"#d9d9d9",
+            Field::IdCrc | Field::SromCrc | Field::MagicCrc => b"#b8b8b8",
+            Field::Version => b"#cfe2f3",
+            Field::Count => b"#a9cce8",
+            Field::Address => b"#bcd4f5",
+            Field::Controller => b"#d8c9ee",
+            Field::Reserved => b"#ece4f6",
+            Field::Leaf => b"#fff2b3",
+            Field::Medium => b"#cdebc5",
+            Field::Phy => b"#9fd5b5",
+            Field::Reset => b"#fbd9a8",
+            Field::Power => b"#e9a58d",
+            Field::Unknown => b"#e0218a",
+            Field::Refused => b"#d7301f",
+            Field::Maker => b"#e6ded0",
+            Field::Password => b"#a3dde0",
+            Field::WakeAddress => b"#c9eef0",
+            Field::Command => b"#7cc8cd",
+        }
+    }
 }
 
-fn field_words(line: Line, field: u8) -> Line {
-    line.text(decimal_words(
-        b"0 private or unused
-1 ID block
-2 ID CRC
-3 format version
-4 controller count
-5 base address
-6 controller
-7 reserved
-8 leaf header
-9 block: medium
-10 block: MII PHY
-11 block: reset
-12 block: power
-13 block: UNKNOWN type
-14 block: REFUSED
-15 the maker's bytes
-16 SROM CRC
-17 SecureON password
-18 Magic's address
-19 Magic command
-20 Magic CRC
-",
-        field as u64,
-    ))
-}
-
-// A cell's label; '#' stands for the number of its block or controller.
-fn label(line: Line, field: u8, number: u8) -> Line {
-    let pattern = decimal_words(
-        b"1 ID
-2 CRC
-3 version
-4 count
-5 address
-6 ctrl #
-7 reserved
-8 leaf #
-9 block #
-10 block #
-11 block #
-12 block #
-13 block #
-14 block #
-15 maker
-16 CRC
-17 password
-18 address
-19 command
-20 CRC
-",
-        field as u64,
-    );
-    line.with(pattern, [number as u64, 0, 0, 0])
-}
-
-fn colour(line: Line, field: u8) -> Line {
-    line.text(decimal_words(
-        b"0 #f4f4f4
-1 #d9d9d9
-2 #b8b8b8
-3 #cfe2f3
-4 #a9cce8
-5 #bcd4f5
-6 #d8c9ee
-7 #ece4f6
-8 #fff2b3
-9 #cdebc5
-10 #9fd5b5
-11 #fbd9a8
-12 #e9a58d
-13 #e0218a
-14 #d7301f
-15 #e6ded0
-16 #b8b8b8
-17 #a3dde0
-18 #c9eef0
-19 #7cc8cd
-20 #b8b8b8
-",
-        field as u64,
-    ))
+// A byte's field, and the number of the controller or of the block that it is of.
+#[derive(Clone, Copy)]
+struct Cell {
+    field: Field,
+    number: u8,
 }
 
 // There is a cell for each byte of the larger size.
 const CELLS: usize = rom::LARGE_LENGTH;
 
-// The bytes' fields, and with each the number of the controller or of the block that it is of.
 #[derive(Drop)]
-struct Cells {
-    fields: [u8; CELLS],
-    numbers: [u8; CELLS],
-}
+struct Cells([Cell; CELLS]);
 
 impl Cells {
     fn none() -> Cells {
-        Cells {
-            fields: [PRIVATE; CELLS],
-            numbers: [0; CELLS],
-        }
+        Cells([Cell {
+            field: Field::Private,
+            number: 0,
+        }; CELLS])
     }
 
-    fn painted(self, field: u8, number: u8, start: usize, count: usize) -> Cells {
-        let mut cells = self;
-        let mut k = 0;
-        let mut at = start;
-        while k < count {
-            if CELLS <= at {
-                return cells;
-            }
-            cells.fields[at] = field;
-            cells.numbers[at] = number;
-            at += 1;
-            k += 1;
+    fn painted(mut self, field: Field, number: u8, start: usize, count: usize) -> Cells {
+        for cell in self.0.iter_mut().skip(start).take(count) {
+            *cell = Cell { field, number };
         }
-        cells
+        self
     }
 
     // The fields whose places the layout says.
     fn framed(self, layout: Layout) -> Cells {
-        self.painted(ID, 0, 0, 18)
-            .painted(ID_CRC, 0, rom::ID_CRC_AT, 1)
-            .painted(VERSION, 0, rom::VERSION_AT, 1)
-            .painted(COUNT, 0, rom::CONTROLLER_COUNT_AT, 1)
-            .painted(ADDRESS, 0, rom::ADDRESS_AT, 6)
-            .painted(MAKER, 0, layout.leaves_end(), 2)
-            .painted(SROM_CRC, 0, layout.checked_length(), 2)
+        self.painted(Field::Id, 0, 0, 18)
+            .painted(Field::IdCrc, 0, rom::ID_CRC_AT, 1)
+            .painted(Field::Version, 0, rom::VERSION_AT, 1)
+            .painted(Field::Count, 0, rom::CONTROLLER_COUNT_AT, 1)
+            .painted(Field::Address, 0, rom::ADDRESS_AT, 6)
+            .painted(Field::Maker, 0, layout.leaves_end(), 2)
+            .painted(Field::SromCrc, 0, layout.checked_length(), 2)
     }
 
     // Those of the Magic Packet block, in a layout that has one.
@@ -207,88 +218,72 @@ impl Cells {
         if !layout.magic {
             return self;
         }
-        self.painted(PASSWORD, 0, field_at(layout.size, magic::PASSWORD), 6)
-            .painted(WAKE_ADDRESS, 0, field_at(layout.size, magic::ADDRESS), 6)
-            .painted(COMMAND, 0, field_at(layout.size, magic::COMMAND), 2)
-            .painted(RESERVED, 0, field_at(layout.size, magic::ZEROS), 16)
-            .painted(MAGIC_CRC, 0, field_at(layout.size, magic::CRC), 1)
-            .painted(RESERVED, 0, field_at(layout.size, magic::LAST), 1)
-    }
-}
-
-fn field_of(b: Block) -> u8 {
-    match b {
-        Block::Listed(medium) => {
-            let kind = medium.kind;
-            if kind == 1 {
-                return PHY;
-            }
-            if kind == 3 {
-                return PHY;
-            }
-            MEDIUM
-        }
-        Block::Reset { size: _ } => RESET,
-        Block::Power { size: _, mode: _ } => POWER,
-        Block::Unknown { size: _ } => UNKNOWN,
-        Block::Refused(_) => REFUSED,
+        let size = layout.size;
+        self.painted(Field::Password, 0, field_at(size, magic::PASSWORD), 6)
+            .painted(Field::WakeAddress, 0, field_at(size, magic::ADDRESS), 6)
+            .painted(Field::Command, 0, field_at(size, magic::COMMAND), 2)
+            .painted(Field::Reserved, 0, field_at(size, magic::ZEROS), 16)
+            .painted(Field::MagicCrc, 0, field_at(size, magic::CRC), 1)
+            .painted(Field::Reserved, 0, field_at(size, magic::LAST), 1)
     }
 }
 
 // The blocks of a controller's leaf, up to one that is refused.
-fn with_blocks(cells: Cells, image: &[u8], arguments: Arguments, blocks: u8) -> Cells {
+fn with_blocks(cells: Cells, card: Card, blocks: u8) -> Cells {
     let mut cells = cells;
-    let mut k = 0u8;
-    while k < blocks {
-        let place = survey::block_place(image, arguments, k);
-        let field = field_of(report::block_at(image, arguments, place.start));
-        let length = report::block_bytes(image, arguments.layout, place).len();
-        cells = cells.painted(field, k, place.start as usize, length);
-        if field == REFUSED {
-            return cells;
+    for k in 0..blocks {
+        if let Some(place) = card.block_place(k) {
+            let field = Field::of(report::block_at(card, place.start));
+            let length = report::block_bytes(card, place).len();
+            cells = cells.painted(field, k, usize::from(place.start), length);
+            if field == Field::Refused {
+                return cells;
+            }
         }
-        k += 1;
     }
     cells
 }
 
 // A controller's three bytes, its leaf's header and its blocks.
-fn with_controller(cells: Cells, image: &[u8], arguments: Arguments) -> Cells {
-    let controller = arguments.controller;
-    let entry = rom::CONTROLLERS_AT + 3 * (controller as usize);
-    let cells = cells.painted(CONTROLLER, controller, entry, 3);
-    let header = header::read_header(image, arguments);
-    if header.number != refusal::ACCEPTED {
+fn with_controller(cells: Cells, card: Card) -> Cells {
+    let controller = card.arguments.controller;
+    let entry = rom::CONTROLLERS_AT + 3 * usize::from(controller);
+    let cells = cells.painted(Field::Controller, controller, entry, 3);
+    let Ok(Header { start, blocks, .. }) = header::read_header(card.image, card.arguments) else {
+        return cells;
+    };
+    let leaf = usize::from(report::leaf_of(card.image, controller));
+    if start < leaf {
         return cells;
     }
-    let leaf = report::leaf_of(image, controller) as usize;
-    if header.start < leaf {
-        return cells;
-    }
-    let cells = cells.painted(LEAF, controller, leaf, header.start - leaf);
-    with_blocks(cells, image, arguments, header.blocks)
+    let cells = cells.painted(Field::Leaf, controller, leaf, start - leaf);
+    with_blocks(cells, card, blocks)
 }
 
-fn for_controller(arguments: Arguments, controller: u8) -> Arguments {
-    let mut other = arguments;
-    other.controller = controller;
-    other
+// The card as it is read for another controller.
+fn for_controller<'a>(card: Card<'a>, controller: u8) -> Card<'a> {
+    Card {
+        arguments: Arguments {
+            controller,
+            ..card.arguments
+        },
+        ..card
+    }
 }
 
 // All controllers' leaves, as the arguments read them.
-fn cells_of(image: &[u8], arguments: Arguments) -> Cells {
-    let layout = arguments.layout;
-    let count = byte_at(image, rom::CONTROLLER_COUNT_AT);
+fn cells_of(card: Card) -> Cells {
+    let layout = card.arguments.layout;
+    let count = byte_at(card.image, rom::CONTROLLER_COUNT_AT);
     let mut cells = Cells::none().framed(layout).with_magic(layout);
     if layout.most_controllers() < count {
         return cells;
     }
-    let mut left = count;
-    while 0 < left {
-        left -= 1;
-        cells = with_controller(cells, image, for_controller(arguments, left));
+    for controller in (0..count).rev() {
+        cells = with_controller(cells, for_controller(card, controller));
     }
-    cells.painted(RESERVED, 0, rom::CONTROLLERS_AT + 3 * (count as usize), 1)
+    let reserved = rom::CONTROLLERS_AT + 3 * usize::from(count);
+    cells.painted(Field::Reserved, 0, reserved, 1)
 }
 
 // ## The page
@@ -332,16 +327,17 @@ const LARGE_PAGE: Page = Page {
 
 fn page_of(size: u16) -> Page {
     if size == rom::SMALL_SIZE {
-        return SMALL_PAGE;
+        SMALL_PAGE
+    } else {
+        LARGE_PAGE
     }
-    LARGE_PAGE
 }
 
 // Where a row of cells begins. Between two rows is room.
 fn row_top(page: Page, row: u16) -> u64
     ensures { result < 20000000 }
 {
-    84 + ((page.cell as u64) + 2) * (row as u64)
+    84 + (u64::from(page.cell) + 2) * u64::from(row)
 }
 
 // ## The picture
@@ -360,27 +356,19 @@ rect{stroke:#808080}
 .loud{fill:#ffffff;font-weight:bold}
 ",
     );
-    let mut field = 0u8;
-    while field < FIELDS {
-        let line = line::of(b".field#{fill:", [field as u64, 0, 0, 0]);
-        colour(line, field).byte(b'}').end(file);
-        field += 1;
+    for field in Field::ALL {
+        line::of(b".field#{fill:", [field.number(), 0, 0, 0])
+            .text(field.colour())
+            .byte(b'}')
+            .end(file);
     }
     io::write_all(file, b"</style>\n");
 }
 
-fn is_loud(field: u8) -> bool {
-    if field == UNKNOWN {
-        return true;
-    }
-    field == REFUSED
-}
-
 // The opening of a text of a cell.
-fn text_in(class: &[u8], field: u8, x: u64, y: u64) -> Line {
+fn text_in(class: &[u8], field: Field, x: u64, y: u64) -> Line {
     let mut line = Line::new().text(b"<text class=\"").text(class);
-    let loud = is_loud(field);
-    if loud {
+    if field.is_loud() {
         line = line.text(b" loud");
     }
     line.with(b"\" x=\"#\" y=\"#\">", [x, y, 0, 0])
@@ -388,155 +376,161 @@ fn text_in(class: &[u8], field: u8, x: u64, y: u64) -> Line {
 
 // The opening of a text of the page.
 fn text_at(class: &[u8], x: u64, y: u64) -> Line {
-    text_in(class, PRIVATE, x, y)
+    text_in(class, Field::Private, x, y)
 }
 
 fn end_text(line: Line, file: i32) {
     line.text(b"</text>").end(file);
 }
 
-fn draw_cell(file: i32, page: Page, at: u16, byte: u8, field: u8, number: u8) {
-    let x = 60 + 64 * ((at % 16) as u64);
+fn draw_cell(file: i32, page: Page, at: u16, byte: u8, cell: Cell) {
+    let Cell { field, number } = cell;
+    let x = 60 + 64 * u64::from(at % 16);
     let y = row_top(page, at / 16);
     let middle = x + 31;
-    let value_at = y + (page.value as u64);
-    let label_at = y + (page.label as u64);
+    let value_at = y + u64::from(page.value);
+    let label_at = y + u64::from(page.label);
     line::of(
         b"<rect class=\"field#\" x=\"#\" y=\"#\"",
-        [field as u64, x, y, 0],
+        [field.number(), x, y, 0],
     )
-    .with(b" width=\"62\" height=\"#\"/>", [page.cell as u64, 0, 0, 0])
+    .with(
+        b" width=\"62\" height=\"#\"/>",
+        [u64::from(page.cell), 0, 0, 0],
+    )
     .end(file);
     let value = text_in(b"value", field, middle, value_at);
-    end_text(value.with(b"%", [byte as u64, 0, 0, 0]), file);
+    end_text(value.with(b"%", [u64::from(byte), 0, 0, 0]), file);
     let name = text_in(b"label", field, middle, label_at);
-    end_text(label(name, field, number), file);
+    end_text(name.with(field.label(), [u64::from(number), 0, 0, 0]), file);
 }
 
 fn draw_cells(file: i32, page: Page, image: &[u8], cells: Cells) {
-    let fields = cells.fields;
-    let numbers = cells.numbers;
-    let mut at = 0u16;
-    while at < rom::LARGE_SIZE {
-        let i = at as usize;
-        if image.len() <= i {
-            return;
-        }
-        draw_cell(file, page, at, byte_at(image, i), fields[i], numbers[i]);
-        at += 1;
+    for ((at, byte), cell) in (0..rom::LARGE_SIZE).zip(image).zip(&cells.0) {
+        draw_cell(file, page, at, *byte, *cell);
     }
 }
 
 // The number of a row's first byte.
 fn draw_offset(file: i32, page: Page, row: u16) {
-    let line = text_at(b"value", 30, row_top(page, row) + (page.offset as u64));
-    end_text(line.with(b"#", [16 * (row as u64), 0, 0, 0]), file);
+    let line = text_at(b"value", 30, row_top(page, row) + u64::from(page.offset));
+    end_text(line.with(b"#", [16 * u64::from(row), 0, 0, 0]), file);
 }
 
 fn draw_offsets(file: i32, page: Page, rows: u16) {
-    let mut row = 0u16;
-    while row < rows {
+    for row in 0..rows {
         draw_offset(file, page, row);
-        row += 1;
     }
 }
 
-fn draw_key(file: i32, page: Page, field: u8) {
-    let x = 60 + 212 * ((field % 5) as u64);
-    let y = (page.keys as u64) + 26 * ((field / 5) as u64);
-    let line = line::of(
-        b"<rect class=\"field#\" x=\"#\" y=\"#\"",
-        [field as u64, x, y, 0],
-    );
+fn draw_key(file: i32, page: Page, field: Field) {
+    let number = field.number();
+    let x = 60 + 212 * (number % 5);
+    let y = u64::from(page.keys) + 26 * (number / 5);
+    let line = line::of(b"<rect class=\"field#\" x=\"#\" y=\"#\"", [number, x, y, 0]);
     line.text(b" width=\"26\" height=\"18\"/>").end(file);
-    end_text(field_words(text_at(b"words", x + 36, y + 14), field), file);
+    end_text(text_at(b"words", x + 36, y + 14).text(field.words()), file);
 }
 
 fn draw_keys(file: i32, page: Page, layout: Layout) {
-    let fields = fields_of(layout);
-    let mut field = 0u8;
-    while field < fields {
-        draw_key(file, page, field);
-        field += 1;
+    for field in Field::ALL {
+        if layout.magic || !field.is_of_magic() {
+            draw_key(file, page, field);
+        }
     }
 }
 
 fn magic_words(line: Line, layout: Layout) -> Line {
     if layout.magic {
-        return line.text(b" with a Magic Packet block");
-    }
-    line
-}
-
-fn draw_title(file: i32, image: &[u8], arguments: Arguments, number: u8) {
-    let layout = arguments.layout;
-    let line = text_at(b"title", 60, 36);
-    let line = line.with(b"Serial ROM of a # card", [arguments.chip as u64, 0, 0, 0]);
-    let line = magic_words(line, layout);
-    end_text(report::size_words(line, false, layout.size), file);
-    draw_verdict(file, image, arguments, number);
-}
-
-fn draw_verdict(file: i32, image: &[u8], arguments: Arguments, number: u8) {
-    let line = text_at(b"words", 60, 64);
-    if number == refusal::ACCEPTED {
-        let line = line.with(
-            b"accepted by a reader of level # for controller #",
-            [arguments.level as u64, arguments.controller as u64, 0, 0],
-        );
-        let line = report::edition_words(line, image, arguments.first_edition);
-        end_text(line, file);
+        line.text(b" with a Magic Packet block")
     } else {
-        line.with(b"refused #: ", [number as u64, 0, 0, 0])
-            .show(file);
-        words::show_refusal(number, file);
-        end_text(Line::new(), file);
+        line
+    }
+}
+
+fn draw_title(file: i32, card: Card, refused: Option<Refusal>) {
+    let arguments = card.arguments;
+    let line = text_at(b"title", 60, 36);
+    let line = line.with(
+        b"Serial ROM of a # card",
+        [u64::from(arguments.chip), 0, 0, 0],
+    );
+    let line = magic_words(line, arguments.layout);
+    let named = size::named(None, card.image.len());
+    end_text(report::size_words(line, named), file);
+    draw_verdict(file, card, refused);
+}
+
+fn draw_verdict(file: i32, card: Card, refused: Option<Refusal>) {
+    let arguments = card.arguments;
+    let line = text_at(b"words", 60, 64);
+    match refused {
+        None => {
+            let line = line.with(
+                b"accepted by a reader of level # for controller #",
+                [
+                    u64::from(arguments.level),
+                    u64::from(arguments.controller),
+                    0,
+                    0,
+                ],
+            );
+            end_text(report::edition_words(line, card), file);
+        }
+        Some(refusal) => {
+            line.with(b"refused #: ", [u64::from(refusal.number()), 0, 0, 0])
+                .show(file);
+            words::show_refusal(refusal, file);
+            end_text(Line::new(), file);
+        }
     }
 }
 
 fn draw_unknown(file: i32, number: u8, place: Place, level: u8, y: u64) {
     let line = report::place_words(text_at(b"words", 60, y), number, place);
-    if level == NEWEST_LEVEL {
-        end_text(
-            line.text(b", of a type that the newest reader steps over"),
-            file,
-        );
+    let line = if level == NEWEST_LEVEL {
+        line.text(b", of a type that the newest reader steps over")
     } else {
-        let line = line.with(
+        line.with(
             b", of a type that a reader of level # steps over",
-            [level as u64, 0, 0, 0],
-        );
-        end_text(line, file);
-    }
+            [u64::from(level), 0, 0, 0],
+        )
+    };
+    end_text(line, file);
 }
 
 // Whether the reader steps over the block at a byte. In version 1 it steps over none.
-fn is_stepped_over(image: &[u8], arguments: Arguments, start: u16) -> bool {
-    field_of(report::block_at(image, arguments, start)) == UNKNOWN
+fn is_stepped_over(card: Card, place: Place) -> bool {
+    matches!(
+        report::block_at(card, place.start),
+        Ok(Block::Unknown { .. })
+    )
 }
 
 // The first blocks of the controller that the reader steps over, as many as there is room for.
-fn draw_unknowns(file: i32, image: &[u8], arguments: Arguments, blocks: u8) {
-    let first = page_of(arguments.layout.size).unknowns as u64;
-    let mut drawn = 0u64;
-    let mut k = 0u8;
-    while k < blocks {
-        let place = survey::block_place(image, arguments, k);
-        let stepped_over = is_stepped_over(image, arguments, place.start);
-        if stepped_over {
-            if drawn < 3 {
-                draw_unknown(file, k, place, arguments.level, first + 22 * drawn);
-                drawn += 1;
-            }
-        }
-        k += 1;
+fn draw_unknowns(file: i32, card: Card) {
+    let Ok(Header { blocks, .. }) = header::read_header(card.image, card.arguments) else {
+        return;
+    };
+    let first = u64::from(page_of(card.arguments.layout.size).unknowns);
+    let unknowns = (0..blocks)
+        .filter_map(|k| card.block_place(k).map(|place| (k, place)))
+        .filter(|(_, place)| is_stepped_over(card, *place));
+    for ((number, place), below) in unknowns.zip([0u8, 22, 44]) {
+        draw_unknown(
+            file,
+            number,
+            place,
+            card.arguments.level,
+            first + u64::from(below),
+        );
     }
 }
 
 // The page's frame, its styles and its ground.
 fn open_page(file: i32, page: Page) {
-    let width = page.width as u64;
-    let height = page.height as u64;
+    let width = u64::from(page.width);
+    let height = u64::from(page.height);
     line::of(
         b"<svg xmlns=\"http://www.w3.org/2000/svg\" viewBox=\"0 0 # #\">",
         [width, height, 0, 0],
@@ -549,51 +543,40 @@ fn open_page(file: i32, page: Page) {
 }
 
 // Whether the last of it could be written: what is full stays full.
-fn draw(file: i32, image: &[u8], arguments: Arguments, number: u8) -> bool {
-    let layout = arguments.layout;
+fn draw(file: i32, card: Card, refused: Option<Refusal>) -> bool {
+    let layout = card.arguments.layout;
     let page = page_of(layout.size);
     open_page(file, page);
-    draw_title(file, image, arguments, number);
+    draw_title(file, card, refused);
     draw_offsets(file, page, layout.size / 16);
-    draw_cells(file, page, image, cells_of(image, arguments));
+    draw_cells(file, page, card.image, cells_of(card));
     draw_keys(file, page, layout);
-    draw_unknowns(
-        file,
-        image,
-        arguments,
-        header::read_header(image, arguments).blocks,
-    );
+    draw_unknowns(file, card);
     io::write_all(file, b"</svg>\n")
 }
 
-// Draws the picture of an image to the file that a word names. An image of another length than its size, which may have been
-// given, has none.
+// Draws the picture of an image to the file that a word names. An image of another length than its size, which may be named,
+// has none.
 pub fn show(
     rt: &(impl Files<File = File> + Env),
-    image: &[u8],
-    arguments: Arguments,
-    given: bool,
+    card: Card,
+    named: Option<u16>,
     place: usize,
     force: bool,
-) -> u8 {
-    let number = reader::judge(image, arguments).number;
-    if number != refusal::ACCEPTED {
-        report::show_refused(image, arguments, given, number);
+) -> Result<Status, Complained> {
+    let refused = reader::judge(card.image, card.arguments).err();
+    if let Some(refusal) = refused {
+        report::show_refused(card, named, refusal);
     }
-    if number == refusal::IMAGE_LENGTH {
-        return status::REFUSED;
+    if refused == Some(Refusal::ImageLength) {
+        return Ok(Status::Refused);
     }
-    let Some(picture) = output::begin(rt, place) else {
-        return status::USAGE;
-    };
-    let whole = draw(picture.descriptor, image, arguments, number);
-    let done = output::finish(rt, picture, place, whole, force);
-    if !done {
-        return status::USAGE;
-    }
-    if number != refusal::ACCEPTED {
-        return status::REFUSED;
+    let picture = Output::begin(rt, place)?;
+    let whole = draw(picture.descriptor, card, refused);
+    picture.finish(rt, whole, force)?;
+    if refused.is_some() {
+        return Ok(Status::Refused);
     }
     say(b"ACCEPTED  the picture is written");
-    status::ACCEPTED
+    Ok(Status::Accepted)
 }

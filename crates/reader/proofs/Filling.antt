@@ -9,8 +9,8 @@ use mathlib.Core.Path.{◌≡◌, refl, ◌∙◌}
 use lib.ListN.{length, take, drop, set, length-append, length-set}
 use lib.Seq.{drop-cons, get_or-set_same, drop-set-lt, lt-length-set}
 use Rattle.rom.specs.Bytes.{pick, keep}
-use Rattle.block.specs.declared.Block.{Block}
-use Rattle.block.specs.declared.Block.TheVariants.{Listed, Reset, Power, Unknown, Refused}
+use Rattle.block.specs.Answer.{Verdict}
+use Rattle.block.specs.Answer.{Listed, Reset, Power, Unknown, Refused}
 use Rattle.format.specs.Block.{is_listed}
 use Rattle.block.specs.Answer.{block_of, number_of, size_in, listed_in, kind_in}
 use Rattle.block.proofs.Seen.{SeenAs, refused, unknown, a-reset, a-power, a-medium, seen_size, seen-kind}
@@ -33,7 +33,7 @@ tabled-set f t x a h =
     let after = drop-set-lt (suc (length t)) a (length t) (f x) k in
     simp (tabled, map-append, length-append, append_assoc, add-one, front, same, after)
 
-pub stored-length : (v : ℕ) (b : Block) (free : ℕ) (a : List ℕ) → length (stored v b free a) ≡ length a
+pub stored-length : (v : ℕ) (b : Verdict) (free : ℕ) (a : List ℕ) → length (stored v b free a) ≡ length a
 stored-length v (Listed m) free a = length-set a _ _
 stored-length v (Reset s) free a = refl
 stored-length v (Power s m) free a = refl
@@ -41,7 +41,7 @@ stored-length v (Unknown s) free a = refl
 stored-length v (Refused n) free a = refl
 
 -- the store that `place` makes for a block brings an array from the table of the blocks after it to the table with it
-tabled-more : {row level : ℕ} (p : PlacedBlock) {b : Block} (f : PlacedBlock → ℕ) (v : ℕ) (ps : List PlacedBlock) (free : ℕ) (a : List ℕ)
+tabled-more : {row level : ℕ} (p : PlacedBlock) {b : Verdict} (f : PlacedBlock → ℕ) (v : ℕ) (ps : List PlacedBlock) (free : ℕ) (a : List ℕ)
     → SeenAs row level p.rest b → number_of b ≡ 0 → (0 < listed_in b → v ≡ f p)
     → free ≡ length (table row level (p ∷ ps)) → free ≤ length a
     → tabled f (table row level ps) (stored v b free a) ≡ tabled f (table row level (p ∷ ps)) a
@@ -64,7 +64,7 @@ pub record FilledTable (row level : ℕ) (whole ps : List PlacedBlock) (free : �
   pub same-k : length k ≡ length k₀
   pub same-o : length o ≡ length o₀
 
-module _ {row level : ℕ} {whole ps : List PlacedBlock} {p : PlacedBlock} {b : Block} {free : ℕ} {k₀ o₀ k o : List ℕ}
+module _ {row level : ℕ} {whole ps : List PlacedBlock} {p : PlacedBlock} {b : Verdict} {free : ℕ} {k₀ o₀ k o : List ℕ}
     (inv : FilledTable row level whole (p ∷ ps) free k₀ o₀ k o) (v : SeenAs row level p.rest b) (z : number_of b ≡ 0) where
   filled-place : listed_in b ≤ free
   filled-place = omega (arith, inv.places, table_more p ps v z)
@@ -91,7 +91,7 @@ pub record FillingTable (row level first count : ℕ) (blocks : List ℕ) (i : �
 -- The steps of `fill` in its own terms.
 module _ (row level first count : ℕ) (blocks : List ℕ) {i at : ℕ} (rest : List ℕ) {free : ℕ} {k₀ o₀ k o : List ℕ}
     (inv : FillingTable row level first count blocks i rest at free k₀ o₀ k o) where
-  module _ {b : Block} (h : i < count) (eb : b ≡ block_of row level rest) where
+  module _ {b : Verdict} (h : i < count) (eb : b ≡ block_of row level rest) where
     view : SeenAs row level rest b
     view = next-seen row level count rest inv.passing.accepted h eb
 

@@ -7,7 +7,7 @@ use mathlib.Core.Path.{◌≡◌, refl, sym, ◌∙◌}
 use mathlib.Core.Bool.{Bool, true, false}
 use lib.ListN.{length, take, drop}
 use Rattle.rom.specs.Bytes.{pick, keep}
-use Rattle.block.specs.declared.Block.{Block}
+use Rattle.block.specs.Answer.{Verdict}
 use Rattle.format.specs.Block.{is_listed}
 use Rattle.block.specs.Answer.{block_of, number_of, size_in, listed_in}
 use Rattle.block.proofs.Seen.{SeenAs, seen_size, seen-listed}
@@ -25,7 +25,7 @@ pub record StillAhead (row level : ℕ) (whole : List PlacedBlock) (ps : List Pl
   pub there : wanted < behind
   pub same : entry_part row (table row level ps) wanted ≡ entry_part row whole wanted
 
-module _ {row level : ℕ} {whole ps : List PlacedBlock} {p : PlacedBlock} {b : Block} {behind wanted : ℕ}
+module _ {row level : ℕ} {whole ps : List PlacedBlock} {p : PlacedBlock} {b : Verdict} {behind wanted : ℕ}
     (inv : StillAhead row level whole (p ∷ ps) behind wanted) (v : SeenAs row level p.rest b) (z : number_of b ≡ 0) where
   kept-behind : listed_in b ≤ behind
   kept-behind = omega (arith, inv.counted, table_more p ps v z)
@@ -61,7 +61,7 @@ pub record Finding (row level first count : ℕ) (blocks : List ℕ) (i : ℕ) (
 -- The steps of `find` in its own terms.
 module _ (row level first count : ℕ) (blocks : List ℕ) {i at : ℕ} (rest : List ℕ) {behind wanted : ℕ}
     (inv : Finding row level first count blocks i rest at behind wanted) where
-  module _ {b : Block} (h : i < count) (eb : b ≡ block_of row level rest) where
+  module _ {b : Verdict} (h : i < count) (eb : b ≡ block_of row level rest) where
     view : SeenAs row level rest b
     view = next-seen row level count rest inv.passing.accepted h eb
 

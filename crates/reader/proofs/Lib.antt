@@ -3,3 +3,4 @@ pub mod Filling
 pub mod Finding
 pub mod Readings
 pub mod Promised
+pub mod Answered

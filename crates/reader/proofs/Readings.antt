@@ -14,27 +14,24 @@ use Rattle.rom.specs.Refusal.{Cause, ◌⇒◌, first_met}
 use Rattle.rom.proofs.First.{none_here, after-accepted, after-refused, both-accepted}
 use Rattle.rom.proofs.Truth.{or-false}
 use Rattle.image.specs.declared.Arguments.{Arguments}
-use Rattle.header.specs.declared.Header.{Header}
 use Rattle.image.specs.Image.{is_first_version, up_to_leaves_end}
 use Rattle.image.specs.Arguments.{row_for, start_for, count_for, header_causes}
-use Rattle.header.specs.Header.{found_header, header_for}
+use Rattle.header.specs.Header.{HeaderAnswer, found_header, header_for}
 use Rattle.image.proofs.Causes.{header-numbered, whole-image, start_fits}
 use Rattle.header.proofs.Headers.{read_number, no-refusal, read_found, read_count}
 use Rattle.format.specs.Block.{the_later_version}
-use Rattle.leaf.specs.declared.Tally.{Tally}
 use Rattle.leaf.specs.Leaf.{PlacedBlock, cut, block_causes, table_of}
-use Rattle.leaf.specs.Tally.{tally_of, counts}
+use Rattle.leaf.specs.Tally.{TallyAnswer, tally_of, counts}
 use Rattle.leaf.proofs.Cuts.{accepted-blocks}
 use Rattle.leaf.proofs.Sorts.{tally-number, tally-accepted, sorts-add-up}
 use Rattle.leaf.proofs.Tables.{listed-length}
 use Rattle.reader.specs.declared.Answer.{Answer}
 use Rattle.reader.specs.declared.Part.{Part}
-use Rattle.reader.specs.declared.Reading.{Reading}
 use Rattle.reader.specs.Table.{tabled, no_part, entry_part}
 use Rattle.reader.specs.Inside.{answer_from, reading_for}
 use Rattle.reader.specs.Reading.{blocks_for, table_for, leaf_causes_for, judge_causes, read_causes, refused_answer, accepted_answer}
 use Rattle.reader.specs.Reading.{answer_for, judge_answer, read_answer, read_into, part_for, view_for, refused_reading, accepted_reading}
-use Rattle.reader.specs.Reading.{reading_with, judged_reading}
+use Rattle.reader.specs.Reading.{Judged, reading_with, judged_reading}
 use Rattle.reader.proofs.Entries.{entry-inside}
 
 -- ## The number of a reading
@@ -67,7 +64,7 @@ module _ (image : List ℕ) (a : Arguments) (k o : ℕ) where
 
 -- ## The steps of `assess` in its own terms
 
-module _ (image : List ℕ) (a : Arguments) (k o : ℕ) (h : Header) (eh : h ≡ header_for image a) where
+module _ (image : List ℕ) (a : Arguments) (k o : ℕ) (h : HeaderAnswer) (eh : h ≡ header_for image a) where
   pub assess-header : (h.number ≡ 0 → ⊥) → refused_reading h.number ≡ reading_for image a k o
   unfolding read_causes
   assess-header n =
@@ -94,7 +91,7 @@ module _ (image : List ℕ) (a : Arguments) (k o : ℕ) (h : Header) (eh : h ≡
         (no_room image a k o accepted (simp (le-ltb k (count_for image a) (rw count at g), lt-ltb o (count_for image a) (rw count at l))))
 
     module _ (hk : h.blocks ≤ k) (ho : h.blocks ≤ o) (rest : List ℕ) (er : rest ≡ up_to_leaves_end a.layout image h.start)
-        {first : Bool} (ef : first ≡ is_first_version image) (t : Tally)
+        {first : Bool} (ef : first ≡ is_first_version image) (t : TallyAnswer)
         (et : t ≡ tally_of first h.row a.level (cut h.row h.blocks rest)) where
       tally : t ≡ tally_of (is_first_version image) (row_for a) a.level (blocks_for image a)
       unfolding found_header
@@ -130,7 +127,7 @@ unfolding answer_for accepted_answer refused_answer pick
 answer-number zero image a = refl
 answer-number (suc n) image a = rw (eqb-suc-zero n)
 
-module _ (n : ℕ) (image : List ℕ) (a : Arguments) (r : Reading) (er : r ≡ reading_with n image a) where
+module _ (n : ℕ) (image : List ℕ) (a : Arguments) (r : Judged) (er : r ≡ reading_with n image a) where
   pub reading-answer : r.answer ≡ answer_for n image a
   unfolding reading_with accepted_reading refused_reading answer_for pick
   reading-answer = rw er (go n)
@@ -150,16 +147,16 @@ module _ (n : ℕ) (image : List ℕ) (a : Arguments) (r : Reading) (er : r ≡ 
 
 -- ## What an accepted reading says
 
-pub record Accepted (image : List ℕ) (a : Arguments) (r : Reading) : Type 0 where
+pub record Accepted (image : List ℕ) (a : Arguments) (r : Judged) : Type 0 where
   pub known : r ≡ accepted_reading image a
   pub header : first_met (header_causes image a) ≡ 0
   pub leaf : first_met (leaf_causes_for image a) ≡ 0
 
 -- the leaf's rest from where the reading says that its blocks start
-abbrev pub rest_of : List ℕ → Arguments → Reading → List ℕ
+abbrev pub rest_of : List ℕ → Arguments → Judged → List ℕ
 rest_of image a r = up_to_leaves_end a.layout image r.start
 
-module _ {image : List ℕ} {a : Arguments} {r : Reading} (c : Accepted image a r) where
+module _ {image : List ℕ} {a : Arguments} {r : Judged} (c : Accepted image a r) where
   pub reading-start : r.start ≤ leaves_end a.layout
   unfolding accepted_reading
   reading-start = rw c.known (start_fits image a c.header)
@@ -200,7 +197,7 @@ module _ {image : List ℕ} {a : Arguments} {r : Reading} (c : Accepted image a 
 -- ## Without arrays
 
 module _ (image : List ℕ) (a : Arguments) where
-  pub accepted-judged : (r : Reading) → r ≡ judged_reading image a → r.answer.number ≡ 0 → Accepted image a r
+  pub accepted-judged : (r : Judged) → r ≡ judged_reading image a → r.answer.number ≡ 0 → Accepted image a r
   unfolding judged_reading judge_causes
   accepted-judged r er z =
       let n = first_met (judge_causes image a) in
@@ -209,16 +206,16 @@ module _ (image : List ℕ) (a : Arguments) where
       (sym (reading-number n image a r er) ∙ z) in
       record { known = is-accepted n image a r er z; header = b.0; leaf = b.1 }
 
-  pub judged-answer : (r : Reading) → r ≡ judged_reading image a → r.answer ≡ judge_answer image a
+  pub judged-answer : (r : Judged) → r ≡ judged_reading image a → r.answer ≡ judge_answer image a
   unfolding judged_reading judge_answer
   judged-answer r er = reading-answer (first_met (judge_causes image a)) image a r er
 
-  pub no-part : (r : Reading) → r ≡ judged_reading image a → (e : ℕ) → (r.answer.number ≡ 0 → ⊥) → no_part ≡ part_for image a e
+  pub no-part : (r : Judged) → r ≡ judged_reading image a → (e : ℕ) → (r.answer.number ≡ 0 → ⊥) → no_part ≡ part_for image a e
   unfolding judged_reading part_for pick
   no-part r er e n =
       simp (ne_eqb (first_met (judge_causes image a)) 0 (λ z. n (reading-number (first_met (judge_causes image a)) image a r er ∙ z)))
 
-  pub a-part : (r : Reading) → r ≡ judged_reading image a → (rest : List ℕ) → rest ≡ rest_of image a r → (e : ℕ) → r.answer.number ≡ 0
+  pub a-part : (r : Judged) → r ≡ judged_reading image a → (rest : List ℕ) → rest ≡ rest_of image a r → (e : ℕ) → r.answer.number ≡ 0
       → entry_part r.row (table_of r.row a.level r.answer.blocks r.start rest) e ≡ part_for image a e
   unfolding judged_reading part_for pick
   a-part r er rest q e z =
@@ -240,7 +237,7 @@ module _ (image : List ℕ) (a : Arguments) where
 
 -- ## Into arrays
 
-module _ (image : List ℕ) (a : Arguments) (k o : ℕ) (r : Reading) (er : r ≡ reading_for image a k o) where
+module _ (image : List ℕ) (a : Arguments) (k o : ℕ) (r : Judged) (er : r ≡ reading_for image a k o) where
   number_read : r.answer.number ≡ first_met (read_causes image a k o)
   unfolding reading_for
   number_read = reading-number (first_met (read_causes image a k o)) image a r er

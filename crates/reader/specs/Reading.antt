@@ -9,7 +9,6 @@ use Rattle.image.specs.Arguments.{row_for, leaf_for, start_for, count_for, heade
 use Rattle.format.specs.Block.{is_listed, is_reset, is_power, is_skipped, is_default}
 use Rattle.leaf.specs.Leaf.{PlacedBlock, cut, count_of, first_from, leaf_causes, kind_at, start_at, table_of}
 use Rattle.reader.specs.declared.Answer.{Answer}
-use Rattle.reader.specs.declared.Reading.{Reading}
 use Rattle.reader.specs.declared.Part.{Part}
 use Rattle.reader.specs.Table.{tabled, no_part, entry_part}
 
@@ -107,16 +106,21 @@ view_for image a entry = bytes_of image (part_for image a entry)
 
 -- ## What the code keeps of a reading: the chip's row and where the blocks start, beside the answer
 
-unfoldable pub refused_reading : ℕ → Reading
+pub record Judged : Type 0 where
+  pub answer : Answer
+  pub row : ℕ
+  pub start : ℕ
+
+unfoldable pub refused_reading : ℕ → Judged
 refused_reading n = record { answer = refused_answer n; row = 0; start = 0 }
 
-unfoldable pub accepted_reading : List ℕ → Arguments → Reading
+unfoldable pub accepted_reading : List ℕ → Arguments → Judged
 accepted_reading image a = record { answer = accepted_answer image a; row = row_for a; start = start_for image a }
 
 -- with the number n
-unfoldable pub reading_with : ℕ → List ℕ → Arguments → Reading
+unfoldable pub reading_with : ℕ → List ℕ → Arguments → Judged
 reading_with n image a = pick (eqb n 0) (accepted_reading image a) (refused_reading n)
 
 -- without arrays
-unfoldable pub judged_reading : List ℕ → Arguments → Reading
+unfoldable pub judged_reading : List ℕ → Arguments → Judged
 judged_reading image a = reading_with (first_met (judge_causes image a)) image a

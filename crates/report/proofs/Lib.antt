@@ -1,2 +1,4 @@
+pub mod Computes
 pub mod Names
 pub mod Bits
+pub mod Accepted

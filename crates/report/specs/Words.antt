@@ -1,17 +1,15 @@
 -- Words for what a card says.
-use Rattle.std.specs.Prelude.{ℕ, zero, suc, ◌+◌, ◌/◌, ◌%◌, Bool, List, [], ◌∷◌, ◌++◌, eqb, leb, get_or}
+use Rattle.std.specs.Prelude.{ℕ, ◌/◌, ◌%◌, Bool, List, [], ◌∷◌, ◌++◌, eqb, leb, get_or, map, Option, Some, None}
 use Prim.Native.String.{String}
 use Rattle.rom.specs.declared.Layout.{Layout}
 use Rattle.rom.specs.Bytes.{pick, byte_at}
 use Rattle.text.specs.Quoted.{quoted}
 use Rattle.text.specs.Numbers.{decimal_of}
-use Rattle.text.specs.Tables.{words_for}
 use Rattle.text.specs.Written.{with_values, with_fields}
 use Rattle.format.specs.Chips.{kind_compact, kind21041, taken_as}
 use Rattle.image.specs.declared.Arguments.{Arguments}
 use Rattle.image.specs.Image.{is_first_version}
 use Rattle.survey.specs.declared.Place.{Place}
-use Rattle.report.specs.Sizes.{is_named}
 
 -- a pattern of text with its values
 abbrev pub says : String → List ℕ → List ℕ
@@ -53,8 +51,9 @@ abbrev pub layout_words : Layout → List ℕ
 layout_words l = pick l.magic (quoted ", Magic Packet layout") []
 
 -- a size, where it is named
-unfoldable pub size_words : Bool → ℕ → List ℕ
-size_words given size = pick (is_named given size) (says ", size #" (size ∷ 0 ∷ 0 ∷ 0 ∷ [])) []
+abbrev pub size_words : Option ℕ → List ℕ
+size_words (Some size) = says ", size #" (size ∷ 0 ∷ 0 ∷ 0 ∷ [])
+size_words None = []
 
 -- the edition in which an image of version 1 is read
 unfoldable pub edition_words : List ℕ → Bool → List ℕ
@@ -72,9 +71,9 @@ connection_words code = says "@" (code ∷ 0 ∷ 0 ∷ 0 ∷ []) ++ pick (eqb (t
 abbrev pub reader_words : Arguments → List ℕ
 reader_words a = says "chip #, controller #, level #" (a.chip ∷ a.controller ∷ a.level ∷ 0 ∷ [])
 
--- the arguments of a reading, and whether its size was given
-unfoldable pub arguments_words : Bool → Arguments → List ℕ
-arguments_words given a = reader_words a ++ (size_words given a.layout.size ++ layout_words a.layout)
+-- the arguments of a reading, and its size where that is named
+unfoldable pub arguments_words : Option ℕ → Arguments → List ℕ
+arguments_words named a = reader_words a ++ (size_words named ++ layout_words a.layout)
 
 abbrev pub start_words : ℕ → Place → List ℕ
 start_words number place = says "block # at byte #, " (number ∷ place.start ∷ 0 ∷ 0 ∷ [])
@@ -84,26 +83,14 @@ place_words number place = start_words number place ++ (kind_words place.kind ++
 
 -- ## Bits by their names
 
--- the names of the bits that are set, of so many from one on: the next behind one text, the others behind another
-unfoldable pub bits_from : (ℕ → List ℕ) → List ℕ → List ℕ → ℕ → ℕ → ℕ → List ℕ
-bits_from name next other zero bit bits = []
-bits_from name next other (suc left) bit bits =
-    pick (eqb (bits % 2) 1) ((next ++ name bit) ++ bits_from name other other left (bit + 1) (bits / 2))
-    (bits_from name next other left (bit + 1) (bits / 2))
-
--- the name of a bit in a table of words, and in a list from bit 0 on
-abbrev pub name_in_table : List ℕ → ℕ → List ℕ
-name_in_table table bit = words_for table (decimal_of bit)
-
-abbrev pub name_in_list : List String → ℕ → List ℕ
-name_in_list names bit = quoted (get_or names bit "")
-
--- the bits of a word, named by the one and by the other
-abbrev pub table_words : List ℕ → List ℕ → List ℕ → ℕ → List ℕ
-table_words table first other bits = bits_from (name_in_table table) first other 16 0 bits
+-- the names of the bits that are set, from the lowest on: the next behind one text, the others behind another
+unfoldable pub set_names : List (List ℕ) → List ℕ → List ℕ → ℕ → List ℕ
+set_names [] next other bits = []
+set_names (name ∷ names) next other bits =
+    pick (eqb (bits % 2) 1) ((next ++ name) ++ set_names names other other (bits / 2)) (set_names names next other (bits / 2))
 
 abbrev pub list_words : List String → List ℕ → List ℕ → ℕ → List ℕ
-list_words names first other bits = bits_from (name_in_list names) first other 16 0 bits
+list_words names first other bits = set_names (map quoted names) first other bits
 
 -- the bits of a Magic command as 000 names them; one that must be 0 has its number alone
 unfoldable pub command_names : List String

@@ -5,8 +5,10 @@ pub mod size;
 pub mod words;
 
 ghost use Rattle.std.specs.Prelude.{◌≡◌, ◌++◌};
+ghost use Rattle.rom.specs.Numbers.{refusal_number};
 ghost use Rattle.text.specs.Written.{text_of, fitted};
 ghost use Rattle.format.specs.Block.{is_known};
+ghost use Rattle.block.specs.Answer.{verdict_of};
 ghost use Rattle.image.specs.Image.{leaf_at};
 ghost use Rattle.report.specs.Blocks.{block_from, bytes_at};
 ghost use Rattle.report.specs.Layouts.{otherwise, of_length, in_other};
@@ -15,9 +17,9 @@ ghost use Rattle.report.specs.Words.{three_bytes, address_words, six_words, size
 
 use block::{Block, chip};
 use magic::Magic;
-use reader::Arguments;
-use rom::{Layout, refusal};
-use survey::Place;
+use reader::{Arguments, Header};
+use rom::{Layout, Refusal};
+use survey::{Card, Place};
 use text::line;
 use text::line::{Line, STDOUT, say};
 use text::slice::{byte_at, from, part, word_at};
@@ -25,14 +27,15 @@ use text::slice::{byte_at, from, part, word_at};
 // ## Parts of an image
 
 fn byte_of(image: &[u8], at: usize) -> u64 {
-    byte_at(image, at) as u64
+    u64::from(byte_at(image, at))
 }
 
 // Where a controller's leaf starts.
+#[tactic(auto, unfolding(image::specs::Image::leaf_at))]
 pub fn leaf_of(image: &[u8], controller: u8) -> u16
     ensures { result ≡ leaf_at image.now controller }
 {
-    word_at(image, rom::CONTROLLERS_AT + 3 * (controller as usize) + 1)
+    word_at(image, rom::CONTROLLERS_AT + 3 * usize::from(controller) + 1)
 }
 
 // ## Parts of a line
@@ -45,6 +48,7 @@ fn three_bytes(n: u64) -> [u64; 4]
 }
 
 // xx:xx:xx:xx:xx:xx
+#[tactic(auto, using(crate::proofs::Names::two), unfolding(crate::specs::Words::address_words))]
 pub fn address_words(line: Line, address: u64) -> Line
     ensures { text_of result ≡ fitted (text_of line ++ address_words address) }
 {
@@ -54,6 +58,7 @@ pub fn address_words(line: Line, address: u64) -> Line
 }
 
 // The same of six bytes.
+#[tactic(auto, unfolding(crate::specs::Words::six_words))]
 pub fn six_words(line: Line, bytes: &[u8]) -> Line
     ensures { text_of result ≡ fitted (text_of line ++ six_words bytes.now) }
 {
@@ -61,73 +66,69 @@ pub fn six_words(line: Line, bytes: &[u8]) -> Line
 }
 
 // A size, where it is named.
-pub fn size_words(line: Line, given: bool, size: u16) -> Line
-    ensures { text_of result ≡ fitted (text_of line ++ size_words given size) }
+#[tactic(auto, using(crate::proofs::Names::none_more))]
+pub fn size_words(line: Line, named: Option<u16>) -> Line
+    ensures { text_of result ≡ fitted (text_of line ++ size_words named) }
 {
-    let named = size::is_named(given, size);
-    if named {
-        return line.with(b", size #", [size as u64, 0, 0, 0]);
+    match named {
+        Some(size) => line.with(b", size #", [u64::from(size), 0, 0, 0]),
+        None => line,
     }
-    line
 }
 
 // The edition in which an image of version 1 is read.
-pub fn edition_words(line: Line, image: &[u8], first_edition: bool) -> Line
-    ensures { text_of result ≡ fitted (text_of line ++ edition_words image.now first_edition) }
+#[tactic(auto, using(crate::proofs::Names::none_more), unfolding(crate::specs::Words::edition_words, rom::specs::Bytes::pick))]
+pub fn edition_words(line: Line, card: Card) -> Line
+    ensures { text_of result ≡ fitted (text_of line ++ edition_words card.entry.image.now card.entry.arguments.first_edition) }
 {
-    let first = header::is_first_version(image);
-    if !first {
-        return line;
+    if !header::is_first_version(card.image) {
+        line
+    } else if card.arguments.first_edition {
+        line.text(b", read in edition 1.00")
+    } else {
+        line.text(b", read in edition 1.01")
     }
-    if first_edition {
-        return line.text(b", read in edition 1.00");
-    }
-    line.text(b", read in edition 1.01")
 }
 
-// The arguments of a reading, and its size where that was given.
-pub fn arguments_words(line: Line, arguments: Arguments, given: bool) -> Line
-    ensures { text_of result ≡ fitted (text_of line ++ arguments_words given arguments) }
+// The arguments of a reading, and its size where that is named.
+#[tactic(auto, using(crate::proofs::Names::two, crate::proofs::Names::three), unfolding(crate::proofs::Computes::arguments_words_compute))]
+pub fn arguments_words(line: Line, arguments: Arguments, named: Option<u16>) -> Line
+    ensures { text_of result ≡ fitted (text_of line ++ arguments_words named arguments) }
 {
     let line = line.with(
         b"chip #, controller #, level #",
         [
-            arguments.chip as u64,
-            arguments.controller as u64,
-            arguments.level as u64,
+            u64::from(arguments.chip),
+            u64::from(arguments.controller),
+            u64::from(arguments.level),
             0,
         ],
     );
-    let line = size_words(line, given, arguments.layout.size);
+    let line = size_words(line, named);
     if arguments.layout.magic {
         return line.text(b", Magic Packet layout");
     }
     line
 }
 
+#[tactic(auto, using(crate::proofs::Names::three), unfolding(crate::specs::Words::place_words))]
 pub fn place_words(line: Line, number: u8, place: Place) -> Line
     ensures { text_of result ≡ fitted (text_of line ++ place_words number place) }
 {
     let line = line.with(
         b"block # at byte #, ",
-        [number as u64, place.start as u64, 0, 0],
+        [u64::from(number), u64::from(place.start), 0, 0],
     );
-    words::kind_words(line, place.kind).with(b", size #", [place.size as u64, 0, 0, 0])
+    words::kind_words(line, place.kind).with(b", size #", [u64::from(place.size), 0, 0, 0])
 }
 
 // Bytes in rows of 16.
 pub fn show_bytes(bytes: &[u8]) {
-    let mut line = Line::new().to(5);
-    let mut i = 0;
-    while i < bytes.len() {
-        line = line.with(b" %", [byte_of(bytes, i), 0, 0, 0]);
-        i += 1;
-        if i % 16 == 0 {
-            line.print();
-            line = Line::new().to(5);
+    for row in bytes.chunks(16) {
+        let mut line = Line::new().to(5);
+        for byte in row {
+            line = line.with(b" %", [u64::from(*byte), 0, 0, 0]);
         }
-    }
-    if i % 16 != 0 {
         line.print();
     }
 }
@@ -135,30 +136,39 @@ pub fn show_bytes(bytes: &[u8]) {
 // ## Blocks
 
 // Whether a reader of a level knows a kind.
+#[tactic(auto, unfolding(format::specs::Block::is_known))]
 pub fn is_known(kind: u16, level: u8) -> bool
     ensures { result ≡ is_known level kind }
 {
-    if block::KIND_COMPACT <= kind {
-        return true;
-    }
-    kind < (level as u16)
+    block::KIND_COMPACT <= kind || kind < u16::from(level)
 }
 
-// What the reader finds the block at a byte to be.
-pub fn block_at(image: &[u8], arguments: Arguments, start: u16) -> Block
-    ensures { result ≡ block_from image.now arguments start }
+// What the reader finds the block at a byte to be, or why it refuses it.
+#[tactic(auto, unfolding(crate::specs::Blocks::block_from))]
+pub fn block_at(card: Card, start: u16) -> Result<Block, Refusal>
+    ensures { verdict_of result ≡ block_from card.entry.image.now card.entry.arguments start }
 {
-    let row = chip::row_of(arguments.chip);
-    let rest = header::up_to_leaves_end(image, arguments.layout, start as usize);
-    block::judge_in(rest, row, arguments.level, header::is_first_version(image))
+    let Card { image, arguments } = card;
+    let rest = header::up_to_leaves_end(image, arguments.layout, usize::from(start));
+    block::judge_in(
+        rest,
+        chip::row_of(arguments.chip),
+        arguments.level,
+        header::is_first_version(image),
+    )
 }
 
 // A block's bytes, as far as leaves go.
-pub fn block_bytes(image: &[u8], layout: Layout, place: Place) -> &[u8]
-    ensures { result.now ≡ bytes_at layout image.now place }
+#[tactic(auto, unfolding(crate::specs::Blocks::bytes_at))]
+pub fn block_bytes<'a>(card: Card<'a>, place: Place) -> &'a [u8]
+    ensures { result.now ≡ bytes_at card.entry.arguments.layout card.entry.image.now place }
 {
-    let rest = header::up_to_leaves_end(image, layout, place.start as usize);
-    part(rest, 0, place.size as usize)
+    let rest = header::up_to_leaves_end(
+        card.image,
+        card.arguments.layout,
+        usize::from(place.start),
+    );
+    part(rest, 0, usize::from(place.size))
 }
 
 // Where leaves end in a layout.
@@ -170,29 +180,26 @@ pub fn show_leaves_end(layout: Layout) {
     .print();
 }
 
-fn show_refused_block(image: &[u8], arguments: Arguments) {
-    let number = survey::refused_block(image, arguments);
-    let place = survey::block_place(image, arguments, number);
-    place_words(Line::new().to(2), number, place)
-        .byte(b':')
-        .print();
-    show_bytes(block_bytes(image, arguments.layout, place));
+fn show_refused_block(card: Card) {
+    if let Some(number) = card.refused_block()
+        && let Some(place) = card.block_place(number)
+    {
+        place_words(Line::new().to(2), number, place)
+            .byte(b':')
+            .print();
+        show_bytes(block_bytes(card, place));
+    }
 }
 
 // What part a block has in a clash; nothing is shown where it has none.
-fn show_clashing(b: Block, line: Line) {
-    match b {
-        Block::Listed(medium) => {
-            if medium.is_default {
-                line.text(b", a default medium").print();
-            } else if medium.resets_phy {
-                line.text(b", a PHY with its own reset").print();
-            }
+fn show_clashing(block: Result<Block, Refusal>, line: Line) {
+    match block {
+        Ok(Block::Listed(medium)) if medium.is_default => line.text(b", a default medium").print(),
+        Ok(Block::Listed(medium)) if medium.resets_phy => {
+            line.text(b", a PHY with its own reset").print();
         }
-        Block::Reset { size: _ } => line.text(b", a reset").print(),
-        Block::Power { size: _, mode: _ } => {}
-        Block::Unknown { size: _ } => {}
-        Block::Refused(_) => {}
+        Ok(Block::Reset { .. }) => line.text(b", a reset").print(),
+        _ => {}
     }
 }
 
@@ -204,35 +211,43 @@ fn show_shared(shared: u8, line: Line) {
     }
 }
 
+// The mode byte of the block at a byte; 0 where that is no power block.
+fn mode_at(card: Card, start: u16) -> u8 {
+    match block_at(card, start) {
+        Ok(block) => block.mode(),
+        Err(_) => 0,
+    }
+}
+
 // The bits of the mode byte that are set in more than one power block.
-fn repeated_modes(image: &[u8], arguments: Arguments, blocks: u8) -> u8 {
-    let mut modes = 0u8;
-    let mut repeated = 0u8;
-    let mut k = 0u8;
-    while k < blocks {
-        let start = survey::block_place(image, arguments, k).start;
-        let mode = block::mode_of(block_at(image, arguments, start));
-        repeated |= modes & mode;
-        modes |= mode;
-        k += 1;
+fn repeated_modes(card: Card, blocks: u8) -> u8 {
+    let mut modes = 0;
+    let mut repeated = 0;
+    for k in 0..blocks {
+        if let Some(place) = card.block_place(k) {
+            let mode = mode_at(card, place.start);
+            repeated |= modes & mode;
+            modes |= mode;
+        }
     }
     repeated
 }
 
 // The blocks that refusal 18 is about, or 31.
-fn show_clashes(image: &[u8], arguments: Arguments, number: u8, blocks: u8) {
-    let repeated = repeated_modes(image, arguments, blocks);
-    let mut k = 0u8;
-    while k < blocks {
-        let place = survey::block_place(image, arguments, k);
-        let line = place_words(Line::new().to(2), k, place);
-        let b = block_at(image, arguments, place.start);
-        if number == refusal::CLASH {
-            show_clashing(b, line);
-        } else {
-            show_shared(repeated & block::mode_of(b), line);
+fn show_clashes(card: Card, refusal: Refusal) {
+    let Ok(Header { blocks, .. }) = header::read_header(card.image, card.arguments) else {
+        return;
+    };
+    let repeated = repeated_modes(card, blocks);
+    for k in 0..blocks {
+        if let Some(place) = card.block_place(k) {
+            let line = place_words(Line::new().to(2), k, place);
+            if refusal == Refusal::Clash {
+                show_clashing(block_at(card, place.start), line);
+            } else {
+                show_shared(repeated & mode_at(card, place.start), line);
+            }
         }
-        k += 1;
     }
 }
 
@@ -243,26 +258,26 @@ pub fn show_length(image: &[u8]) {
         b"  the image has # bytes; a ROM has # or #",
         [
             image.len() as u64,
-            rom::SMALL_SIZE as u64,
-            rom::LARGE_SIZE as u64,
+            u64::from(rom::SMALL_SIZE),
+            u64::from(rom::LARGE_SIZE),
             0,
         ],
     )
     .print();
 }
 
-fn show_version(image: &[u8], first_edition: bool) {
+fn show_version(card: Card) {
     let line = line::of(
         b"  format version, byte 18: #",
-        [byte_of(image, rom::VERSION_AT), 0, 0, 0],
+        [byte_of(card.image, rom::VERSION_AT), 0, 0, 0],
     );
-    edition_words(line, image, first_edition).print();
+    edition_words(line, card).print();
 }
 
 pub fn show_srom_crc(image: &[u8], layout: Layout) {
     let at = layout.checked_length();
-    let stored = word_at(image, at) as u64;
-    let computed = crc::srom_crc(image, layout).value as u64;
+    let stored = u64::from(word_at(image, at));
+    let computed = u64::from(crc::srom_crc(image, layout).unwrap_or(0));
     let at = at as u64;
     line::of(
         b"  SROM CRC, bytes # and #: @ stored",
@@ -272,24 +287,43 @@ pub fn show_srom_crc(image: &[u8], layout: Layout) {
     .print();
 }
 
+// A CRC of one byte, by its name: what is stored, and what the bytes that it is of give.
+fn show_byte_crc(name: &[u8], image: &[u8], at: usize, computed: u16, of: &[u8]) {
+    Line::new()
+        .text(name)
+        .with(
+            b" CRC, byte #: 0x% stored, 0x% of ",
+            [at as u64, byte_of(image, at), u64::from(computed), 0],
+        )
+        .text(of)
+        .print();
+}
+
 fn show_id_crc(image: &[u8], size: u16) {
-    let stored = byte_of(image, rom::ID_CRC_AT);
-    let computed = crc::id_crc(image, size).value as u64;
-    line::of(
-        b"  ID CRC, byte 16: 0x% stored, 0x% of bytes 0 to 15 and 17",
-        [stored, computed, 0, 0],
-    )
-    .print();
+    let computed = crc::id_crc(image, size).unwrap_or(0);
+    show_byte_crc(
+        b"  ID",
+        image,
+        rom::ID_CRC_AT,
+        computed,
+        b"bytes 0 to 15 and 17",
+    );
+}
+
+fn show_magic_crc(image: &[u8], size: u16) {
+    let at = magic::field_at(size, magic::CRC);
+    let computed = crc::magic_crc(image, size).unwrap_or(0);
+    show_byte_crc(b"  Magic", image, at, computed, b"the block's other bytes");
 }
 
 fn show_count(image: &[u8], layout: Layout) {
     let count = byte_at(image, rom::CONTROLLER_COUNT_AT);
-    let reserved = rom::CONTROLLERS_AT + 3 * (count as usize);
+    let reserved = rom::CONTROLLERS_AT + 3 * usize::from(count);
     line::of(
         b"  controller count (1 to #), byte 19: #; reserved byte (0), byte #: 0x%",
         [
-            layout.most_controllers() as u64,
-            count as u64,
+            u64::from(layout.most_controllers()),
+            u64::from(count),
             reserved as u64,
             byte_of(image, reserved),
         ],
@@ -302,56 +336,53 @@ fn show_address(image: &[u8]) {
     six_words(line, from(image, rom::ADDRESS_AT)).print();
 }
 
-fn show_leaf(image: &[u8], layout: Layout, controller: u8) {
-    let at = 27 + 3 * (controller as u64);
-    let least = 27 + 3 * (byte_at(image, rom::CONTROLLER_COUNT_AT) as u64);
+fn show_leaf(card: Card) {
+    let Card { image, arguments } = card;
+    let controller = arguments.controller;
+    let at = 27 + 3 * u64::from(controller);
+    let least = 27 + 3 * u64::from(byte_at(image, rom::CONTROLLER_COUNT_AT));
     line::of(
         b"  leaf offset, bytes # and #: #",
-        [at, at + 1, leaf_of(image, controller) as u64, 0],
+        [at, at + 1, u64::from(leaf_of(image, controller)), 0],
     )
     .print();
     line::of(
         b"  a leaf of this card starts at byte # or later, and ends before byte #",
-        [least, layout.leaves_end() as u64, 0, 0],
+        [least, arguments.layout.leaves_end() as u64, 0, 0],
     )
     .print();
 }
 
-fn show_connection(image: &[u8], controller: u8) {
-    let leaf = leaf_of(image, controller);
+// A connection type that is not read; of an image of version 1 the edition decides.
+fn show_unread(card: Card) {
+    let Card { image, arguments } = card;
+    let leaf = leaf_of(image, arguments.controller);
+    let connection = word_at(image, usize::from(leaf));
+    let leaf = u64::from(leaf);
     line::of(
         b"  connection type, bytes # and #: @",
-        [
-            leaf as u64,
-            (leaf as u64) + 1,
-            word_at(image, leaf as usize) as u64,
-            0,
-        ],
+        [leaf, leaf + 1, u64::from(connection), 0],
     )
     .print();
+    if header::is_first_version(image) {
+        show_version(card);
+    }
 }
 
 // ## The Magic Packet block
 
 // What a block says.
 pub fn show_magic(magic: Magic) {
+    let Magic {
+        password,
+        address,
+        command,
+    } = magic;
     say(b"Magic Packet block");
-    let password = magic.password;
     six_words(Line::new().text(b"  password         "), &password).print();
-    let address = magic.address;
     six_words(Line::new().text(b"  address          "), &address).print();
-    let line = line::of(b"  command          @", [magic.command as u64, 0, 0, 0]);
-    words::command_words(line, magic.command).print();
-}
-
-fn show_magic_crc(image: &[u8], size: u16) {
-    let at = magic::field_at(size, magic::CRC);
-    let computed = crc::magic_crc(image, size).value as u64;
-    line::of(
-        b"  Magic CRC, byte #: 0x% stored, 0x% of the block's other bytes",
-        [at as u64, byte_of(image, at), computed, 0],
-    )
-    .print();
+    let line = line::of(b"  command          @", [u64::from(command), 0, 0, 0]);
+    words::command_words(line, command).print();
 }
 
 // A reserved byte, where it is not 0.
@@ -363,18 +394,16 @@ fn show_reserved(image: &[u8], at: usize) {
 }
 
 fn show_magic_reserved(image: &[u8], size: u16) {
-    let mut field = magic::ZEROS;
-    while field <= magic::LAST {
+    for field in magic::ZEROS..=magic::LAST {
         if field != magic::CRC {
             show_reserved(image, magic::field_at(size, field));
         }
-        field += 1;
     }
 }
 
 // What a refusal of the block is about.
-pub fn show_magic_field(image: &[u8], size: u16, number: u8) {
-    if number == refusal::MAGIC_CRC {
+pub fn show_magic_field(image: &[u8], size: u16, refusal: Refusal) {
+    if refusal == Refusal::MagicCrc {
         show_magic_crc(image, size);
     } else {
         show_magic_reserved(image, size);
@@ -387,61 +416,65 @@ pub fn show_magic_field(image: &[u8], size: u16, number: u8) {
 fn otherwise(arguments: Arguments) -> Arguments
     ensures { result ≡ otherwise arguments }
 {
-    let plain = !arguments.layout.magic;
-    let mut other = arguments;
-    other.layout.magic = plain;
-    other
+    let layout = Layout {
+        magic: !arguments.layout.magic,
+        ..arguments.layout
+    };
+    Arguments {
+        layout,
+        ..arguments
+    }
 }
 
 // The same arguments for the size that a length says.
 fn of_length(arguments: Arguments, length: usize) -> Arguments
     ensures { result ≡ of_length length arguments }
 {
-    let size = size::by_length(length);
-    let mut other = arguments;
-    other.layout.size = size;
-    other
+    let layout = Layout {
+        size: size::by_length(length),
+        ..arguments.layout
+    };
+    Arguments {
+        layout,
+        ..arguments
+    }
 }
 
 // The same arguments in the other edition.
 fn in_other(arguments: Arguments) -> Arguments
     ensures { result ≡ in_other arguments }
 {
-    let later = !arguments.first_edition;
-    let mut other = arguments;
-    other.first_edition = later;
-    other
+    Arguments {
+        first_edition: !arguments.first_edition,
+        ..arguments
+    }
 }
 
-// Whether an image that is refused with a number, and that is 3, is accepted with a Magic Packet block, or without it.
-fn is_accepted_otherwise(image: &[u8], arguments: Arguments, number: u8) -> bool
-    ensures { result ≡ is_accepted_otherwise image.now arguments number }
+// Whether an image that is refused, and that with 3, is accepted with a Magic Packet block, or without it.
+#[tactic(auto, using(crate::proofs::Accepted::accepted_number), unfolding(crate::specs::Layouts::is_accepted_otherwise))]
+fn is_accepted_otherwise(card: Card, refusal: Refusal) -> bool
+    ensures { result ≡ is_accepted_otherwise card.entry.image.now card.entry.arguments (refusal_number refusal) }
 {
-    if number != refusal::SROM_CRC {
-        return false;
-    }
-    reader::judge(image, otherwise(arguments)).number == refusal::ACCEPTED
+    refusal == Refusal::SromCrc && reader::judge(card.image, otherwise(card.arguments)).is_ok()
 }
 
 // Whether one that is refused with 1 is accepted for the size that its length says.
-fn is_accepted_by_length(image: &[u8], arguments: Arguments, number: u8) -> bool
-    ensures { result ≡ is_accepted_by_length image.now arguments number }
+#[tactic(auto, using(crate::proofs::Accepted::accepted_number), unfolding(crate::specs::Layouts::is_accepted_by_length))]
+fn is_accepted_by_length(card: Card, refusal: Refusal) -> bool
+    ensures { result ≡ is_accepted_by_length card.entry.image.now card.entry.arguments (refusal_number refusal) }
 {
-    if number != refusal::IMAGE_LENGTH {
-        return false;
-    }
-    let length = image.len();
-    reader::judge(image, of_length(arguments, length)).number == refusal::ACCEPTED
+    let Card { image, arguments } = card;
+    refusal == Refusal::ImageLength
+        && reader::judge(image, of_length(arguments, image.len())).is_ok()
 }
 
 // Whether one that is refused with 11 is accepted in the other edition, as only an image of version 1 can be.
-fn is_accepted_in_other(image: &[u8], arguments: Arguments, number: u8) -> bool
-    ensures { result ≡ is_accepted_in_other image.now arguments number }
+#[tactic(auto, using(crate::proofs::Accepted::accepted_number), unfolding(crate::specs::Layouts::is_accepted_in_other))]
+fn is_accepted_in_other(card: Card, refusal: Refusal) -> bool
+    ensures { result ≡ is_accepted_in_other card.entry.image.now card.entry.arguments (refusal_number refusal) }
 {
-    if number != refusal::CONNECTION_TYPE {
-        return false;
-    }
-    reader::judge(image, in_other(arguments)).number == refusal::ACCEPTED
+    refusal == Refusal::ConnectionType
+        && reader::judge(card.image, in_other(card.arguments)).is_ok()
 }
 
 // The option with which the other edition is read.
@@ -454,141 +487,97 @@ pub fn show_other_edition(first_edition: bool) {
 }
 
 // Nobody at a bench knows layout or edition beforehand.
-fn show_otherwise(image: &[u8], arguments: Arguments, number: u8) {
-    let accepted = is_accepted_otherwise(image, arguments, number);
-    if accepted {
-        if arguments.layout.magic {
+fn show_otherwise(card: Card, refusal: Refusal) {
+    if is_accepted_otherwise(card, refusal) {
+        if card.arguments.layout.magic {
             say(b"  accepted without --magic");
         } else {
             say(b"  accepted with --magic");
         }
     }
-    let accepted = is_accepted_by_length(image, arguments, number);
-    if accepted {
-        let size = size::by_length(image.len());
-        line::of(b"  accepted with --size #", [size as u64, 0, 0, 0]).print();
+    if is_accepted_by_length(card, refusal) {
+        let size = size::by_length(card.image.len());
+        line::of(b"  accepted with --size #", [u64::from(size), 0, 0, 0]).print();
     }
-    let accepted = is_accepted_in_other(image, arguments, number);
-    if accepted {
-        show_other_edition(arguments.first_edition);
+    if is_accepted_in_other(card, refusal) {
+        show_other_edition(card.arguments.first_edition);
     }
 }
 
 // Whether the SROM CRC that is stored is the board's.
+#[tactic(auto, using(crate::proofs::Accepted::crc_or_zero), unfolding(crate::specs::Layouts::has_srom_crc))]
 pub fn has_srom_crc(image: &[u8], layout: Layout) -> bool
     ensures { result ≡ has_srom_crc layout image.now }
 {
-    let stored = word_at(image, layout.checked_length());
-    stored == crc::srom_crc(image, layout).value
+    word_at(image, layout.checked_length()) == crc::srom_crc(image, layout).unwrap_or(0)
 }
 
 // ## The verdict
 
-// The field that a refusal from 1 to 5 is about.
-fn show_image_field(image: &[u8], arguments: Arguments, number: u8) {
-    let layout = arguments.layout;
-    match number {
-        refusal::IMAGE_LENGTH => show_length(image),
-        refusal::VERSION => show_version(image, arguments.first_edition),
-        refusal::SROM_CRC => show_srom_crc(image, layout),
-        refusal::ID_CRC => show_id_crc(image, layout.size),
-        _ => show_count(image, layout),
-    }
-}
-
-// A connection type that is not read; of an image of version 1 the edition decides.
-fn show_unread(image: &[u8], arguments: Arguments) {
-    show_connection(image, arguments.controller);
-    let first = header::is_first_version(image);
-    if first {
-        show_version(image, arguments.first_edition);
-    }
-}
-
-// The field that a refusal from 6 to 11 is about. Chip and level are no part of the image.
-fn show_leaf_field(image: &[u8], arguments: Arguments, number: u8) {
-    let layout = arguments.layout;
-    let controller = arguments.controller;
-    match number {
-        refusal::CONTROLLER => show_count(image, layout),
-        refusal::ADDRESS => show_address(image),
-        refusal::LEAF_HEADER => show_leaf(image, layout, controller),
-        refusal::CONNECTION_TYPE => show_unread(image, arguments),
-        _ => {}
-    }
-}
-
 // Why a type is not permitted, where that is for the version.
 fn show_type(image: &[u8]) {
-    let first = header::is_first_version(image);
-    if first {
+    if header::is_first_version(image) {
         say(b"  version 1 has no extended blocks");
     }
 }
 
-// The block that a refusal from 13 to 17 is about.
-fn show_block(image: &[u8], arguments: Arguments, number: u8) {
-    show_refused_block(image, arguments);
-    if number == refusal::BLOCK_END {
-        show_leaves_end(arguments.layout);
-    }
-    if number == refusal::BLOCK_TYPE {
-        show_type(image);
-    }
-}
-
-// Whether a refusal is about several blocks.
-fn is_clash(number: u8) -> bool {
-    if number == refusal::CLASH {
-        return true;
-    }
-    number == refusal::REPEATED_MODE
-}
-
 // What a refusal of the reader is about: a field of the header, a block, the blocks that clash, or a field of the Magic
-// Packet block.
-fn show_where(image: &[u8], arguments: Arguments, number: u8) {
-    if number <= refusal::CONTROLLER_COUNT {
-        show_image_field(image, arguments, number);
-    } else if number <= refusal::CONNECTION_TYPE {
-        show_leaf_field(image, arguments, number);
-    } else if number < refusal::CLASH {
-        show_block(image, arguments, number);
-    } else if is_clash(number) {
-        let blocks = header::read_header(image, arguments).blocks;
-        show_clashes(image, arguments, number, blocks);
-    } else if number == refusal::FIRST_VERSION_CHIP {
-        show_version(image, arguments.first_edition);
-    } else {
-        show_magic_field(image, arguments.layout.size, number);
+// Packet block. Chip and level are no part of the image.
+fn show_where(card: Card, refusal: Refusal) {
+    let Card { image, arguments } = card;
+    let layout = arguments.layout;
+    match refusal {
+        Refusal::ImageLength => show_length(image),
+        Refusal::Version | Refusal::FirstVersionChip => show_version(card),
+        Refusal::SromCrc => show_srom_crc(image, layout),
+        Refusal::IdCrc => show_id_crc(image, layout.size),
+        Refusal::ControllerCount | Refusal::Controller => show_count(image, layout),
+        Refusal::Address => show_address(image),
+        Refusal::LeafHeader => show_leaf(card),
+        Refusal::ConnectionType => show_unread(card),
+        Refusal::BlockEnd => {
+            show_refused_block(card);
+            show_leaves_end(layout);
+        }
+        Refusal::BlockType => {
+            show_refused_block(card);
+            show_type(image);
+        }
+        Refusal::BlockLength | Refusal::BlockCode | Refusal::Advertisement => {
+            show_refused_block(card);
+        }
+        Refusal::Clash | Refusal::RepeatedMode => show_clashes(card, refusal),
+        Refusal::MagicCrc | Refusal::MagicReserved => {
+            show_magic_field(image, layout.size, refusal);
+        }
+        _ => {}
     }
 }
 
 // A refusal in words, without its place.
-pub fn show_refusal(number: u8) {
-    line::of(b"REFUSED #: ", [number as u64, 0, 0, 0]).show(STDOUT);
-    words::show_refusal(number, STDOUT);
+pub fn show_refusal(refusal: Refusal) {
+    line::of(b"REFUSED #: ", [u64::from(refusal.number()), 0, 0, 0]).show(STDOUT);
+    words::show_refusal(refusal, STDOUT);
     say(b"");
 }
 
-// A refusal that names its size, where it was given.
-pub fn show_refused_size(number: u8, given: bool, size: u16) {
-    show_refusal(number);
-    let named = size::is_named(given, size);
-    if named {
-        line::of(b"  size #", [size as u64, 0, 0, 0]).print();
+// A refusal with the size that is asked for, where it is named.
+pub fn show_refused_size(refusal: Refusal, named: Option<u16>) {
+    show_refusal(refusal);
+    if let Some(size) = named {
+        line::of(b"  size #", [u64::from(size), 0, 0, 0]).print();
     }
 }
 
 // A refusal with the arguments of its reading.
-pub fn show_refused_reading(arguments: Arguments, given: bool, number: u8) {
-    show_refusal(number);
-    arguments_words(Line::new().to(2), arguments, given).print();
+pub fn show_refused_reading(arguments: Arguments, named: Option<u16>, refusal: Refusal) {
+    show_refusal(refusal);
+    arguments_words(Line::new().to(2), arguments, named).print();
 }
 
 // A refused reading: the number, what it means, and where.
-pub fn show_refused(image: &[u8], arguments: Arguments, given: bool, number: u8) {
-    show_refused_reading(arguments, given, number);
-    show_where(image, arguments, number);
-    show_otherwise(image, arguments, number);
+pub fn show_refused(card: Card, named: Option<u16>, refusal: Refusal) {
+    show_refused_reading(card.arguments, named, refusal);
+    show_where(card, refusal);
+    show_otherwise(card, refusal);
 }

@@ -1,33 +1,32 @@
 // The size of the ROM whose bytes a file holds.
 ghost use Rattle.std.specs.Prelude.{◌≡◌};
-ghost use Rattle.report.specs.Sizes.{size_by_length, size_for, is_named};
+ghost use Rattle.report.specs.Sizes.{size_by_length, size_for, named_size};
 
 // By the file's length. One that is no ROM's counts as the smaller, for which it is refused.
+#[tactic(auto, unfolding(crate::specs::Sizes::size_by_length, rom::specs::Bytes::pick))]
 pub(crate) fn by_length(length: usize) -> u16
     ensures { result ≡ size_by_length length }
 {
     if length == rom::LARGE_LENGTH {
-        return rom::LARGE_SIZE;
+        rom::LARGE_SIZE
+    } else {
+        rom::SMALL_SIZE
     }
-    rom::SMALL_SIZE
 }
 
 // What --size says, where it is given, or else what the length does.
-pub fn size_for(given: bool, said: u16, length: usize) -> u16
-    ensures { result ≡ size_for given said length }
+#[tactic(auto, unfolding(crate::specs::Sizes::size_for))]
+pub fn size_for(said: Option<u16>, length: usize) -> u16
+    ensures { result ≡ size_for said length }
 {
-    if given {
-        return said;
-    }
-    by_length(length)
+    said.unwrap_or(by_length(length))
 }
 
-// Whether a verdict names it: it was given, or is not the smaller.
-pub(crate) fn is_named(given: bool, size: u16) -> bool
-    ensures { result ≡ is_named given size }
+// The size that a verdict names: it was given, or is not the smaller.
+#[tactic(auto, unfolding(crate::proofs::Computes::named_size_computes))]
+pub fn named(said: Option<u16>, length: usize) -> Option<u16>
+    ensures { result ≡ named_size said length }
 {
-    if given {
-        return true;
-    }
-    size != rom::SMALL_SIZE
+    let size = size_for(said, length);
+    (said.is_some() || size != rom::SMALL_SIZE).then_some(size)
 }

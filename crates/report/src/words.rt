@@ -1,87 +1,64 @@
-// Words for numbers: the one table of each. Media, connection types, the bits of a Magic command and those of a mode byte are
-// named as 000 names them. Those of refusals end what they stand in, and go to a file.
-ghost use Rattle.std.specs.Prelude.{◌≡◌, ◌++◌};
+// Words for numbers: the one list of each. Media, connection types, the bits of a Magic command and those of a mode byte are
+// named as 000 names them.
+ghost use Rattle.std.specs.Prelude.{◌≡◌, ◌++◌, map};
 ghost use Rattle.text.specs.Written.{text_of, fitted};
 ghost use Rattle.report.specs.Words.{media_words, connection_words, kind_words, medium_words};
-ghost use Rattle.report.specs.Words.{table_words, command_words, mode_words};
+ghost use Rattle.report.specs.Words.{set_names, command_words, mode_words};
 
 use block::chip;
+use rom::Refusal;
+use std::io::{Cursor, Write};
 use text::line::Line;
-use text::slice::byte_at;
-use text::{decimal_words, hex_words};
+use text::slice::{byte_at, part};
 
-// Document 01, 'Why a call is refused', and document 02; in words that fit every layout.
-pub fn show_refusal(number: u8, file: i32) {
-    let words = decimal_words(
-        b"0 accepted
-1 the image's length or its stated size is wrong
-2 the format version is neither 1, 3 nor 4
-3 the SROM CRC is wrong
-4 the ID CRC is wrong
-5 the controller count is 0 or too high, or the reserved byte is not 0
-6 the card has no such controller
-7 no such chip
-8 the level is over 7
-9 the controller's address is over 48 bits
-10 the leaf's header is outside its bounds
-11 the connection type is none of the chip's, or of the other edition
-12 the room that is lent is too short
-13 the block runs into the maker's bytes
-14 the block's length is 0, or chip or version does not permit its type
-15 the block's length is wrong for its type
-16 the block's media code or one of its reserved bits is wrong
-17 the PHY advertises what it is not capable of
-18 two resets, a reset and a PHY's own, or two default media
-19 the report is too short, or has a byte above 1
-20 the walk is fresh: nothing is loaded
-21 the walk is loaded already
-23 65,535 looks have been taken
-24 the sheet's length is wrong, or the sum of its sizes is
-25 a kind, a body or the control byte is wrong in the sheet
-26 the leaf would run into the maker's bytes
-27 the image is not tidy, so a sheet would lose some of it
-29 the CRC of the Magic Packet block is wrong
-30 a reserved byte of the Magic Packet block is not 0
-31 a bit of the mode byte is set in two power blocks
-32 no listed block has the fixed medium
-33 the sheet has over 255 blocks, or too many body bytes to be narrowed
-38 the format version is 1, which has the 21041 and the 21140 alone
-",
-        number as u64,
-    );
-    io::write_all(file, words);
+// The words of every refusal are shorter.
+const ROOM: usize = 128;
+
+// The words of a refusal end what they stand in, and go to a file.
+pub fn show_refusal(refusal: Refusal, file: i32) {
+    let mut cursor = Cursor::new([0u8; ROOM]);
+    let _ = write!(cursor, "{refusal}");
+    let length = cursor.position() as usize;
+    let room = cursor.into_inner();
+    io::write_all(file, part(&room, 0, length));
+}
+
+fn medium_name(code: u8) -> &'static [u8]
+    ensures { result.now ≡ media_words code }
+{
+    match code {
+        0 => b"10BaseT",
+        1 => b"10Base2 (BNC)",
+        2 => b"10Base5 (AUI)",
+        3 => b"100BaseTx",
+        4 => b"10BaseT full duplex",
+        5 => b"100BaseTx full duplex",
+        6 => b"100BaseT4",
+        7 => b"100BaseFx",
+        8 => b"100BaseFx full duplex",
+        _ => b"",
+    }
 }
 
 pub fn media_words(line: Line, code: u8) -> Line
     ensures { text_of result ≡ fitted (text_of line ++ media_words code) }
 {
-    line.text(decimal_words(
-        b"0 10BaseT
-1 10Base2 (BNC)
-2 10Base5 (AUI)
-3 100BaseTx
-4 10BaseT full duplex
-5 100BaseTx full duplex
-6 100BaseT4
-7 100BaseFx
-8 100BaseFx full duplex
-",
-        code as u64,
-    ))
+    line.text(medium_name(code))
 }
 
 // A connection type's code; one of edition 1.00 with what it is since.
+#[tactic(auto, using(crate::proofs::Names::two, crate::proofs::Names::none_more), unfolding(crate::proofs::Computes::connection_computes))]
 pub fn connection_words(line: Line, connection: u16) -> Line
     ensures { text_of result ≡ fitted (text_of line ++ connection_words connection) }
 {
     let taken = chip::taken_as(connection);
-    let line = line.with(b"@", [connection as u64, 0, 0, 0]);
+    let line = line.with(b"@", [u64::from(connection), 0, 0, 0]);
     if taken == connection {
         return line;
     }
     line.with(
         b", in edition 1.00 what @ is since",
-        [taken as u64, 0, 0, 0],
+        [u64::from(taken), 0, 0, 0],
     )
 }
 
@@ -95,133 +72,127 @@ pub fn connection_line(name: &[u8], connection: u16) -> Line {
     Line::new().to(name.len())
 }
 
+fn connection_name(connection: u16) -> &'static [u8] {
+    match connection {
+        0x0000 => b"10BaseT",
+        0x0100 => b"10BaseT with Nway",
+        0x0204 => b"10BaseT full duplex",
+        0x0400 => b"10BaseT without link pass test",
+        0x0001 => b"10Base2 (BNC)",
+        0x0002 => b"10Base5 (AUI)",
+        0x0003 => b"100BaseTx",
+        0x0205 => b"100BaseTx full duplex",
+        0x0006 => b"100BaseT4",
+        0x0007 => b"100BaseFx",
+        0x0208 => b"100BaseFx full duplex",
+        0x0009 => b"MII 10BaseT",
+        0x020a => b"MII 10BaseT full duplex",
+        0x000d => b"MII 100BaseTx",
+        0x020e => b"MII 100BaseTx full duplex",
+        0x000f => b"MII 100BaseT4",
+        0x0010 => b"MII 100BaseFx",
+        0x0211 => b"MII 100BaseFx full duplex",
+        0x0800 => b"autosense, at power-up and later",
+        0x8800 => b"autosense at power-up only",
+        0x0900 => b"autosense with Nway",
+        0xffff => b"none selected",
+        _ => b"",
+    }
+}
+
 // Ends a line with a connection type, by what it is taken as.
 pub fn show_connection(line: Line, connection: u16) {
-    line.text(hex_words(
-        b"0000 10BaseT
-0100 10BaseT with Nway
-0204 10BaseT full duplex
-0400 10BaseT without link pass test
-0001 10Base2 (BNC)
-0002 10Base5 (AUI)
-0003 100BaseTx
-0205 100BaseTx full duplex
-0006 100BaseT4
-0007 100BaseFx
-0208 100BaseFx full duplex
-0009 MII 10BaseT
-020a MII 10BaseT full duplex
-000d MII 100BaseTx
-020e MII 100BaseTx full duplex
-000f MII 100BaseT4
-0010 MII 100BaseFx
-0211 MII 100BaseFx full duplex
-0800 autosense, at power-up and later
-8800 autosense at power-up only
-0900 autosense with Nway
-ffff none selected
-",
-        chip::taken_as(connection),
-    ))
-    .print();
+    line.text(connection_name(chip::taken_as(connection)))
+        .print();
 }
 
 // A block's kind: an extended type, or one of the two forms without.
+#[tactic(auto, using(crate::proofs::Names::two), unfolding(crate::specs::Words::kind_words, rom::specs::Bytes::pick))]
 pub fn kind_words(line: Line, kind: u16) -> Line
     ensures { text_of result ≡ fitted (text_of line ++ kind_words kind) }
 {
-    if kind == block::KIND_COMPACT {
-        return line.text(b"compact");
+    match kind {
+        block::KIND_COMPACT => line.text(b"compact"),
+        block::KIND_21041 => line.text(b"21041"),
+        _ => line.text(b"type ").decimal(u64::from(kind)),
     }
-    if kind == block::KIND_21041 {
-        return line.text(b"21041");
-    }
-    line.text(b"type ").decimal(kind as u64)
 }
 
 // What a listed block stands for: a medium by its code, or a PHY by its number.
+#[tactic(auto, unfolding(crate::specs::Words::medium_words, rom::specs::Bytes::pick))]
 pub fn medium_words(line: Line, bytes: &[u8], kind: u16) -> Line
     ensures { text_of result ≡ fitted (text_of line ++ medium_words bytes.now kind) }
 {
     if block::KIND_COMPACT <= kind {
-        return media_words(line, byte_at(bytes, 0) % 64);
+        media_words(line, byte_at(bytes, 0) % 64)
+    } else if kind % 2 == 1 {
+        line.with(b"MII PHY #", [u64::from(byte_at(bytes, 2)), 0, 0, 0])
+    } else {
+        media_words(line, byte_at(bytes, 2) % 64)
     }
-    if kind % 2 == 1 {
-        return line.with(b"MII PHY #", [byte_at(bytes, 2) as u64, 0, 0, 0]);
-    }
-    media_words(line, byte_at(bytes, 2) % 64)
 }
 
-// The names of the bits that are set, by a table: the first behind one text, the others behind another.
-fn bit_words<'a>(line: Line, bits: u16, table: &[u8], first: &'a [u8], other: &'a [u8]) -> Line
-    ensures { text_of result ≡ fitted (text_of line ++ table_words table.now first.now other.now bits) }
+// The names of bits, from bit 0 on. One that must be 0 has its number alone.
+const COMMAND_BITS: [&[u8]; 16] = [
+    b"MAGIC_DIS",
+    b"Sec_ON_En",
+    b"bit 2",
+    b"BNC",
+    b"AUI/HR",
+    b"TP10",
+    b"MII",
+    b"SYM",
+    b"LOCK",
+    b"bit 9",
+    b"bit 10",
+    b"bit 11",
+    b"bit 12",
+    b"bit 13",
+    b"bit 14",
+    b"bit 15",
+];
+
+const MODE_BITS: [&[u8]; 8] = [
+    b"link fail",
+    b"D1",
+    b"D2",
+    b"D3",
+    b"bit 4",
+    b"bit 5",
+    b"bit 6",
+    b"bit 7",
+];
+
+// The names of the bits that are set: the first behind one text, the others behind another.
+fn bit_words<'a>(line: Line, bits: u16, names: &[&[u8]], first: &'a [u8], other: &'a [u8]) -> Line
+    ensures { text_of result ≡ fitted (text_of line ++ set_names (map (λ n. n.now) names.now) first.now other.now bits) }
 {
     let mut line = line;
     let mut before = first;
     let mut bits = bits;
-    let mut bit = 0u8;
-    while bit < 16 {
-        let set = bits % 2 == 1;
-        let name = decimal_words(table, bit as u64);
-        bits = bits / 2;
-        bit += 1;
-        if set {
+    for name in names {
+        if bits % 2 == 1 {
             line = line.text(before).text(name);
             before = other;
         }
+        bits /= 2;
     }
     line
 }
 
-// The bits of a Magic command that are set. One that must be 0 has its number alone.
+// The bits of a Magic command that are set.
 pub fn command_words(line: Line, command: u16) -> Line
     ensures { text_of result ≡ fitted (text_of line ++ command_words command) }
 {
-    bit_words(
-        line,
-        command,
-        b"0 MAGIC_DIS
-1 Sec_ON_En
-2 bit 2
-3 BNC
-4 AUI/HR
-5 TP10
-6 MII
-7 SYM
-8 LOCK
-9 bit 9
-10 bit 10
-11 bit 11
-12 bit 12
-13 bit 13
-14 bit 14
-15 bit 15
-",
-        b" ",
-        b" ",
-    )
+    bit_words(line, command, &COMMAND_BITS, b" ", b" ")
 }
 
-// When a power block applies: the bits of its mode byte that are set. One that must be 0 has its number alone.
+// When a power block applies: the bits of its mode byte that are set.
 pub fn mode_words(line: Line, mode: u8) -> Line
     ensures { text_of result ≡ fitted (text_of line ++ mode_words mode) }
 {
     if mode == 0 {
         return line.text(b" none");
     }
-    bit_words(
-        line,
-        mode as u16,
-        b"0 link fail
-1 D1
-2 D2
-3 D3
-4 bit 4
-5 bit 5
-6 bit 6
-7 bit 7
-",
-        b" ",
-        b", ",
-    )
+    bit_words(line, u16::from(mode), &MODE_BITS, b" ", b", ")
 }

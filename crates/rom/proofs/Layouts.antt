@@ -87,6 +87,9 @@ geometry l = all (go l.magic).0 (go l.magic).1
           small = s.small;
         }
 
+pub board_room : (l : Layout) → 38 ≤ board_length l
+board_room l = let g = geometry l in omega arith
+
 -- ## Refusal 1
 
 -- an image that is not refused for its length has that of its size

@@ -8,3 +8,4 @@ pub mod Put
 pub mod Zeros
 pub mod Below
 pub mod Lists
+pub mod Refusals

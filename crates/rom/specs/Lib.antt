@@ -3,3 +3,4 @@ pub mod Bytes
 pub mod Store
 pub mod Refusal
 pub mod Claims
+pub mod Numbers

@@ -4,10 +4,14 @@
 pub mod refusal;
 pub mod store;
 
-ghost use Rattle.std.specs.Prelude.{◌≡◌, ◌+◌, ◌*◌, ◌<◌};
+ghost use Rattle.std.specs.Prelude.{◌≡◌, ◌+◌, ◌*◌, ◌<◌, [], ◌∷◌};
 ghost use Rattle.rom.specs.Geometry.{image_length, magic_at, magic_word, board_length, checked_length, leaves_end};
 ghost use Rattle.rom.specs.Geometry.{most_controllers, is_size, wrong_length};
 ghost use Rattle.rom.specs.Bytes.{byte_at, word_at, all_zero};
+ghost use Rattle.rom.specs.Refusal.{◌⇒◌, first_met};
+ghost use Rattle.rom.specs.Numbers.{answer_number};
+
+pub use refusal::Refusal;
 
 // ## Geometry (document 01, 'The image'; document 02, requests 1 and 6)
 
@@ -33,6 +37,7 @@ pub const LARGE_LENGTH: usize = LARGE_SIZE as usize;
 pub const MAGIC_LENGTH: usize = 32;
 
 // Whether an image can have so many bytes.
+#[tactic(auto, unfolding(crate::specs::Geometry::is_size))]
 fn is_size(size: usize) -> bool
     ensures { result ≡ is_size size }
 {
@@ -40,6 +45,7 @@ fn is_size(size: usize) -> bool
 }
 
 // Whether an image of that length is refused with 1: it is not the stated size, or that is none of the two.
+#[tactic(auto, unfolding(crate::specs::Geometry::wrong_length, crate::specs::Geometry::is_size))]
 pub fn is_wrong_length(size: u16, length: usize) -> bool
     ensures { result ≡ wrong_length size length }
 {
@@ -50,25 +56,39 @@ pub fn is_wrong_length(size: u16, length: usize) -> bool
     }
 }
 
+// The same as a call that is refused by it.
+#[tactic(auto, unfolding(crate::specs::Refusal::first_met, crate::specs::Bytes::pick))]
+pub fn check_length(size: u16, length: usize) -> Result<(), Refusal>
+    ensures { answer_number result ≡ first_met ((1 ⇒ wrong_length size length) ∷ []) }
+{
+    if is_wrong_length(size, length) {
+        return Err(Refusal::ImageLength);
+    }
+    Ok(())
+}
+
 // The bytes of an image of a stated size. One of neither size is refused before anything goes by it, and counts as the smaller.
+#[tactic(auto, unfolding(crate::specs::Geometry::image_length, crate::specs::Bytes::pick))]
 pub fn image_length(size: u16) -> usize
     ensures { result ≡ image_length size }
 {
-    let length = size as usize;
-    let known = is_size(length);
-    if known {
-        return length;
+    let length = usize::from(size);
+    if is_size(length) {
+        length
+    } else {
+        SMALL_LENGTH
     }
-    SMALL_LENGTH
 }
 
 // Where a Magic Packet block starts.
+#[tactic(auto, using(crate::proofs::Layouts::sized), unfolding(crate::specs::Geometry::magic_at))]
 pub fn magic_at(size: u16) -> usize
     ensures { result ≡ magic_at size }
 {
     image_length(size) - MAGIC_LENGTH
 }
 
+#[tactic(auto, using(crate::proofs::Layouts::sized), unfolding(crate::specs::Geometry::magic_word))]
 pub fn magic_word(size: u16) -> WordNumber
     ensures { result.0 ≡ magic_word size }
 {
@@ -77,16 +97,19 @@ pub fn magic_word(size: u16) -> WordNumber
 
 impl Layout {
     // The board's part of an image: all of it, or what stands before the Magic Packet block.
+    #[tactic(auto, unfolding(crate::specs::Geometry::board_length, crate::specs::Bytes::pick))]
     pub fn board_length(self) -> usize
         ensures { result ≡ board_length self }
     {
         if self.magic {
-            return magic_at(self.size);
+            magic_at(self.size)
+        } else {
+            image_length(self.size)
         }
-        image_length(self.size)
     }
 
     // The bytes that the SROM CRC covers; it stands behind them, in the board's last word.
+    #[tactic(auto, using(crate::proofs::Layouts::board_room), unfolding(crate::specs::Geometry::checked_length))]
     pub fn checked_length(self) -> usize
         ensures { result ≡ checked_length self }
     {
@@ -94,23 +117,22 @@ impl Layout {
     }
 
     // Leaves end, with all their blocks, before the maker's two bytes.
+    #[tactic(auto, using(crate::proofs::Layouts::board_room), unfolding(crate::specs::Geometry::leaves_end))]
     pub fn leaves_end(self) -> usize
         ensures { result ≡ leaves_end self }
     {
         self.board_length() - 4
     }
 
+    #[tactic(auto, unfolding(crate::specs::Geometry::most_controllers, crate::specs::Bytes::pick))]
     pub fn most_controllers(self) -> u8
         ensures { result ≡ most_controllers self }
     {
-        let length = image_length(self.size);
-        if length != SMALL_LENGTH {
-            return 32;
+        if image_length(self.size) == SMALL_LENGTH && self.magic {
+            20
+        } else {
+            32
         }
-        if self.magic {
-            return 20;
-        }
-        32
     }
 }
 
@@ -147,14 +169,14 @@ impl WordNumber {
     pub fn low_byte(self) -> ByteOffset
         ensures { result.0 ≡ 2 * self.0 }
     {
-        ByteOffset(2 * (self.0 as usize))
+        ByteOffset(2 * usize::from(self.0))
     }
 
     // Where the word's high byte stands.
     pub fn high_byte(self) -> ByteOffset
         ensures { result.0 ≡ 2 * self.0 + 1 }
     {
-        ByteOffset(2 * (self.0 as usize) + 1)
+        ByteOffset(2 * usize::from(self.0) + 1)
     }
 }
 
@@ -162,43 +184,29 @@ impl WordNumber {
 pub fn byte_at(bytes: &[u8], at: ByteOffset) -> u8
     ensures { result ≡ byte_at bytes.now at.0 }
 {
-    let i = at.0;
-    if i < bytes.len() {
-        return bytes[i];
-    }
-    0
+    bytes.get(at.0).copied().unwrap_or(0)
 }
 
 // A byte as a count, 0 past the end.
 pub fn count_at(bytes: &[u8], at: usize) -> usize
     ensures { (result ≡ byte_at bytes.now at) × (result < 256) }
 {
-    byte_at(bytes, ByteOffset(at)) as usize
+    usize::from(byte_at(bytes, ByteOffset(at)))
 }
 
 // The word whose low byte stands at an offset, with zeros past the end.
 pub fn word_at(bytes: &[u8], at: ByteOffset) -> u16
     ensures { result ≡ word_at bytes.now at.0 }
 {
-    let i = at.0;
-    if bytes.len() <= i {
+    if bytes.len() <= at.0 {
         return 0;
     }
-    let low = byte_at(bytes, at);
-    let high = byte_at(bytes, ByteOffset(i + 1));
-    (low as u16) + 256 * (high as u16)
+    u16::from(byte_at(bytes, at)) + 256 * u16::from(byte_at(bytes, ByteOffset(at.0 + 1)))
 }
 
 // Whether all bytes are 0.
 pub fn all_zero(bytes: &[u8]) -> bool
     ensures { result ≡ all_zero bytes.now }
 {
-    let mut i = 0;
-    while i < bytes.len() {
-        if bytes[i] != 0 {
-            return false;
-        }
-        i += 1;
-    }
-    true
+    bytes.iter().all(|byte| *byte == 0)
 }

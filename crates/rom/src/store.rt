@@ -7,9 +7,8 @@ use super::ByteOffset;
 pub fn put_byte(out: &mut [u8], at: ByteOffset, byte: u8)
     ensures { out.new ≡ laid out.old at.0 (byte ∷ []) }
 {
-    let i = at.0;
-    if i < out.len() {
-        out[i] = byte;
+    if at.0 < out.len() {
+        out[at.0] = byte;
     }
 }
 
@@ -17,27 +16,14 @@ pub fn put_bytes(out: &mut [u8], at: ByteOffset, source: &[u8])
     ensures { out.new ≡ laid out.old at.0 source.now }
 {
     let start = at.0;
-    if out.len() < start {
-        return;
+    if start <= out.len() && source.len() <= out.len() - start {
+        out[start..start + source.len()].copy_from_slice(source);
     }
-    if out.len() - start < source.len() {
-        return;
-    }
-    let end = start + source.len();
-    out[start..end].copy_from_slice(source);
 }
 
 // Low byte first.
 pub fn put_word(out: &mut [u8], at: ByteOffset, word: u16)
     ensures { out.new ≡ laid out.old at.0 (word_bytes word) }
 {
-    let start = at.0;
-    if out.len() < start {
-        return;
-    }
-    if out.len() - start < 2 {
-        return;
-    }
-    out[start] = (word % 256) as u8;
-    out[start + 1] = (word / 256) as u8;
+    put_bytes(out, at, &word.to_le_bytes());
 }

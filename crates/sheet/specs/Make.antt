@@ -1,8 +1,10 @@
 -- The sheet maker: why it refuses an image, and the buffer after its call (document 01, 'The sheet', 'Why a call is refused').
-use Rattle.std.specs.Prelude.{ℕ, List, [], ◌∷◌, ◌++◌, Bool, not, length, eqb, ltb}
+use Rattle.std.specs.Prelude.{ℕ, List, [], ◌∷◌, ◌++◌, Bool, not, length, eqb, ltb, Result, Ok, Err}
+use Rattle.rom.specs.declared.refusal.Refusal.{Refusal}
 use Rattle.rom.specs.declared.Layout.{Layout}
 use Rattle.rom.specs.Bytes.{pick}
 use Rattle.rom.specs.Refusal.{Cause, ◌⇒◌, first_met}
+use Rattle.rom.specs.Numbers.{refusal_number}
 use Rattle.reader.specs.Reading.{judge_causes}
 use Rattle.sheet.specs.Lists.{over}
 use Rattle.sheet.specs.declared.Form.{Form}
@@ -36,11 +38,12 @@ unfoldable pub made : Form → Layout → Bool → List ℕ → ℕ → List ℕ
 made form l edition image chip buffer =
     pick (eqb (make_number form l edition image chip (length buffer)) 0) (over buffer (sheet_for form l image chip)) buffer
 
--- what a refusal answers: its number, and no length
-unfoldable pub refused_made : ℕ → Made
-refused_made n = record { number = n; length = 0 }
-
 -- what is answered
 unfoldable pub made_for : Form → Layout → Bool → List ℕ → ℕ → ℕ → Made
 made_for form l edition image chip room =
     record { number = make_number form l edition image chip room; length = make_length form l edition image chip room }
+
+-- a length, or a refusal, as a C caller gets it
+abbrev pub made_of : Result ℕ Refusal → Made
+made_of (Ok n) = record { number = 0; length = n }
+made_of (Err r) = record { number = refusal_number r; length = 0 }

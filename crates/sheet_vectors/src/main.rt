@@ -5,11 +5,12 @@
 // the edition (1 for 1.00, 0 for 1.01), and the block that the output holds before; then the sheet's bytes.
 #![tactic(auto)]
 
+use forms::RawSheet;
 use rom::store::put_bytes;
-use rom::{ByteOffset, Layout};
-use sheet::{Form, Made};
-use text::line::{STDIN, STDOUT};
-use text::slice::part;
+use rom::{ByteOffset, Layout, Refusal};
+use sheet::Form;
+use text::slice::{part, word_at};
+use vectors::{Record, print, print_bytes};
 
 // The bytes of a record before the block.
 const BLOCK_AT: usize = 13;
@@ -17,152 +18,87 @@ const BLOCK_AT: usize = 13;
 // The bytes of a record before the sheet's.
 const HEAD: usize = BLOCK_AT + rom::MAGIC_LENGTH;
 
-// What a record says beside its block and its sheet.
-#[derive(Drop)]
-struct Record {
-    chip: u16,
-    form: Form,
-    is_converted: bool,
-    layout: Layout,
-    is_large: bool,
-    first_edition: bool,
-    room: usize,
-}
-
-fn print_refusal(number: u8) {
-    io::write_all(STDOUT, b"refused ");
-    io::print_decimal(STDOUT, number as u64);
-    io::write_all(STDOUT, b"\n");
-}
-
 fn print_line(bytes: &[u8]) {
-    vectors::print_bytes(bytes);
-    io::write_all(STDOUT, b"\n");
+    print_bytes(bytes);
+    print(b"\n");
 }
 
-fn print_front(bytes: &[u8], length: usize) {
-    if bytes.len() < length {
-        return;
-    }
-    print_line(&bytes[..length]);
+fn print_refused(refusal: Refusal) {
+    vectors::print_refusal(refusal);
+    print(b"\n");
 }
 
-fn print_made(buffer: &[u8], made: Made) {
-    if made.number != rom::refusal::ACCEPTED {
-        print_refusal(made.number);
-        return;
-    }
-    print_front(buffer, made.length);
-}
-
-fn convert(sheet: &[u8], form: Form, buffer: &mut [u8]) -> Made {
-    match form {
-        Form::Narrow => converter::widen(sheet, buffer),
-        Form::Wide => converter::narrow(sheet, buffer),
+fn print_made(buffer: &[u8], made: Result<usize, Refusal>) {
+    match made {
+        Ok(length) => print_line(part(buffer, 0, length)),
+        Err(refusal) => print_refused(refusal),
     }
 }
 
-// The sheet written to an image of a size, and the sheet of that image again.
-fn print_written(sheet: &[u8], record: Record, image: &mut [u8], buffer: &mut [u8]) {
-    let form = record.form;
-    let number = writer::write(sheet, form, record.layout, record.first_edition, image);
-    if number != rom::refusal::ACCEPTED {
-        print_refusal(number);
-        if number != rom::refusal::IMAGE_LENGTH {
-            return;
-        }
-    } else {
-        print_line(image);
+fn convert(sheet: RawSheet, buffer: &mut [u8]) -> Result<usize, Refusal> {
+    match sheet.form {
+        Form::Narrow => converter::widen(sheet.bytes, buffer),
+        Form::Wide => converter::narrow(sheet.bytes, buffer),
     }
-    let made = maker::make(
-        image,
-        record.chip,
-        form,
-        record.layout,
-        record.first_edition,
-        buffer,
-    );
-    print_made(buffer, made);
 }
 
-fn print_record(sheet: &[u8], record: Record, block: &[u8], buffer: &mut [u8]) {
-    let form = record.form;
-    if record.is_converted {
-        let made = convert(sheet, form, buffer);
-        print_made(buffer, made);
-        return;
-    }
-    if record.is_large {
-        let mut image = [0u8; rom::LARGE_LENGTH];
-        put_bytes(
-            &mut image,
-            ByteOffset(rom::magic_at(rom::LARGE_SIZE)),
-            block,
-        );
-        print_written(sheet, record, &mut image, buffer);
-        return;
-    }
-    let mut image = [0u8; rom::SMALL_LENGTH];
-    put_bytes(
-        &mut image,
-        ByteOffset(rom::magic_at(rom::SMALL_SIZE)),
-        block,
-    );
-    print_written(sheet, record, &mut image, buffer);
-}
-
-// The same with as much of the buffer as the record lends.
-fn print_in_room(sheet: &[u8], record: Record, block: &[u8], buffer: &mut [u8]) {
-    let room = record.room;
-    if buffer.len() < room {
-        return;
-    }
-    print_record(sheet, record, block, &mut buffer[..room]);
-}
-
-fn record_of(head: &[u8]) -> Record {
+// The sheet written to an image of a size, as a record's head says, and the sheet of that image again.
+fn print_written(head: &[u8; HEAD], sheet: RawSheet, image: &mut [u8], buffer: &mut [u8]) {
+    let chip = word_at(head, 6);
     let layout = Layout {
-        size: rom::word_at(head, ByteOffset(2)),
-        magic: rom::byte_at(head, ByteOffset(10)) == 1,
+        size: word_at(head, 2),
+        magic: head[10] == 1,
     };
-    Record {
-        chip: rom::word_at(head, ByteOffset(6)),
-        form: forms::form_of(rom::byte_at(head, ByteOffset(8)) == 1),
-        is_converted: rom::byte_at(head, ByteOffset(9)) == 1,
-        layout,
-        is_large: rom::byte_at(head, ByteOffset(11)) == 1,
-        first_edition: rom::byte_at(head, ByteOffset(12)) == 1,
-        room: rom::word_at(head, ByteOffset(4)) as usize,
+    let first_edition = head[12] == 1;
+    let written = writer::write(sheet, layout, first_edition, image);
+    match written {
+        Ok(()) => print_line(image),
+        Err(refusal) => print_refused(refusal),
+    }
+    if matches!(written, Ok(()) | Err(Refusal::ImageLength)) {
+        let made = maker::make(image, chip, sheet.form, layout, first_edition, buffer);
+        print_made(buffer, made);
     }
 }
 
-// One record; false at the end of the input.
-fn next_record() -> bool {
-    let mut head = [0u8; HEAD];
-    let got = io::read_full(STDIN, &mut head);
-    if got < HEAD {
-        return false;
+// Over an image of a size that has the block of a record's head.
+fn print_over(head: &[u8; HEAD], sheet: RawSheet, size: u16, image: &mut [u8], buffer: &mut [u8]) {
+    put_bytes(image, ByteOffset(rom::magic_at(size)), &head[BLOCK_AT..]);
+    print_written(head, sheet, image, buffer);
+}
+
+fn print_record(head: &[u8; HEAD], sheet: RawSheet, buffer: &mut [u8]) {
+    if head[9] == 1 {
+        let made = convert(sheet, buffer);
+        print_made(buffer, made);
+    } else if head[11] == 1 {
+        let mut image = [0; rom::LARGE_LENGTH];
+        print_over(head, sheet, rom::LARGE_SIZE, &mut image, buffer);
+    } else {
+        let mut image = [0; rom::SMALL_LENGTH];
+        print_over(head, sheet, rom::SMALL_SIZE, &mut image, buffer);
     }
-    let length = rom::word_at(&head, ByteOffset(0)) as usize;
-    let mut sheet = io::buffer();
+}
+
+// A record, with as much of a buffer as it lends.
+fn print_lent(record: &Record<HEAD>) {
+    let head = &record.head;
+    let sheet = RawSheet {
+        bytes: &record.rest,
+        form: Form::from(head[8] == 1),
+    };
     let mut buffer = io::buffer();
-    vectors::read_front(&mut sheet, length);
-    print_in_room(
-        part(&sheet, 0, length),
-        record_of(&head),
-        &head[BLOCK_AT..],
-        &mut buffer,
-    );
-    true
+    let room = usize::from(word_at(head, 4));
+    if room <= buffer.len() {
+        print_record(head, sheet, &mut buffer[..room]);
+    }
 }
 
 fn main() {
-    let mut left: u32 = 1_000_000;
-    while 0 < left {
-        let more = next_record();
-        if !more {
+    for _ in 0..vectors::RECORDS {
+        let Some(record) = vectors::next_record::<HEAD>() else {
             return;
-        }
-        left -= 1;
+        };
+        print_lent(&record);
     }
 }

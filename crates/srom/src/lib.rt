@@ -2,6 +2,7 @@
 #![tactic(auto)]
 
 ghost use Rattle.std.specs.Prelude.{◌≡◌, length};
+ghost use Rattle.rom.specs.Numbers.{answer_number};
 ghost use Rattle.checksum.specs.Answer.{srom_answer, id_answer, magic_answer};
 ghost use Rattle.packet.specs.Answer.{magic_reading, magic_write_number, magic_written};
 ghost use Rattle.reader.specs.Reading.{read_answer, read_kinds, read_offsets, part_for};
@@ -12,19 +13,30 @@ ghost use Rattle.sheet.specs.Form.{form_named};
 ghost use Rattle.sheet.specs.Make.{made, made_for};
 ghost use Rattle.sheet.specs.Convert.{converted_for, converted_in};
 
-use autosense::{Walk, Walked};
-use crc::Checksum;
-use magic::{Magic, MagicAnswer};
+use checksum::Checksum;
+use forms::RawSheet;
+use packet::{Magic, MagicAnswer};
 use reader::{Answer, Arguments, Part};
-use rom::Layout;
-use sheet::Made;
+use rom::{Layout, Refusal};
+use sheet::{Form, Made};
+use walk::{Walk, Walked};
+
+// The number of what a call answers that gives nothing else: a refusal's, or 0.
+fn number_of(answer: Result<(), Refusal>) -> u8
+    ensures { result ≡ answer_number answer }
+{
+    match answer {
+        Ok(()) => 0,
+        Err(refusal) => refusal.number(),
+    }
+}
 
 // The CRC that the last word of an image's board should hold.
 #[unsafe(no_mangle)]
 pub extern "C" fn srom_crc(image: &[u8], layout: Layout) -> Checksum
     ensures { result ≡ srom_answer layout image.now }
 {
-    crc::srom_crc(image, layout)
+    crc::srom_crc(image, layout).into()
 }
 
 // The CRC that byte 16 of an image should hold.
@@ -32,7 +44,7 @@ pub extern "C" fn srom_crc(image: &[u8], layout: Layout) -> Checksum
 pub extern "C" fn srom_id_crc(image: &[u8], size: u16) -> Checksum
     ensures { result ≡ id_answer size image.now }
 {
-    crc::id_crc(image, size)
+    crc::id_crc(image, size).into()
 }
 
 // The CRC that the last byte but one of an image with a Magic Packet block should hold.
@@ -40,7 +52,7 @@ pub extern "C" fn srom_id_crc(image: &[u8], size: u16) -> Checksum
 pub extern "C" fn srom_magic_crc(image: &[u8], size: u16) -> Checksum
     ensures { result ≡ magic_answer size image.now }
 {
-    crc::magic_crc(image, size)
+    crc::magic_crc(image, size).into()
 }
 
 // The media table of a controller's leaf, in two lent arrays.
@@ -55,7 +67,7 @@ pub extern "C" fn srom_read(
     ensures kinds_after { kinds.new ≡ read_kinds image.now arguments kinds.old offsets.old }
     ensures offsets_after { offsets.new ≡ read_offsets image.now arguments kinds.old offsets.old }
 {
-    reader::read(image, arguments, kinds, offsets)
+    reader::read(image, arguments, kinds, offsets).into()
 }
 
 // The block of an entry, as where it starts in the image and how long it is: the part that the Rattle view hands back.
@@ -79,7 +91,12 @@ pub extern "C" fn srom_fresh() -> Walk
 pub extern "C" fn srom_load(walk: Walk, image: &[u8], arguments: Arguments) -> Walked
     ensures { result ≡ load_for walk image.now arguments }
 {
-    autosense::load(walk, image, arguments)
+    let mut next = walk;
+    let answer = autosense::load(&mut next, image, arguments);
+    Walked {
+        number: number_of(answer),
+        walk: next,
+    }
 }
 
 // Looks at the links, one byte a block.
@@ -87,7 +104,12 @@ pub extern "C" fn srom_load(walk: Walk, image: &[u8], arguments: Arguments) -> W
 pub extern "C" fn srom_look(walk: Walk, report: &[u8]) -> Walked
     ensures { result ≡ look_for walk report.now }
 {
-    autosense::look(walk, report)
+    let mut next = walk;
+    let answer = autosense::look(&mut next, report);
+    Walked {
+        number: number_of(answer),
+        walk: next,
+    }
 }
 
 // Makes a walk fresh.
@@ -95,7 +117,12 @@ pub extern "C" fn srom_look(walk: Walk, report: &[u8]) -> Walked
 pub extern "C" fn srom_clear(walk: Walk) -> Walked
     ensures { result ≡ clear_for walk }
 {
-    autosense::clear(walk)
+    let mut next = walk;
+    autosense::clear(&mut next);
+    Walked {
+        number: 0,
+        walk: next,
+    }
 }
 
 // What the Magic Packet block of an image says.
@@ -103,7 +130,7 @@ pub extern "C" fn srom_clear(walk: Walk) -> Walked
 pub extern "C" fn srom_read_magic(image: &[u8], size: u16) -> MagicAnswer
     ensures { result ≡ magic_reading size image.now }
 {
-    magic::read(image, size)
+    magic::read(image, size).into()
 }
 
 // Writes the Magic Packet block of an image.
@@ -112,7 +139,7 @@ pub extern "C" fn srom_write_magic(magic: Magic, image: &mut [u8], size: u16) ->
     ensures value { result ≡ magic_write_number size image.old }
     ensures image_after { image.new ≡ magic_written size magic image.old }
 {
-    magic::write(magic, image, size)
+    number_of(magic::write(magic, image, size))
 }
 
 // Writes the image of a sheet.
@@ -127,7 +154,11 @@ pub extern "C" fn srom_write(
     ensures value { result ≡ write_number (form_named wide) layout first_edition sheet.now image.old }
     ensures image_after { image.new ≡ written (form_named wide) layout first_edition sheet.now image.old }
 {
-    writer::write(sheet, forms::form_of(wide), layout, first_edition, image)
+    let sheet = RawSheet {
+        bytes: sheet,
+        form: Form::from(wide),
+    };
+    number_of(writer::write(sheet, layout, first_edition, image))
 }
 
 // Makes the sheet of a tidy image.
@@ -143,14 +174,7 @@ pub extern "C" fn srom_make_sheet(
     ensures value { result ≡ made_for (form_named wide) layout first_edition image.now chip (length buffer.old) }
     ensures buffer_after { buffer.new ≡ made (form_named wide) layout first_edition image.now chip buffer.old }
 {
-    maker::make(
-        image,
-        chip,
-        forms::form_of(wide),
-        layout,
-        first_edition,
-        buffer,
-    )
+    maker::make(image, chip, Form::from(wide), layout, first_edition, buffer).into()
 }
 
 // Makes a narrow sheet wide.
@@ -159,7 +183,7 @@ pub extern "C" fn srom_widen(sheet: &[u8], buffer: &mut [u8]) -> Made
     ensures value { result ≡ converted_for Narrow sheet.now (length buffer.old) }
     ensures buffer_after { buffer.new ≡ converted_in Narrow sheet.now buffer.old }
 {
-    converter::widen(sheet, buffer)
+    converter::widen(sheet, buffer).into()
 }
 
 // Makes a wide sheet narrow.
@@ -168,5 +192,5 @@ pub extern "C" fn srom_narrow(sheet: &[u8], buffer: &mut [u8]) -> Made
     ensures value { result ≡ converted_for Wide sheet.now (length buffer.old) }
     ensures buffer_after { buffer.new ≡ converted_in Wide sheet.now buffer.old }
 {
-    converter::narrow(sheet, buffer)
+    converter::narrow(sheet, buffer).into()
 }

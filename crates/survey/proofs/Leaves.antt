@@ -8,7 +8,7 @@ use Rattle.rom.specs.Geometry.{none}
 use Rattle.rom.specs.Bytes.{pick}
 use Rattle.rom.specs.Refusal.{first_met}
 use Rattle.image.specs.declared.Arguments.{Arguments}
-use Rattle.header.specs.declared.Header.{Header}
+use Rattle.header.specs.Header.{HeaderAnswer}
 use Rattle.image.specs.Image.{is_first_version, up_to_leaves_end}
 use Rattle.image.specs.Arguments.{row_for, start_for, count_for, header_causes}
 use Rattle.header.specs.Header.{found_header, header_for}
@@ -17,7 +17,7 @@ use Rattle.leaf.specs.Leaf.{cut, first_from, place_by_stepping}
 use Rattle.leaf.proofs.Stepping.{placed-stepping}
 use Rattle.survey.specs.Survey.{has_leaf, no_place, place_at, place_for, is_refused, refused_for}
 
-module _ (image : List ℕ) (a : Arguments) (h : Header) (eh : h ≡ header_for image a) where
+module _ (image : List ℕ) (a : Arguments) (h : HeaderAnswer) (eh : h ≡ header_for image a) where
   -- ## A refused header
 
   module _ (n : h.number ≡ 0 → ⊥) where

@@ -4,13 +4,13 @@ use Prim.Native.Nat.{ℕ, ◌+◌, ◌-◌, ◌≤◌, ◌<◌}
 use native.Mathlib.Omega.{arith}
 use mathlib.Core.List.{List, ◌∷◌}
 use mathlib.Core.Bool.{Bool}
-use mathlib.Core.Path.{◌≡◌, sym, ap, ◌∙◌}
+use mathlib.Core.Path.{◌≡◌, sym, ap, ◌∙◌, refl}
 use lib.ListN.{length, take, drop, drop_of_length-le}
 use lib.Seq.{drop-length}
 use borrow.Author.Tests.{eq-eqb, ne_eqb}
 use Rattle.rom.specs.Geometry.{none}
 use Rattle.rom.specs.Bytes.{pick}
-use Rattle.block.specs.declared.Block.{Block}
+use Rattle.block.specs.Answer.{Verdict}
 use Rattle.format.specs.Block.{size_of, kind_of, refusal_in}
 use Rattle.block.specs.Answer.{block_in, number_of, size_in}
 use Rattle.block.proofs.Seen.{SeenAs, seen_as, seen_size}
@@ -19,14 +19,18 @@ use Rattle.leaf.specs.Leaf.{cut, first_from, place_by_stepping}
 use Rattle.leaf.proofs.Cuts.{cut-more, cut-none, rest_part, size_fits}
 use Rattle.leaf.proofs.Stepping.{Stands}
 use Rattle.survey.specs.Survey.{place_at, is_refused}
+use Rattle.block.specs.declared.Block.{Block}
+use Rattle.block.specs.declared.Block.TheVariants as code
+use Rattle.block.specs.Answer.{found_as}
+
+-- a block that is found is not refused
+pub found-number : (b : Block) → number_of (found_as b) ≡ 0
+found-number (code.Listed m) = refl
+found-number (code.Reset size) = refl
+found-number (code.Power size mode) = refl
+found-number (code.Unknown size) = refl
 
 -- ## Where the next block stands
-
--- nothing lies behind the end
-pub behind-end : (n : ℕ) (s : List ℕ) → length s < n → take (length s - length s) (drop (length s) s) ≡ drop n s
-behind-end n s h =
-    let l : length s ≤ n = omega arith in
-    rest_part (length s) s ∙ drop-length s ∙ sym (drop_of_length-le s l)
 
 -- what `find` answers: z is the size of the block where the steps led, t its kind
 pub find-done : (row first number : ℕ) (s : List ℕ) {k at : ℕ} {rest : List ℕ} {z t : ℕ} → Stands row first s k at rest → k ≡ number
@@ -46,27 +50,21 @@ module _ (first : Bool) (row level : ℕ) (s : List ℕ) (bs : List (List ℕ)) 
   unfolding first_from is_refused pick
   first-later e = simp (eq-eqb (refusal_in first row level s) 0 e)
 
--- an accepted block lies in the rest
-pub refused-fits : (first : Bool) (row level : ℕ) (s : List ℕ) {b : Block} {n z : ℕ} → b ≡ block_in first row level s → n ≡ number_of b
-    → n ≡ 0
-    → z ≡ size_in b → z ≤ length s
-refused-fits first row level s eb en e ez = size_fits row level s (found-later first row level s eb en e) en e ez
-
 -- The steps of `first_refused` in its own terms: b is what the next block is found to be, n its number, z its size.
 module _ (first : Bool) (row level count : ℕ) (s : List ℕ) {k whole : ℕ}
     (inv : first_from (is_refused first row level) k (cut row (count - k) s) ≡ whole) where
-  pub refused-here : {b : Block} {n : ℕ} → k < count → b ≡ block_in first row level s → n ≡ number_of b → (n ≡ 0 → ⊥) → k ≡ whole
+  pub refused-here : {b : Verdict} {n : ℕ} → k < count → b ≡ block_in first row level s → n ≡ number_of b → (n ≡ 0 → ⊥) → k ≡ whole
   refused-here {b} {n} h eb en ne =
       let number = ap number_of eb ∙ (answers-first first row level s).0 in
       sym (first-here first row level s _ k (λ e. ne (en ∙ number ∙ e))) ∙ (rw cut-more at inv)
 
-  pub refused-later : {b : Block} {n z : ℕ} → k < count → b ≡ block_in first row level s → n ≡ number_of b → n ≡ 0 → z ≡ size_in b
-      → first_from (is_refused first row level) (k + 1) (cut row (count - (k + 1)) (take (length s - z) (drop z s))) ≡ whole
+  pub refused-later : {b : Verdict} {n z : ℕ} → k < count → b ≡ block_in first row level s → n ≡ number_of b → n ≡ 0 → z ≡ size_in b
+      → first_from (is_refused first row level) (k + 1) (cut row (count - (k + 1)) (drop z s)) ≡ whole
   refused-later {b} {n} {z} h eb en e ez =
       let v : SeenAs row level s b = rw (found-later first row level s eb en e) (seen_as row level s) in
       let number = ap number_of eb ∙ (answers-first first row level s).0 in
       let f = first-later first row level s _ k (sym number ∙ sym en ∙ e) in
-      rw (rest_part, ez, seen_size v (sym en ∙ e)) (sym f ∙ (rw cut-more at inv))
+      rw (ez, seen_size v (sym en ∙ e)) (sym f ∙ (rw cut-more at inv))
 
   pub refused-nowhere : count ≤ k → none ≡ whole
   unfolding first_from

@@ -1,6 +1,6 @@
 -- The blocks of a leaf by their numbers, for readings that are accepted and for those that are not (document 01, 'Leaf and
 -- blocks': blocks are numbered from 0 as they stand).
-use Rattle.std.specs.Prelude.{ℕ, List, [], Bool, ◌&&◌, not, eqb, ltb, get_or}
+use Rattle.std.specs.Prelude.{ℕ, List, [], Bool, ◌&&◌, not, eqb, ltb, get_or, Option, Some, None}
 use Rattle.rom.specs.Geometry.{none}
 use Rattle.rom.specs.Bytes.{pick}
 use Rattle.rom.specs.Refusal.{first_met}
@@ -20,6 +20,10 @@ has_leaf image a = eqb (first_met (header_causes image a)) 0
 
 abbrev pub no_place : Place
 no_place = record { start = 0; size = 0; kind = 0 }
+
+abbrev pub place_or_nowhere : Option Place → Place
+place_or_nowhere (Some p) = p
+place_or_nowhere None = no_place
 
 abbrev pub place_at : ℕ → PlacedBlock → Place
 place_at row p = record { start = p.start; size = size_of row p.rest; kind = kind_of row p.rest }

@@ -14,8 +14,8 @@ use Rattle.rom.specs.Geometry.{none}
 use Rattle.rom.specs.Bytes.{pick, one, bit}
 use Rattle.rom.specs.Refusal.{first_met}
 use Rattle.rom.proofs.First.{after-accepted, after-refused}
-use Rattle.block.specs.declared.Block.{Block}
-use Rattle.block.specs.declared.Block.TheVariants.{Listed, Reset, Power, Unknown, Refused}
+use Rattle.block.specs.Answer.{Verdict}
+use Rattle.block.specs.Answer.{Listed, Reset, Power, Unknown, Refused}
 use Rattle.format.specs.Block.{facts_of, sequence, causes, refusal_in, is_listed, is_reset, is_power, is_skipped, is_default}
 use Rattle.format.specs.Block.{resets_a_phy}
 use Rattle.block.specs.Answer.{block_in, block_of, number_of, size_in, mode_in}
@@ -23,7 +23,7 @@ use Rattle.format.proofs.Exact.{causes-numbered}
 use Rattle.block.proofs.Seen.{SeenAs, refused, unknown, a-reset, a-power, a-medium, seen_as, seen_size}
 use Rattle.block.proofs.Versions.{answers-first, found-later}
 use Rattle.tally.proofs.Modes.{Modes, modes-more, modes-end, mode-bit}
-use Rattle.leaf.specs.declared.Tally.{Tally}
+use Rattle.leaf.specs.Tally.{TallyAnswer}
 use Rattle.leaf.specs.Leaf.{cut, count_of, first_from, clash, block_causes, clash_cause, mode_cause, whole_causes, leaf_causes}
 use Rattle.tally.specs.Inside.{start_tally, first_number, plus}
 use Rattle.leaf.specs.Tally.{no_tally, counts, tally_of}
@@ -34,7 +34,7 @@ use Rattle.leaf.proofs.Tables.{few-one}
 -- ## One block more
 
 -- a tally u that has block s, number k, more than t
-pub record Grown (row level : ℕ) (s : List ℕ) (k : ℕ) (t u : Tally) : Type 0 where
+pub record Grown (row level : ℕ) (s : List ℕ) (k : ℕ) (t u : TallyAnswer) : Type 0 where
   pub number : u.number ≡ t.number
   pub listed : u.listed ≡ t.listed + one (is_listed row level s)
   pub resets : u.resets ≡ t.resets + one (is_reset row level s)
@@ -53,7 +53,7 @@ first-kept old k = go (eqb old none) (eqb-true old none)
     go true h = h refl
     go false h = refl
 
-pub grown : {row level : ℕ} {s : List ℕ} {b : Block} (k : ℕ) (t : Tally) → SeenAs row level s b → number_of b ≡ 0
+pub grown : {row level : ℕ} {s : List ℕ} {b : Verdict} (k : ℕ) (t : TallyAnswer) → SeenAs row level s b → number_of b ≡ 0
     → Grown row level s k t (plus t b k)
 unfolding is_listed is_reset is_power is_skipped is_default resets_a_phy facts_of sequence pick
 grown k t (refused n e h) z = absurd (h z)
@@ -103,7 +103,7 @@ grown {row} {level} {s} k t (a-medium e f g) z = let l : one (is_listed row leve
 }
 
 -- what is counted is refused as the block is
-plus-number : (t : Tally) (b : Block) (k : ℕ) → t.number ≡ 0 → (plus t b k).number ≡ number_of b
+plus-number : (t : TallyAnswer) (b : Verdict) (k : ℕ) → t.number ≡ 0 → (plus t b k).number ≡ number_of b
 unfolding no_tally
 plus-number t (Listed m) k e = e
 plus-number t (Reset size) k e = e
@@ -111,7 +111,7 @@ plus-number t (Power size mode) k e = e
 plus-number t (Unknown size) k e = e
 plus-number t (Refused n) k e = refl
 
-plus-refused : (t : Tally) (b : Block) (k : ℕ) → (number_of b ≡ 0 → ⊥) → plus t b k ≡ no_tally (number_of b)
+plus-refused : (t : TallyAnswer) (b : Verdict) (k : ℕ) → (number_of b ≡ 0 → ⊥) → plus t b k ≡ no_tally (number_of b)
 plus-refused t (Listed m) k h = absurd (h refl)
 plus-refused t (Reset size) k h = absurd (h refl)
 plus-refused t (Power size mode) k h = absurd (h refl)
@@ -130,7 +130,7 @@ default-more old k n w d h e = go (eqb old none) d refl e
     go false d f e = rw f e
 
 -- What the loop of `judge` keeps: k blocks are passed, with the tally t of them.
-pub record Tallied (first : Bool) (row level : ℕ) (whole bs : List (List ℕ)) (k : ℕ) (t : Tally) : Type 0 where
+pub record Tallied (first : Bool) (row level : ℕ) (whole bs : List (List ℕ)) (k : ℕ) (t : TallyAnswer) : Type 0 where
   pub number : t.number ≡ 0
   pub first-met : first_met (block_causes first row level bs ++ whole_causes row level whole)
       ≡ first_met (leaf_causes first row level whole)
@@ -162,9 +162,9 @@ counted_start first row level bs =
       few = (zero-le, zero-le);
     }
 
-module _ {first : Bool} {row level : ℕ} {whole bs : List (List ℕ)} {s : List ℕ} {k : ℕ} {t : Tally}
+module _ {first : Bool} {row level : ℕ} {whole bs : List (List ℕ)} {s : List ℕ} {k : ℕ} {t : TallyAnswer}
     (c : Tallied first row level whole (s ∷ bs) k t) where
-  pub counted-more : {u : Tally} → refusal_in first row level s ≡ 0 → k < none → Grown row level s k t u
+  pub counted-more : {u : TallyAnswer} → refusal_in first row level s ≡ 0 → k < none → Grown row level s k t u
       → Tallied first row level whole bs (k + 1) u
   unfolding count_of block_causes first_from refusal_in
   counted-more {u} e h g = record {
@@ -190,7 +190,7 @@ module _ {first : Bool} {row level : ℕ} {whole bs : List (List ℕ)} {s : List
       ∙ after-refused (causes first row level s) _ n h e in
       rw (met, ne_eqb n 0 h)
 
-module _ {first : Bool} {row level : ℕ} {whole : List (List ℕ)} {k : ℕ} {t : Tally} (c : Tallied first row level whole [] k t) where
+module _ {first : Bool} {row level : ℕ} {whole : List (List ℕ)} {k : ℕ} {t : TallyAnswer} (c : Tallied first row level whole [] k t) where
   at-end : (clash t.resets t.phy_resets t.defaults ≡ (clash_cause row level whole).met)
       × (first_met (leaf_causes first row level whole)
       ≡ pick (clash_cause row level whole).met 18 (pick (mode_cause row level whole).met 31 0))
@@ -235,14 +235,14 @@ module _ {first : Bool} {row level : ℕ} {whole : List (List ℕ)} {k : ℕ} {t
 
 -- ## The steps of `judge` in its own terms: b is the block that was judged, u the tally with it, z its size.
 
-module _ (first : Bool) (row level count : ℕ) (rest : List ℕ) {whole : List (List ℕ)} {k : ℕ} {t : Tally}
+module _ (first : Bool) (row level count : ℕ) (rest : List ℕ) {whole : List (List ℕ)} {k : ℕ} {t : TallyAnswer}
     (inv : Tallied first row level whole (cut row (count - k) rest) k t) where
-  module _ (h : k < count) {b : Block} {u : Tally} (eb : b ≡ block_in first row level rest) (eu : u ≡ plus t b k) where
+  module _ (h : k < count) {b : Verdict} {u : TallyAnswer} (eb : b ≡ block_in first row level rest) (eu : u ≡ plus t b k) where
     number_in : number_of b ≡ refusal_in first row level rest
     number_in = ap number_of eb ∙ (answers-first first row level rest).0
 
     same_number : u.number ≡ number_of b
-    same_number = ap (λ (t : Tally). t.number) eu ∙ plus-number t b k inv.number
+    same_number = ap (λ (t : TallyAnswer). t.number) eu ∙ plus-number t b k inv.number
 
     pub judge-refused : (u.number ≡ 0 → ⊥) → u ≡ tally_of first row level whole
     judge-refused n =
@@ -277,11 +277,11 @@ module _ (first : Bool) (row level count : ℕ) (rest : List ℕ) {whole : List 
           rw (rest_part, ez, seen_size view fine) (modes-more (rw cut-more at told) byte (λ j. ap (bit j) em ∙ mode-bit view fine j))
 
   module _ (h : count ≤ k) {m : Bool} (em : m ≡ clash t.resets t.phy_resets t.defaults) where
-    pub judge-18 : {u : Tally} → m ≡ true → u ≡ no_tally 18 → u ≡ tally_of first row level whole
+    pub judge-18 : {u : TallyAnswer} → m ≡ true → u ≡ no_tally 18 → u ≡ tally_of first row level whole
     judge-18 e eu = eu ∙ tally-18 (rw cut-none at inv) (sym em ∙ e)
 
     module _ (e : m ≡ false) {modes repeated : ℕ} (told : Modes row level whole (cut row (count - k) rest) modes repeated) where
-      pub judge-31 : {u : Tally} → (repeated ≡ 0 → ⊥) → u ≡ no_tally 31 → u ≡ tally_of first row level whole
+      pub judge-31 : {u : TallyAnswer} → (repeated ≡ 0 → ⊥) → u ≡ no_tally 31 → u ≡ tally_of first row level whole
       judge-31 n eu = eu ∙ tally-31 (rw cut-none at inv) (rw cut-none at told) (sym em ∙ e) n
 
       pub judge-done : repeated ≡ 0 → t ≡ tally_of first row level whole

@@ -11,7 +11,7 @@ use borrow.Author.Tests.{lt-ltb}
 use lib.Bits.{bit_and, bit_or, and_shr, or_shr, and_mod, or_mod, and_lt, or_lt}
 use Rattle.rom.specs.Bytes.{pick, one, bit, any_below}
 use Rattle.rom.proofs.Below.{below, same, same-equal, any_same}
-use Rattle.block.specs.declared.Block.{Block}
+use Rattle.block.specs.Answer.{Verdict}
 use Rattle.block.specs.Answer.{number_of, mode_in}
 use Rattle.block.proofs.Seen.{SeenAs, seen-mode}
 use Rattle.format.specs.Block.{kind_of, facts_of, is_power, sets_mode}
@@ -103,7 +103,7 @@ modes-end {row} {level} {whole} {modes} {repeated} t =
 
 -- ## The mode of the block that is judged
 
-pub mode-bit : {row level : ℕ} {s : List ℕ} {b : Block} → SeenAs row level s b → number_of b ≡ 0 → (k : ℕ)
+pub mode-bit : {row level : ℕ} {s : List ℕ} {b : Verdict} → SeenAs row level s b → number_of b ≡ 0 → (k : ℕ)
     → bit k (mode_in b) ≡ sets_mode row level k s
 unfolding sets_mode pick
 mode-bit {row} {level} {s} v z k = ap (bit k) (seen-mode v z) ∙ go (is_power row level s) (facts_of (kind_of row s) s).mode

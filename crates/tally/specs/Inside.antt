@@ -2,12 +2,12 @@
 use Rattle.std.specs.Prelude.{ℕ, ◌+◌, Bool, eqb}
 use Rattle.rom.specs.Geometry.{none}
 use Rattle.rom.specs.Bytes.{pick, one}
-use Rattle.block.specs.declared.Block.{Block}
-use Rattle.block.specs.declared.Block.TheVariants.{Listed, Reset, Power, Unknown, Refused}
-use Rattle.leaf.specs.declared.Tally.{Tally}
+use Rattle.block.specs.Answer.{Verdict}
+use Rattle.block.specs.Answer.{Listed, Reset, Power, Unknown, Refused}
+use Rattle.leaf.specs.Tally.{TallyAnswer}
 use Rattle.leaf.specs.Tally.{no_tally}
 
-unfoldable pub start_tally : Tally
+unfoldable pub start_tally : TallyAnswer
 start_tally = record { number = 0; listed = 0; resets = 0; skipped = 0; power = 0; phy_resets = 0; defaults = 0; default_number = none }
 
 -- the number of the first default, where `old` is that of the blocks before, or none
@@ -15,7 +15,7 @@ unfoldable pub first_number : ℕ → Bool → ℕ → ℕ
 first_number old marked number = pick (eqb old none) (pick marked number none) old
 
 -- with block `number` more; a refused one's number and zeros
-abbrev pub plus : Tally → Block → ℕ → Tally
+abbrev pub plus : TallyAnswer → Verdict → ℕ → TallyAnswer
 plus t (Listed m) number = record {
   number = t.number;
   listed = t.listed + 1;

@@ -1,143 +1,116 @@
 // The blocks of a leaf, judged one after another (document 01, 'Leaf and blocks'; document 02, requests 3 and 12).
 #![tactic(auto)]
 
-ghost use Rattle.std.specs.Prelude.{◌≡◌, ◌≤◌, ◌<◌};
-ghost use Rattle.rom.specs.Bytes.{one};
+ghost use Rattle.std.specs.Prelude.{◌≡◌, ◌<◌, None, IfSome};
+ghost use Rattle.rom.specs.Geometry.{none};
 ghost use Rattle.leaf.specs.Leaf.{cut, clash};
-ghost use Rattle.tally.specs.Inside.{start_tally, first_number, plus};
-ghost use Rattle.leaf.specs.Tally.{no_tally, tally_of};
+ghost use Rattle.leaf.specs.Tally.{tally_of};
+ghost use Rattle.block.specs.Answer.{found_as};
+ghost use Rattle.tally.specs.Answer.{counted, tally_answer};
+ghost use Rattle.tally.specs.Inside.{start_tally, plus};
 
 use block::Block;
-pub use leaf::Tally;
-use rom::refusal;
+use rom::Refusal;
 
-fn refused_tally(number: u8) -> Tally
-    ensures { result ≡ no_tally number }
-{
-    Tally {
-        number,
-        listed: 0,
-        resets: 0,
-        skipped: 0,
-        power: 0,
-        phy_resets: 0,
-        defaults: 0,
-        default_number: 0,
-    }
+// The blocks of each sort, and the number of the first that is a default.
+#[derive(Clone, Copy)]
+pub struct Tally {
+    pub listed: u8,
+    pub resets: u8,
+    pub skipped: u8,
+    pub power: u8,
+    pub phy_resets: u8,
+    pub defaults: u8,
+    pub default_number: Option<u8>,
 }
 
-// Two type 5 blocks, or one and a PHY block with r above 0, or two defaults.
-fn clashes(resets: u8, phy_resets: u8, defaults: u8) -> bool
-    ensures { result ≡ clash resets phy_resets defaults }
-{
-    if 1 < resets {
-        return true;
+impl Tally {
+    // Of no block.
+    #[tactic(auto, unfolding(crate::specs::Inside::start_tally))]
+    fn new() -> Tally
+        ensures start { counted result ≡ start_tally }
+        ensures without_default { result.default_number ≡ None }
+    {
+        Tally {
+            listed: 0,
+            resets: 0,
+            skipped: 0,
+            power: 0,
+            phy_resets: 0,
+            defaults: 0,
+            default_number: None,
+        }
     }
-    if resets < 1 {
-        return 1 < defaults;
-    }
-    if 0 < phy_resets {
-        return true;
-    }
-    1 < defaults
-}
 
-fn start_tally() -> Tally
-    ensures { result ≡ start_tally }
-{
-    Tally {
-        number: refusal::ACCEPTED,
-        listed: 0,
-        resets: 0,
-        skipped: 0,
-        power: 0,
-        phy_resets: 0,
-        defaults: 0,
-        default_number: rom::NONE,
+    // With block `number` more.
+    fn with(self, block: Block, number: u8) -> Tally
+        requires listed_bound { (self.listed < 255) × (self.resets < 255) × (self.skipped < 255) × (self.power < 255) }
+        requires phy_resets_bound { (self.phy_resets < 255) × (self.defaults < 255) }
+        requires default_bound { IfSome self.default_number (λ k. k < none) }
+        requires number_bound { number < none }
+        ensures grown { counted result ≡ plus (counted self) (found_as block) number }
+        ensures bounded { IfSome result.default_number (λ k. k < none) }
+    {
+        match block {
+            Block::Listed(medium) => Tally {
+                listed: self.listed + 1,
+                phy_resets: self.phy_resets + u8::from(medium.resets_phy),
+                defaults: self.defaults + u8::from(medium.is_default),
+                default_number: self.default_number.or(medium.is_default.then_some(number)),
+                ..self
+            },
+            Block::Reset { .. } => Tally {
+                resets: self.resets + 1,
+                ..self
+            },
+            Block::Power { .. } => Tally {
+                power: self.power + 1,
+                ..self
+            },
+            Block::Unknown { .. } => Tally {
+                skipped: self.skipped + 1,
+                ..self
+            },
+        }
     }
-}
 
-fn one_of(x: bool) -> u8
-    ensures { (result ≡ one x) × (result ≤ 1) }
-{
-    if x {
-        return 1;
+    // Two type 5 blocks, or one and a PHY block with r above 0, or two defaults.
+    #[tactic(auto, unfolding(leaf::specs::Leaf::clash))]
+    fn clashes(self) -> bool
+        ensures { result ≡ clash self.resets self.phy_resets self.defaults }
+    {
+        1 < self.resets || 0 < self.resets && 0 < self.phy_resets || 1 < self.defaults
     }
-    0
-}
-
-// The default's number, where `old` is that of the blocks before block `number`, or none.
-fn first_number(old: u8, marked: bool, number: u8) -> u8
-    ensures { result ≡ first_number old marked number }
-{
-    if old != rom::NONE {
-        return old;
-    }
-    if marked {
-        return number;
-    }
-    rom::NONE
-}
-
-// A tally with block `number` more, or a refused one's number and zeros.
-fn after_block(t: Tally, b: Block, number: u8) -> Tally
-    requires listed_bound { (t.listed < 255) × (t.resets < 255) × (t.skipped < 255) × (t.power < 255) }
-    requires phy_resets_bound { (t.phy_resets < 255) × (t.defaults < 255) }
-    ensures { result ≡ plus t b number }
-{
-    let mut next = t;
-    match b {
-        Block::Listed(medium) => {
-            next.listed = t.listed + 1;
-            next.phy_resets = t.phy_resets + one_of(medium.resets_phy);
-            next.defaults = t.defaults + one_of(medium.is_default);
-            next.default_number = first_number(t.default_number, medium.is_default, number);
-        }
-        Block::Reset { size: _ } => {
-            next.resets = t.resets + 1;
-        }
-        Block::Power { size: _, mode: _ } => {
-            next.power = t.power + 1;
-        }
-        Block::Unknown { size: _ } => {
-            next.skipped = t.skipped + 1;
-        }
-        Block::Refused(refused) => {
-            next = refused_tally(refused);
-        }
-    }
-    next
 }
 
 // The tally of a leaf's blocks, or the first refusal of one, or 18, or 31: a bit of the mode byte set in two power blocks.
-pub fn judge(blocks: &[u8], count: u8, row: usize, level: u8, first_version: bool) -> Tally
-    ensures { result ≡ tally_of first_version row level (cut row count blocks.now) }
+pub fn judge(
+    blocks: &[u8],
+    count: u8,
+    row: usize,
+    level: u8,
+    first_version: bool,
+) -> Result<Tally, Refusal>
+    ensures { tally_answer result ≡ tally_of first_version row level (cut row count blocks.now) }
 {
     let mut rest = blocks;
-    let mut k = 0u8;
-    let mut t = start_tally();
+    let mut tally = Tally::new();
     // Bits of the mode byte that a power block has set so far, and that two have.
     let mut modes = 0u8;
     let mut repeated = 0u8;
-    while k < count {
-        let b = block::judge_in(rest, row, level, first_version);
-        t = after_block(t, b, k);
-        if t.number != refusal::ACCEPTED {
-            return t;
-        }
-        let mode = block::mode_of(b);
+    for number in 0..count {
+        let block = block::judge_in(rest, row, level, first_version)?;
+        tally = tally.with(block, number);
+        let mode = block.mode();
         repeated |= modes & mode;
         modes |= mode;
-        let step = block::size_of(b);
-        rest = &rest[step..];
-        k += 1;
+        rest = &rest[block.size()..];
     }
-    let clash = clashes(t.resets, t.phy_resets, t.defaults);
-    if clash {
-        return refused_tally(refusal::CLASH);
+    if tally.clashes() {
+        return Err(Refusal::Clash);
     }
     if repeated != 0 {
-        return refused_tally(refusal::REPEATED_MODE);
+        return Err(Refusal::RepeatedMode);
     }
-    t
+    Ok(tally)
 }

@@ -1,25 +1,48 @@
--- A text that is not empty is its first line and the lines of what stands behind it: by induction over the text.
--- Assumes nothing.
-use Prim.Native.Nat.{ℕ, suc, ◌+◌, ◌-◌, ◌≤◌, ◌<◌}
-use mathlib.Core.Path.{◌≡◌, refl, sym, ap, ◌∙◌}
-use mathlib.Core.Bool.{Bool, true, false}
-use mathlib.Core.List.{List, [], ◌∷◌, ◌++◌, append-nil}
-use native.Mathlib.Omega.{arith}
-use native.Mathlib.Numerals.{add-one}
-use lib.Dec.{eqb}
-use lib.ListN.{length, take, drop, get_or, length-drop, drop_of_length-le}
-use lib.Seq.{take-suc, take_all, drop-cons, append_snoc}
-use borrow.Author.Tests.{eq-eqb, ne_eqb}
+-- Lines as they are cut off, and as std cuts a list where a test holds: by induction over the text. Assumes nothing.
+use Rattle.std.proofs.Common.{◌≡◌, ◌+◌, ◌<◌, ◌≤◌, ℕ, zero, suc, Bool, true, false, cond, ◌⊎◌, inl, inr, List, [], ◌∷◌, ◌++◌}
+use Rattle.std.proofs.Common.{length, take, drop, get_or, eqb, nat_lt, position, Option, Some, None, Bor}
+use Rattle.std.proofs.Common.{refl, sym, ap, ◌∙◌, arith, length-drop}
+use borrow.Author.Tests.{ltb-false}
+use lib.Seq.{take_all}
+use Rattle.std.specs.Option.{unwrap_or, option_map}
+use Rattle.std.proofs.lemmas.Option.{unwrap_or-slice_get}
+use Rattle.std.specs.List.{before_first, slice_get, slice_split, onto_first, position_or_len}
 use Rattle.rom.specs.Bytes.{pick}
-use Rattle.text.proofs.Parts.{nothing_left}
 use Rattle.text.specs.Lines.{newline, line_of, behind_line, in_front, lines_of}
 
--- ## The lines of a text
+-- the end of a line
+abbrev pub is_end : ℕ → Bool
+is_end c = eqb c newline
 
-pub lines-behind : (s : List ℕ) → 0 < length s → lines_of s ≡ line_of s ∷ lines_of (drop 1 (drop (length (line_of s)) s))
+-- ## The first line
+
+pub line-before : (s : List ℕ) → line_of s ≡ before_first is_end s
+unfolding line_of pick
+line-before [] = refl
+line-before (c ∷ cs) = go (eqb c newline) refl (line-before cs)
+  where
+    one_more : (n : ℕ) → take (1 + n) (c ∷ cs) ≡ c ∷ take n cs
+    one_more n = let e : 1 + n ≡ suc n = omega arith in rw e
+
+    go : (t : Bool) → eqb c newline ≡ t → line_of cs ≡ before_first is_end cs → pick t [] (c ∷ line_of cs) ≡ before_first is_end (c ∷ cs)
+    go true e ih = simp e
+    go false e ih = simp (e, one_more, ← ih)
+
+-- where `position` finds the end, or the text's length
+pub first-ends : (s : List ℕ) {r : Option ℕ} {n : ℕ} → r ≡ position is_end s → n ≡ unwrap_or r (length s) → take n s ≡ line_of s
+first-ends s er en = rw (en, er) (go (nat_lt (position_or_len is_end s) (length s)) refl ∙ sym (line-before s))
+  where
+    go : (t : Bool) → nat_lt (position_or_len is_end s) (length s) ≡ t
+        → take (unwrap_or (cond t (Some (position_or_len is_end s)) None) (length s)) s ≡ before_first is_end s
+    go true e = refl
+    go false e =
+        let h : length s ≤ position_or_len is_end s = ltb-false _ _ e in
+        take_all (length s) s (omega arith) ∙ sym (take_all (position_or_len is_end s) s h)
+
+pub lines_behind : (s : List ℕ) → 0 < length s → lines_of s ≡ line_of s ∷ lines_of (drop 1 (drop (length (line_of s)) s))
 unfolding lines_of line_of pick
-lines-behind [] h = absurd (omega arith)
-lines-behind (c ∷ cs) h = go (eqb c newline) cs (lines-behind cs)
+lines_behind [] h = absurd (omega arith)
+lines_behind (c ∷ cs) h = go (eqb c newline) cs (lines_behind cs)
   where
     go : (t : Bool) (cs : List ℕ) → (0 < length cs → lines_of cs ≡ line_of cs ∷ lines_of (behind_line cs))
         → pick t ([] ∷ lines_of cs) (in_front c (lines_of cs))
@@ -28,57 +51,46 @@ lines-behind (c ∷ cs) h = go (eqb c newline) cs (lines-behind cs)
     go false [] ih = refl
     go false (d ∷ ds) ih = ap (in_front c) (ih (omega arith))
 
-pub behind-shorter : (s : List ℕ) → 0 < length s → length (drop 1 (drop (length (line_of s)) s)) < length s
-behind-shorter s h = simp length-drop (omega arith)
+pub behind_shorter : (s : List ℕ) → 0 < length s → length (drop 1 (drop (length (line_of s)) s)) < length s
+behind_shorter s h = simp length-drop (omega arith)
 
--- the same by number: a text that is empty has empty lines only
-pub line_first : (s : List ℕ) → line_of s ≡ get_or (lines_of s) 0 []
-unfolding lines_of line_of
-line_first [] = refl
-line_first (c ∷ cs) = rw (lines-behind (c ∷ cs) (omega arith))
+-- ## All lines: std's parts have an empty one more, where the text ends with the end of a line, or is empty
 
-pub line-later : (s : List ℕ) (n : ℕ) → get_or (lines_of s) (suc n) [] ≡ get_or (lines_of (behind_line s)) n []
-unfolding lines_of line_of
-line-later [] n = refl
-line-later (c ∷ cs) n = rw (lines-behind (c ∷ cs) (omega arith))
+pub lines-split : (s : List ℕ) → (slice_split is_end s ≡ lines_of s) ⊎ (slice_split is_end s ≡ lines_of s ++ [] ∷ [])
+unfolding lines_of pick
+lines-split [] = inr refl
+lines-split (c ∷ cs) = go (eqb c newline) (lines_of cs) (lines-split cs)
+  where
+    front : (ls : List (List ℕ)) → onto_first c ls ≡ in_front c ls
+    front [] = refl
+    front (l ∷ ls) = refl
 
--- The steps of `line_number` in its own terms: s is the rest from a line on.
-module _ (s : List ℕ) (number line : ℕ) {whole : List ℕ} (inv : get_or (lines_of s) (number - line) [] ≡ whole) where
-  pub line-more : {t : List ℕ} → line < number → t ≡ behind_line s → get_or (lines_of t) (number - (line + 1)) [] ≡ whole
-  line-more h et =
-      let e : number - line ≡ suc (number - (line + 1)) = omega arith in
-      rw et (sym (line-later s _) ∙ (rw e at inv))
+    go : (t : Bool) (ls : List (List ℕ)) → (slice_split is_end cs ≡ ls) ⊎ (slice_split is_end cs ≡ ls ++ [] ∷ [])
+        → (cond t ([] ∷ slice_split is_end cs) (onto_first c (slice_split is_end cs)) ≡ pick t ([] ∷ ls) (in_front c ls))
+        ⊎ (cond t ([] ∷ slice_split is_end cs) (onto_first c (slice_split is_end cs)) ≡ pick t ([] ∷ ls) (in_front c ls) ++ [] ∷ [])
+    go true ls (inl e) = inl (ap (λ ps. [] ∷ ps) e)
+    go true ls (inr e) = inr (ap (λ ps. [] ∷ ps) e)
+    go false ls (inl e) = inl (ap (onto_first c) e ∙ front ls)
+    go false [] (inr e) = inl (ap (onto_first c) e)
+    go false (l ∷ ls) (inr e) = inr (ap (onto_first c) e)
 
-  pub line-done : {r : List ℕ} → number ≤ line → r ≡ line_of s → r ≡ whole
-  line-done h er =
-      let e : number - line ≡ 0 = omega arith in
-      er ∙ line_first s ∙ (rw e at inv)
+-- a part, or nothing in its place
+pub shown : (r : Option (Bor (List ℕ))) (d : Bor (List ℕ)) → d.now ≡ [] → (unwrap_or r d).now ≡ unwrap_or (option_map (λ x. x.now) r) []
+shown None d e = e
+shown (Some x) d e = refl
 
-  pub line-none : length s ≡ 0 → s ≡ whole
-  unfolding lines_of
-  line-none h = nothing_left s h ∙ (rw (nothing_left s h) at inv)
+-- so each line has its number there, and an empty one is where there is none
+pub line-at : (s : List ℕ) (n : ℕ) (r : Option (Bor (List ℕ))) (d : Bor (List ℕ)) → d.now ≡ []
+    → option_map (λ x. x.now) r ≡ slice_get (slice_split is_end s) n → (unwrap_or r d).now ≡ get_or (lines_of s) n []
+line-at s n r d ed er = shown r d ed ∙ ap (λ o. unwrap_or o []) er ∙ unwrap_or-slice_get (slice_split is_end s) n [] ∙ go (lines-split s)
+  where
+    more : (ls : List (List ℕ)) (k : ℕ) → get_or (ls ++ [] ∷ []) k [] ≡ get_or ls k []
+    more [] zero = refl
+    more [] (suc k) = refl
+    more (l ∷ ls) zero = refl
+    more (l ∷ ls) (suc k) = more ls k
 
--- ## The first line, byte by byte
-
--- so many bytes of the first line are passed
-abbrev pub PassedLines : List ℕ → ℕ → Type 0
-PassedLines s i = take i s ++ line_of (drop i s) ≡ line_of s
-
-module _ (s : List ℕ) (i : ℕ) (h : i < length s) (p : PassedLines s i) where
-  pub passed-more : (get_or s i 0 ≡ newline → ⊥) → PassedLines s (i + 1)
-  unfolding line_of pick
-  passed-more n =
-      let one : line_of (drop i s) ≡ get_or s i 0 ∷ line_of (drop (suc i) s)
-      = rw (drop-cons s i 0 h, ne_eqb (get_or s i 0) newline n) in
-      rw (add-one, take-suc s i 0 h, append_snoc) (ap (λ (l : List ℕ). take i s ++ l) (sym one) ∙ p)
-
-  pub passed-end : get_or s i 0 ≡ newline → take i s ≡ line_of s
-  unfolding line_of pick
-  passed-end e =
-      let none : line_of (drop i s) ≡ [] = rw (drop-cons s i 0 h, eq-eqb (get_or s i 0) newline e) in
-      sym (append-nil (take i s)) ∙ ap (λ (l : List ℕ). take i s ++ l) (sym none) ∙ p
-
-pub passed-all : (s : List ℕ) (i : ℕ) → length s ≤ i → PassedLines s i → s ≡ line_of s
-unfolding line_of
-passed-all s i h p =
-    sym (append-nil s) ∙ rw (take_all i s h, drop_of_length-le s h) at p
+    go : (slice_split is_end s ≡ lines_of s) ⊎ (slice_split is_end s ≡ lines_of s ++ [] ∷ [])
+        → get_or (slice_split is_end s) n [] ≡ get_or (lines_of s) n []
+    go (inl e) = rw e refl
+    go (inr e) = rw e (more (lines_of s) n)

@@ -1,96 +1,53 @@
--- A pattern says one piece for each byte: by the values that are left, or by the bytes that it names. Assumes nothing.
-use Prim.Native.Nat.{ℕ, suc, ◌+◌, ◌≤◌, ◌<◌}
-use mathlib.Core.Path.{◌≡◌, refl, sym, ap, ◌∙◌}
-use mathlib.Core.Bool.{Bool, true, false}
-use mathlib.Core.List.{List, [], ◌∷◌, ◌++◌}
-use native.Mathlib.Omega.{arith}
-use native.Mathlib.Numerals.{add-one}
-use native.Mathlib.Nat.{add-zero}
-use lib.ListN.{length, drop, get_or, drop_of_length-le}
-use lib.Seq.{drop-cons, drop-drop, get_or-drop}
-use borrow.Author.Tests.{eq-eqb, ne_eqb}
-use Rattle.rom.specs.Bytes.{one, byte_at}
-use Rattle.rom.proofs.Truth.{pick_true, pick-false}
+-- A pattern says one piece for each byte that stands for itself or is a mark: by the values that are left, or by the bytes that
+-- it names. Assumes nothing.
+use Rattle.std.proofs.Common.{◌≡◌, ℕ, true, false, List, [], ◌∷◌, ◌++◌, length, drop, get_or, Option, Some, None, Bor, Iter}
+use Rattle.std.proofs.Common.{refl, sym, ap, ◌∙◌, arith}
+use Rattle.std.specs.Option.{unwrap_or, option_map}
+use Rattle.std.specs.Slice.Iter.{iter_rest, iter_steps}
+use Rattle.rom.specs.Bytes.{pick, byte_at}
 use Rattle.text.specs.declared.line.Line.{Line}
-use Rattle.text.specs.Numbers.{digit_of, decimal_of, hex_of}
-use Rattle.text.specs.Written.{text_of, fitted, is_mark, spelled_as, piece_of, with_values, value_in, fields_from}
-use Rattle.text.proofs.Building.{Building, built, line-finished}
+use Rattle.text.specs.Numbers.{digit_of}
+use Rattle.text.specs.Written.{text_of, fitted, is_mark, spelled_as, piece_of, with_values, value_in, fields_from, with_fields}
+use Rattle.text.proofs.Building.{Building, built}
 
--- ## One byte
+-- the next item, or 0 where there is none
+pub next_or_zero : (s t : Iter ℕ) (r : Option (Bor ℕ)) → iter_steps s r t
+    → (unwrap_or (option_map (λ x. x.now) r) 0 ≡ get_or (iter_rest s) 0 0) × (iter_rest t ≡ drop 1 (iter_rest s))
+next_or_zero s t None h = (none (iter_rest s) h.0, ap iter_rest h.1 ∙ rest (iter_rest s) h.0)
+  where
+    none : (xs : List ℕ) → length xs ≡ 0 → 0 ≡ get_or xs 0 0
+    none [] e = refl
+    none (x ∷ xs) e = absurd (omega arith)
 
-module _ (mark n : ℕ) where
-  pub as-decimal : mark ≡ 35 → decimal_of n ≡ spelled_as mark n
-  unfolding spelled_as
-  as-decimal e = sym (pick_true _ _ _ (eq-eqb mark 35 e))
+    rest : (xs : List ℕ) → length xs ≡ 0 → xs ≡ drop 1 xs
+    rest [] e = refl
+    rest (x ∷ xs) e = absurd (omega arith)
+next_or_zero s t (Some x) h = (ap (λ xs. get_or xs 0 0) (sym h), ap (drop 1) (sym h))
 
-  pub as_byte : (mark ≡ 35 → ⊥) → mark ≡ 37 → hex_of 2 n ≡ spelled_as mark n
-  unfolding spelled_as
-  as_byte d e = sym (pick-false _ _ _ (ne_eqb mark 35 d) ∙ pick_true _ _ _ (eq-eqb mark 37 e))
+module _ {whole : List ℕ} (l m : Line) (c : ℕ) (cs : List ℕ) where
+  module _ (values : List ℕ) (b : Building whole l (with_values values (c ∷ cs))) where
+    pub with-mark : {n : ℕ} {rest : List ℕ} → is_mark c ≡ true → n ≡ get_or values 0 0 → rest ≡ drop 1 values
+        → text_of m ≡ fitted (text_of l ++ spelled_as c n) → Building whole m (with_values rest cs)
+    unfolding with_values piece_of pick
+    with-mark t en er e = rw er (built whole (with_values (drop 1 values) cs) (spelled_as c (get_or values 0 0)) (rw t at b) (rw (← en) e))
 
-  pub as-word : (mark ≡ 35 → ⊥) → (mark ≡ 37 → ⊥) → 48 ∷ 120 ∷ hex_of 4 n ≡ spelled_as mark n
-  unfolding spelled_as
-  as-word d e = sym (pick-false _ _ _ (ne_eqb mark 35 d) ∙ pick-false _ _ _ (ne_eqb mark 37 e))
+    pub with-byte : is_mark c ≡ false → text_of m ≡ fitted (text_of l ++ c ∷ []) → Building whole m (with_values values cs)
+    unfolding with_values piece_of pick
+    with-byte t e = built whole (with_values values cs) (c ∷ []) (rw t at b) e
 
-module _ (c n : ℕ) {t : Bool} (e : t ≡ is_mark c) where
-  pub a-mark : t ≡ true → spelled_as c n ≡ piece_of c n
-  unfolding piece_of
-  a-mark h = sym (pick_true (is_mark c) _ _ (sym e ∙ h))
+  module _ (bytes : List ℕ) (b : Building whole l (with_fields bytes (c ∷ cs))) where
+    behind_place : (s : List ℕ) → fields_from true bytes s ≡ fields_from false bytes (drop 1 s)
+    unfolding fields_from
+    behind_place [] = refl
+    behind_place (d ∷ ds) = refl
 
-  pub no-mark : t ≡ false → c ∷ [] ≡ piece_of c n
-  unfolding piece_of
-  no-mark h = sym (pick-false (is_mark c) _ _ (sym e ∙ h))
+    pub field-mark : {at n : ℕ} {rest : List ℕ} → is_mark c ≡ true → at ≡ digit_of (byte_at cs 0) → n ≡ value_in bytes c at
+        → rest ≡ drop 1 cs → text_of m ≡ fitted (text_of l ++ spelled_as c n) → Building whole m (with_fields bytes rest)
+    unfolding fields_from piece_of pick
+    field-mark t ea en er e =
+        rw er (built whole (with_fields bytes (drop 1 cs)) (spelled_as c (value_in bytes c (digit_of (byte_at cs 0))))
+        (rw (t, behind_place cs) at b) (rw (← ea, ← en) e))
 
-pub one-most : (t : Bool) → one t ≤ 1
-one-most true = omega arith
-one-most false = omega arith
-
--- ## Values in turn
-
--- The steps of `with` in its own terms: k values are taken and i bytes said.
-module _ (values pattern : List ℕ) (k i : ℕ) {whole : List ℕ} {l : Line}
-    (b : Building whole l (with_values (drop k values) (drop i pattern))) where
-  pub with-next : {v step : ℕ} {m : Line} → i < length pattern → v ≡ get_or values k 0 → step ≡ one (is_mark (get_or pattern i 0))
-      → text_of m ≡ fitted (text_of l ++ piece_of (get_or pattern i 0) v)
-      → Building whole m (with_values (drop (k + step) values) (drop (i + 1) pattern))
-  unfolding with_values
-  with-next {v} {step} h ev es e =
-      let c = get_or pattern i 0 in
-      let p : get_or (drop k values) 0 0 ≡ v = get_or-drop k values 0 0 ∙ ap (λ (j : ℕ). get_or values j 0) (add-zero k) ∙ sym ev in
-      let q : drop (one (is_mark c)) (drop k values) ≡ drop (k + step) values
-      = drop-drop (one (is_mark c)) k values ∙ ap (λ (j : ℕ). drop (k + j) values) (sym es) in
-      rw add-one (built whole (with_values (drop (k + step) values) (drop (suc i) pattern)) (piece_of c v)
-      (rw (drop-cons pattern i 0 h, p, q) at b) e)
-
-  pub with-done : length pattern ≤ i → text_of l ≡ fitted whole
-  unfolding with_values
-  with-done h = line-finished (with_values (drop k values) (drop i pattern)) (rw (drop_of_length-le pattern h)) b
-
--- ## Bytes by their places
-
-none_said : (t : Bool) (bytes : List ℕ) → fields_from t bytes [] ≡ []
-unfolding fields_from
-none_said true bytes = refl
-none_said false bytes = refl
-
--- The steps of `fields` in its own terms: i bytes are passed, and t says whether the next is a mark's place.
-module _ (bytes pattern : List ℕ) (i : ℕ) (t : Bool) {whole : List ℕ} {l : Line}
-    (b : Building whole l (fields_from t bytes (drop i pattern))) where
-  pub field-place : t ≡ true → i < length pattern → Building whole l (fields_from false bytes (drop (i + 1) pattern))
-  unfolding fields_from
-  field-place e h = rw add-one (rw (e, drop-cons pattern i 0 h) at b)
-
-  pub field_next : {d at v : ℕ} {u : Bool} {m : Line} → t ≡ false → i < length pattern → d ≡ byte_at pattern (i + 1) → at ≡ digit_of d
-      → v ≡ value_in bytes (get_or pattern i 0) at → text_of m ≡ fitted (text_of l ++ piece_of (get_or pattern i 0) v)
-      → u ≡ is_mark (get_or pattern i 0) → Building whole m (fields_from u bytes (drop (i + 1) pattern))
-  unfolding fields_from
-  field_next {d} {at} {v} {u} f h ed ea ev e eu =
-      let c = get_or pattern i 0 in
-      let p : get_or (drop (suc i) pattern) 0 0 ≡ d
-      = get_or-drop (suc i) pattern 0 0 ∙ ap (λ (j : ℕ). get_or pattern j 0) (add-zero (suc i) ∙ sym (add-one i)) ∙ sym ed in
-      let q : value_in bytes c (digit_of (get_or (drop (suc i) pattern) 0 0)) ≡ v
-      = ap (λ (j : ℕ). value_in bytes c (digit_of j)) p ∙ ap (value_in bytes c) (sym ea) ∙ sym ev in
-      rw add-one (built whole (fields_from u bytes (drop (suc i) pattern)) (piece_of c v)
-      (rw (f, drop-cons pattern i 0 h, q, ← eu) at b) e)
-
-  pub field-done : length pattern ≤ i → text_of l ≡ fitted whole
-  field-done h = line-finished (fields_from t bytes (drop i pattern)) (rw (drop_of_length-le pattern h) (none_said t bytes)) b
+    pub field-byte : is_mark c ≡ false → text_of m ≡ fitted (text_of l ++ c ∷ []) → Building whole m (with_fields bytes cs)
+    unfolding fields_from piece_of pick
+    field-byte t e = built whole (with_fields bytes cs) (c ∷ []) (rw t at b) e

@@ -1,8 +1,7 @@
 -- A number's fewest digits are the first count from the least up that holds it, in every base. Assumes nothing.
 use Prim.Native.Nat.{ℕ, zero, suc, ◌+◌, ◌-◌, ◌^◌, ◌≤◌, ◌<◌}
-use mathlib.Core.Path.{◌≡◌, refl, sym, ap, ◌∙◌}
+use mathlib.Core.Path.{◌≡◌, refl, sym, ap}
 use mathlib.Core.Bool.{Bool, true, false}
-use mathlib.Core.List.{List}
 use native.Mathlib.Omega.{arith}
 use native.Mathlib.Nat.{pow-le-pow_left, pow-le-pow_right}
 use lib.Dec.{leb, ltb, lit<}
@@ -61,9 +60,8 @@ module _ (base n k : ℕ) (b : 0 < base) where
           absurd (omega (arith, f.2 g))
 
 -- what `decimal` and `hex` spell, whose contracts say that k digits are the fewest
-pub numeral-is : (base least n k : ℕ) {out : List ℕ} → 10 ≤ base → n < 2 ^ 64 → IsDigitCount base least n k → out ≡ last_digits base k n
-    → out ≡ numeral base least n
+pub numeral_is : (base least n k : ℕ) → 10 ≤ base → n < 2 ^ 64 → IsDigitCount base least n k → last_digits base k n ≡ numeral base least n
 unfolding numeral
-numeral-is base least n k w h f e =
+numeral_is base least n k w h f =
     let b : 0 < base = omega arith in
-    e ∙ ap (λ (m : ℕ). last_digits base m n) (sym (counted base n k b least 20 f (few base n k b least w h f)))
+    ap (λ (m : ℕ). last_digits base m n) (sym (counted base n k b least 20 f (few base n k b least w h f)))

@@ -7,7 +7,7 @@ use Rattle.text.specs.declared.line.Line.{Line}
 
 -- what a line says
 abbrev pub text_of : Line → List ℕ
-text_of line = take line.length line.bytes
+text_of line = line.bytes.items
 
 abbrev pub line_room : ℕ
 line_room = 160

@@ -2,39 +2,35 @@
 // A text is filled up to 1,024 bytes with blanks.
 #![tactic(auto)]
 
-use hexadecimal::DecodedText;
-use text::line::{STDIN, STDOUT};
-use text::slice::part;
+ghost use Rattle.std.specs.Prelude.{◌≡◌};
+ghost use Rattle.hexadecimal.specs.Held.{problem_number};
 
-fn print_reading(reading: DecodedText) {
-    let held = reading.held;
-    let bytes = held.bytes;
-    io::print_decimal(STDOUT, held.problem as u64);
+use hexadecimal::{DecodedText, Problem};
+use text::line::{STDIN, STDOUT};
+
+// The number of a problem, 0 for none.
+fn number_of(problem: Option<Problem>) -> u8
+    ensures { result ≡ problem_number problem }
+{
+    problem.map_or(0, |problem| problem as u8)
+}
+
+fn print_reading(reading: &DecodedText) {
+    io::print_decimal(STDOUT, u64::from(number_of(reading.held.problem)));
     io::write_all(STDOUT, b" ");
-    io::print_decimal(STDOUT, reading.line as u64);
+    io::print_decimal(STDOUT, u64::from(reading.line));
     io::write_all(STDOUT, b" ");
-    vectors::print_bytes(part(&bytes, 0, held.length));
+    vectors::print_bytes(&reading.held.bytes);
     io::write_all(STDOUT, b"\n");
 }
 
-// One text to one line; false at the end of the input.
-fn next_line() -> bool {
-    let mut source = [0u8; 1024];
-    let got = io::read_full(STDIN, &mut source);
-    if got == 0 {
-        return false;
-    }
-    print_reading(hexadecimal::decode(&source[..got]));
-    true
-}
-
 fn main() {
-    let mut left: u32 = 1_000_000;
-    while 0 < left {
-        let more = next_line();
-        if !more {
+    for _ in 0..1_000_000 {
+        let mut source = [0; 1024];
+        let got = io::read_full(STDIN, &mut source);
+        if got == 0 {
             return;
         }
-        left -= 1;
+        print_reading(&hexadecimal::decode(&source[..got]));
     }
 }

@@ -16,3 +16,12 @@ look-computes = tt
 unfoldable pub rows-compute : Unit {0}
 unfolding leaf-computes taken_as is_in every_look once way_of is_capable has_medium is_invalid is_fixed_medium flags rows_of
 rows-compute = tt
+
+-- the way to walk, and what a look answers that is refused, for the code that says so: an attribute names no dash
+unfoldable pub way_computes : Unit {0}
+unfolding pick is_in every_look once way_of
+way_computes = tt
+
+unfoldable pub refusal_computes : Unit {0}
+unfolding pick first_met look_causes walked_to look_for
+refusal_computes = tt

@@ -1,4 +1,3 @@
-pub mod Below
 pub mod Loads
 pub mod Looks
 pub mod Ways

@@ -11,7 +11,7 @@ use Rattle.image.specs.declared.Arguments.{Arguments}
 use Rattle.image.specs.Image.{block_count}
 use Rattle.image.specs.Arguments.{count_for}
 use Rattle.leaf.specs.Leaf.{cut}
-use Rattle.reader.specs.declared.Reading.{Reading}
+use Rattle.reader.specs.Reading.{Judged}
 use Rattle.reader.specs.Reading.{judge_causes, accepted_reading, judged_reading, accepted_answer}
 use Rattle.reader.proofs.Readings.{accepted-judged, rest_of, reading-number}
 use Rattle.walk.specs.declared.Walk.{Walk}
@@ -32,7 +32,7 @@ module _ (w : Walk) (image : List ℕ) (a : Arguments) where
   unfolding load_for load_causes first_met walked_to pick
   load-loaded e = rw e
 
-  module _ (e : w.loaded ≡ false) (r : Reading) (er : r ≡ judged_reading image a) where
+  module _ (e : w.loaded ≡ false) (r : Judged) (er : r ≡ judged_reading image a) where
     judged-number : r.answer.number ≡ first_met (judge_causes image a)
     unfolding judged_reading
     judged-number = reading-number (first_met (judge_causes image a)) image a r er

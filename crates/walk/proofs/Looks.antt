@@ -4,7 +4,7 @@ use mathlib.Core.Path.{◌≡◌, refl}
 use mathlib.Core.List.{List}
 use mathlib.Core.Bool.{Bool, true, false}
 use lib.Dec.{eqb, lit<}
-use borrow.Author.Tests.{eqb-false, ne_eqb}
+use borrow.Author.Tests.{eqb-false}
 use Rattle.rom.specs.Bytes.{pick}
 use Rattle.rom.specs.Refusal.{first_met}
 use Rattle.rom.proofs.First.{none_here}
@@ -19,14 +19,10 @@ accepted-looks w report e =
     let missing = none_here _ _ (lit< tt) fresh.1 in
     eqb-false w.looks 65535 (none_here _ _ (lit< tt) missing.1).0
 
-module _ (w : Walk) (report : List ℕ) (n : ℕ) (e : n ≡ first_met (look_causes w report)) where
-  pub look-refused : (n ≡ 0 → ⊥) → record { number = n; walk = w } ≡ look_for w report
-  unfolding look_for walked_to pick
-  look-refused h = rw (← e, ne_eqb n 0 h)
-
-  pub look-done : (next : Walk) → n ≡ 0 → next ≡ stepped w report → record { number = n; walk = next } ≡ look_for w report
-  unfolding look_for walked_to pick
-  look-done next z f = rw (← e, z, f)
+pub look-done : (w : Walk) (report : List ℕ) (n : ℕ) → n ≡ first_met (look_causes w report) → (next : Walk) → n ≡ 0
+    → next ≡ stepped w report → record { number = n; walk = next } ≡ look_for w report
+unfolding look_for walked_to pick
+look-done w report n e next z f = rw (← e, z, f)
 
 -- what a look does not change: whether a walk is loaded, its type, its default and the block that has the fixed medium
 pub record SameLeaf (w next : Walk) : Type 0 where

@@ -3,37 +3,13 @@ use Prim.Native.Nat.{ℕ}
 use mathlib.Core.Path.{◌≡◌, refl, ap, sym, ◌∙◌}
 use mathlib.Core.List.{List, [], ◌∷◌}
 use mathlib.Core.Bool.{Bool, true, false}
-use mathlib.Core.Logic.{◌⊎◌, inl, inr}
 use lib.Dec.{eqb}
-use borrow.Author.Tests.{ne_eqb}
 use Rattle.rom.specs.Bytes.{pick}
 use Rattle.rom.specs.Refusal.{first_met}
 use Rattle.walk.specs.declared.Walk.{Walk}
-use Rattle.walk.specs.declared.Way.TheVariants.{EveryLook, Once, Fixed}
 use Rattle.walk.specs.Walk.{way_of, stays, up_in, sensed, fixed_block, chosen, look_causes, stepped, walked_to, look_for}
 use Rattle.walk.specs.Claims.{under, EqualButType, SameWay, EmptyAsOnce}
 use Rattle.walk.proofs.Computes.{look-computes}
-
--- ## The three ways
-
-pub every-look : (c : ℕ) → (c ≡ 0x0800) ⊎ (c ≡ 0x0900) → EveryLook ≡ way_of c
-unfolding look-computes
-every-look c (inl e) = rw e
-every-look c (inr e) = rw e
-
-pub just-once : (c : ℕ) → (c ≡ 0x8800) ⊎ (c ≡ 0xFFFF) → Once ≡ way_of c
-unfolding look-computes
-just-once c (inl e) = rw e
-just-once c (inr e) = rw e
-
-pub every-other : (c : ℕ) → ((c ≡ 0x0800) ⊎ (c ≡ 0x0900) → ⊥) → ((c ≡ 0x8800) ⊎ (c ≡ 0xFFFF) → ⊥) → Fixed ≡ way_of c
-unfolding look-computes
-every-other c g h = simp (
-  ne_eqb 0x0800 c (λ e. g (inl (sym e))),
-  ne_eqb 0x0900 c (λ e. g (inr (sym e))),
-  ne_eqb 0x8800 c (λ e. h (inl (sym e))),
-  ne_eqb 0xFFFF c (λ e. h (inr (sym e))),
-)
 
 -- ## One look
 

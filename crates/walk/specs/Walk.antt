@@ -3,6 +3,9 @@
 -- switches stay at their most.
 use Rattle.std.specs.Prelude.{ℕ, zero, suc, ◌+◌, ◌-◌, ◌%◌, List, [], ◌∷◌, ◌++◌, map, Bool, true, false, ◌||◌, ◌&&◌, not, eqb, ltb}
 use Rattle.std.specs.Prelude.{length, replicate}
+use Rattle.std.specs.Prelude.{Result}
+use Rattle.rom.specs.declared.refusal.Refusal.{Refusal}
+use Rattle.rom.specs.Numbers.{answer_number}
 use Rattle.rom.specs.Geometry.{none}
 use Rattle.rom.specs.Bytes.{pick, byte_at, bit, is_in, one, any_below}
 use Rattle.rom.specs.Refusal.{Cause, ◌⇒◌, first_met}
@@ -14,7 +17,6 @@ use Rattle.reader.specs.Reading.{blocks_for, judge_causes, accepted_answer}
 use Rattle.walk.specs.declared.Walk.{Walk}
 use Rattle.walk.specs.declared.Walked.{Walked}
 use Rattle.walk.specs.declared.Rows.{Rows}
-use Rattle.walk.specs.declared.Choice.{Choice}
 use Rattle.walk.specs.declared.Way.{Way}
 use Rattle.walk.specs.declared.Way.TheVariants.{EveryLook, Once, Fixed}
 
@@ -185,6 +187,11 @@ first_up listed invalid settled report blocks = last_below (λ k. is_candidate l
 unfoldable pub up_in : Walk → List ℕ → ℕ
 up_in w report = first_up w.rows.listed w.rows.active_invalid w.settled report w.blocks
 
+-- what a look selects, and whether the walk is then settled
+pub record Choice : Type 0 where
+  pub settled : Bool
+  pub selected : ℕ
+
 -- it is selected and settled becomes yes; with none up, the default is selected, or none, and settled is unchanged
 abbrev pub choice : Bool → ℕ → Choice
 choice settled selected = record { settled = settled; selected = selected }
@@ -256,3 +263,7 @@ look_for w report = walked_to (first_met (look_causes w report)) (stepped w repo
 -- clearing makes it fresh and always succeeds
 unfoldable pub clear_for : Walk → Walked
 clear_for w = record { number = 0; walk = fresh_walk }
+
+-- what C gets of a call: its number, and the walk behind it
+abbrev pub walked_from : Result (Unit {0}) Refusal → Walk → Walked
+walked_from answer w = record { number = answer_number answer; walk = w }

@@ -37,13 +37,6 @@ pub struct Walked {
     pub walk: Walk,
 }
 
-// What a look selects, and whether the walk is then settled.
-#[derive(Drop)]
-pub struct Choice {
-    pub settled: bool,
-    pub selected: u8,
-}
-
 // How a walk goes by its connection type: autosensed at every look, autosensed once, or fixed.
 #[derive(Clone, Copy)]
 pub enum Way {

@@ -4,132 +4,102 @@
 // look.
 #![tactic(auto)]
 
-use autosense::{Walk, Walked};
+use arrayvec::ArrayVec;
 use reader::Arguments;
-use rom::{ByteOffset, Layout};
-use text::line::{STDIN, STDOUT};
-use text::slice::part;
-
-const LOAD: u8 = 0;
-
-const CLEAR: u8 = 1;
+use rom::Refusal;
+use vectors::{print, print_number};
+use walk::Walk;
 
 // The bytes of a record before the image's.
 const HEAD: usize = 11;
 
-fn print_number(n: u64) {
-    io::print_decimal(STDOUT, n);
+// A call, and the report of a look.
+#[derive(Drop)]
+enum WalkCall {
+    Load,
+    Clear,
+    Look(ArrayVec<u8, 255>),
 }
 
 fn print_selected(selected: u8) {
     if selected == rom::NONE {
-        io::write_all(STDOUT, b"none");
+        print(b"none");
     } else {
-        print_number(selected as u64);
+        print_number(u64::from(selected));
     }
 }
 
-fn print_walk(walk: Walk) {
+fn print_walk(walk: &Walk) {
     if !walk.loaded {
-        io::write_all(STDOUT, b"fresh");
+        print(b"fresh");
         return;
     }
     if walk.settled {
-        io::write_all(STDOUT, b"settled ");
+        print(b"settled ");
     } else {
-        io::write_all(STDOUT, b"unsettled ");
+        print(b"unsettled ");
     }
     print_selected(walk.selected);
-    io::write_all(STDOUT, b" ");
-    print_number(walk.looks as u64);
-    io::write_all(STDOUT, b" ");
-    print_number(walk.switches as u64);
+    print(b" ");
+    print_number(u64::from(walk.looks));
+    print(b" ");
+    print_number(u64::from(walk.switches));
 }
 
-fn print_line(walked: Walked) {
-    print_number(walked.number as u64);
-    io::write_all(STDOUT, b" ");
-    let walk = walked.walk;
+fn print_line(answer: Result<(), Refusal>, walk: &Walk) {
+    match answer {
+        Ok(()) => print_number(0),
+        Err(refusal) => print_number(u64::from(refusal.number())),
+    }
+    print(b" ");
     print_walk(walk);
-    io::write_all(STDOUT, b"\n");
+    print(b"\n");
 }
 
 // The next byte of the input, 0 at its end.
 fn next_byte() -> u8 {
-    let mut one = [0u8; 1];
-    io::read_full(STDIN, &mut one);
-    one[0]
+    let byte = vectors::next_bytes::<1>(1);
+    byte.first().copied().unwrap_or(0)
 }
 
-// A look with the front of the room.
-fn look_front(walk: Walk, room: &[u8], length: usize) -> Walked {
-    if room.len() < length {
-        return autosense::look(walk, room);
+fn next_call() -> WalkCall {
+    match next_byte() {
+        0 => WalkCall::Load,
+        1 => WalkCall::Clear,
+        _ => WalkCall::Look(vectors::next_bytes(usize::from(next_byte()))),
     }
-    autosense::look(walk, &room[..length])
 }
 
-// A look with the report that follows on the input.
-fn next_look(walk: Walk) -> Walked {
-    let length = next_byte() as usize;
-    let mut room = [0u8; 255];
-    vectors::read_front(&mut room, length);
-    look_front(walk, &room, length)
-}
-
-fn next_call(walk: Walk, image: &[u8], arguments: Arguments) -> Walked {
-    let call = next_byte();
-    if call == LOAD {
-        return autosense::load(walk, image, arguments);
+fn take(
+    call: WalkCall,
+    walk: &mut Walk,
+    image: &[u8],
+    arguments: Arguments,
+) -> Result<(), Refusal> {
+    match call {
+        WalkCall::Load => autosense::load(walk, image, arguments),
+        WalkCall::Clear => {
+            autosense::clear(walk);
+            Ok(())
+        }
+        WalkCall::Look(report) => autosense::look(walk, &report),
     }
-    if call == CLEAR {
-        return autosense::clear(walk);
-    }
-    next_look(walk)
 }
 
-fn run(image: &[u8], arguments: Arguments, count: u8) {
+fn run(image: &[u8], arguments: Arguments, calls: u8) {
     let mut walk = autosense::fresh();
-    let mut left = count;
-    while 0 < left {
-        let walked = next_call(walk, image, arguments);
-        print_line(walked);
-        walk = walked.walk;
-        left -= 1;
+    for _ in 0..calls {
+        let answer = take(next_call(), &mut walk, image, arguments);
+        print_line(answer, &walk);
     }
-}
-
-// One record; false at the end of the input.
-fn next_record() -> bool {
-    let mut head = [0u8; HEAD];
-    let got = io::read_full(STDIN, &mut head);
-    if got < HEAD {
-        return false;
-    }
-    let length = rom::word_at(&head, ByteOffset(0)) as usize;
-    let arguments = Arguments {
-        chip: rom::word_at(&head, ByteOffset(2)),
-        controller: head[4],
-        level: head[5],
-        layout: Layout {
-            size: rom::word_at(&head, ByteOffset(6)),
-            magic: head[8] == 1,
-        },
-        first_edition: head[9] == 1,
-    };
-    let mut room = io::buffer();
-    vectors::read_front(&mut room, length);
-    run(part(&room, 0, length), arguments, head[10]);
-    true
 }
 
 fn main() {
-    let mut left: u32 = 1_000_000;
-    while 0 < left {
-        let more = next_record();
-        if !more {
+    for _ in 0..vectors::RECORDS {
+        let Some(record) = vectors::next_record::<HEAD>() else {
             return;
-        }
-        left -= 1;
+        };
+        let head = record.head;
+        run(&record.rest, vectors::arguments_in(&head), head[10]);
     }
 }

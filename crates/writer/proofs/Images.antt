@@ -6,7 +6,7 @@ use mathlib.Core.List.{List, [], ◌∷◌, ◌++◌, append_assoc, append-nil}
 use native.Mathlib.Omega.{arith}
 use native.Mathlib.Nat.{sub-zero, zero-sub, suc-sub-suc}
 use lib.ListN.{length, take, drop, set, length-append, length-drop, length-replicate, drop_of_length-le}
-use lib.Seq.{take_at, take_all, drop_at, drop-append-le, drop-append-add, set_at, length-take-le}
+use lib.Seq.{take_at, take_all, drop_at, drop-append-le, drop-append-add, set_at}
 use borrow.Rule.Slice.PartMut.{put_mid}
 use Rattle.rom.specs.declared.Layout.{Layout}
 use Rattle.rom.specs.Geometry.{large_size, wrong_length, image_length, board_length, checked_length, leaves_end, id_crc_at}
@@ -22,11 +22,13 @@ use Rattle.sheet.specs.Record.{Plain}
 use Rattle.sheet.specs.Sheet.{plain_from}
 use Rattle.sheet.specs.Image.{leaf_start, front_with, front_of, leaf_of, covered_of, board_of, image_of}
 use Rattle.sheet.proofs.Crcs.{srom-front}
-use Rattle.sheet.proofs.Sheets.{SizedFields, from-sized}
+use Rattle.sheet.proofs.Sheets.{SizedFields}
 use Rattle.sheet.proofs.Images.{front_length, covered-length, board-length}
-use Rattle.writer.specs.Inside.{head_in, zeros, frame_of, with_id_crc, with_srom_crc, Writable}
+use Rattle.writer.specs.Inside.{Counted}
+use Rattle.writer.specs.Inside.{zeros, frame_of, with_id_crc, with_srom_crc, Writable}
 use Rattle.writer.proofs.Checksums.{id-covers-front}
-use Rattle.writer.proofs.Sheets.{is-whole, has-head, leaf-fits}
+use Rattle.writer.proofs.Sheets.{leaf-fits}
+use Rattle.writer.proofs.Counting.{sized-fields}
 
 -- ## Zeros
 
@@ -54,13 +56,13 @@ put-zeros n k m h = ap₂ (λ (a b : List ℕ). a ++ (m ++ b)) (take-zeros k n (
 -- ## The frame
 
 -- what stands before the leaf, part by part
-pub front-laid : (s : List ℕ) → head_length ≤ length s → {none id last address front : List ℕ} → none ≡ zeros leaf_start
+pub front-laid : (n : ℕ) (s : List ℕ) → head_length ≤ length s → {none id last address front : List ℕ} → none ≡ zeros leaf_start
     → id ≡ laid none 0 (take 16 (drop 2 s)) → last ≡ laid id 17 (take 2 (drop 18 s))
     → address ≡ laid (set last 19 1) 20 (take 7 (drop 20 s))
     → front ≡ laid address 27 (word_bytes leaf_start)
-    → front ≡ front_with 0 (head_in s)
+    → front ≡ front_with 0 (plain_from n s)
 unfolding pick put laid zeros front_with plain_from spell word_bytes
-front-laid s h e₀ e₁ e₂ e₃ e₄ =
+front-laid n s h e₀ e₁ e₂ e₃ e₄ =
     rw (e₄, e₃, e₂, e₁, e₀)
     (rw (
       spelled 2 16 s (omega arith),
@@ -69,55 +71,38 @@ front-laid s h e₀ e₁ e₂ e₃ e₄ =
       spelled 20 6 s (omega arith),
     ) refl)
 
-module _ (s : List ℕ) (h : head_length ≤ length s) where
-  sixteen : length (head_in s).id ≡ 16
-  unfolding plain_from
-  sixteen = length-take-le 16 (drop 2 s) (omega (arith, length-drop 2 s))
-
-  six : length (head_in s).address ≡ 6
-  unfolding plain_from
-  six = length-take-le 6 (drop 20 s) (omega (arith, length-drop 20 s))
-
-  two : length (head_in s).maker ≡ 2
-  unfolding plain_from
-  two = length-take-le 2 (drop 32 s) (omega (arith, length-drop 32 s))
-
-  front-start : (crc : ℕ) → length (front_with crc (head_in s)) ≡ leaf_start
-  unfolding front_with word_bytes
-  front-start crc = simp length-append (omega (arith, sixteen, six))
-
+module _ (p : Plain) (z : SizedFields p) where
   -- among zeros, and the maker's bytes where leaves end
   pub frame_is : (l : Layout) (at : ℕ) {none front image framed : List ℕ} → none ≡ zeros (image_length l.size)
-      → front ≡ front_with 0 (head_in s) → image ≡ laid none 0 front → at ≡ leaves_end l → framed ≡ laid image at (take 2 (drop 32 s))
-      → framed ≡ frame_of l (front_with 0 (head_in s)) (head_in s).maker
-  unfolding frame_of plain_from zeros front_with
+      → front ≡ front_with 0 p → image ≡ laid none 0 front → at ≡ leaves_end l → framed ≡ laid image at p.maker
+      → framed ≡ frame_of l (front_with 0 p) p.maker
+  unfolding frame_of zeros front_with
   frame_is l at e₀ e₁ e₂ ea ef =
       let g = geometry l in
-      let f = front_with 0 (head_in s) in
+      let f = front_with 0 p in
       let n = image_length l.size in
       let k = leaves_end l - leaf_start in
-      let m = take 2 (drop 32 s) in
+      let m = p.maker in
       let place : at ≡ leaf_start + k = omega arith in
-      let behind : n - (0 + length f) ≡ n - leaf_start = omega (arith, front-start 0) in
-      let left : (n - leaf_start) - (k + length m) ≡ n - checked_length l = omega (arith, two) in
+      let behind : n - (0 + length f) ≡ n - leaf_start = omega (arith, front_length p 0 z) in
+      let left : (n - leaf_start) - (k + length m) ≡ n - checked_length l = omega (arith, z.maker) in
       let first = e₂ ∙ ap₂ (λ (x y : List ℕ). laid x 0 y) e₀ e₁
-      ∙ laid-put (zeros n) 0 f (omega (arith, front-start 0, zeros-length n)) ∙ put-zeros n 0 f (omega (arith, front-start 0)) in
+      ∙ laid-put (zeros n) 0 f (omega (arith, front_length p 0 z, zeros-length n)) ∙ put-zeros n 0 f (omega (arith, front_length p 0 z)) in
       ef ∙ ap₂ (λ (x : List ℕ) (i : ℕ). laid x i m) (first ∙ ap (λ (i : ℕ). f ++ zeros i) behind) place
-      ∙ laid-behind f (zeros (n - leaf_start)) m leaf_start k (front-start 0)
-      (omega (arith, two, zeros-length (n - leaf_start)))
+      ∙ laid-behind f (zeros (n - leaf_start)) m leaf_start k (front_length p 0 z)
+      (omega (arith, z.maker, zeros-length (n - leaf_start)))
       ∙ ap (λ (x : List ℕ). f ++ x)
-      (put-zeros (n - leaf_start) k m (omega (arith, two)) ∙ ap (λ (i : ℕ). zeros k ++ (m ++ zeros i)) left)
+      (put-zeros (n - leaf_start) k m (omega (arith, z.maker)) ∙ ap (λ (i : ℕ). zeros k ++ (m ++ zeros i)) left)
 
   -- the ID CRC goes to its byte, which it does not cover
-  pub with-id-crc : (l : Layout) → with_id_crc (frame_of l (front_with 0 (head_in s)) (head_in s).maker)
-      ≡ frame_of l (front_of (head_in s)) (head_in s).maker
+  pub with-id-crc : (l : Layout) → with_id_crc (frame_of l (front_with 0 p) p.maker)
+      ≡ frame_of l (front_of p) p.maker
   unfolding with_id_crc frame_of front_of front_with
   with-id-crc l =
-      let p = head_in s in
       let rest = zeros (leaves_end l - leaf_start) ++ (p.maker ++ zeros (image_length l.size - checked_length l)) in
-      ap (λ (v : ℕ). set (front_with 0 p ++ rest) id_crc_at v) (id-covers-front (front_with 0 p) rest (omega (arith, front-start 0)))
+      ap (λ (v : ℕ). set (front_with 0 p ++ rest) id_crc_at v) (id-covers-front (front_with 0 p) rest (omega (arith, front_length p 0 z)))
       ∙ ap (λ (x : List ℕ). set x id_crc_at (id_crc (front_with 0 p))) (append_assoc p.id _ rest)
-      ∙ set_at p.id 0 _ (id_crc (front_with 0 p)) 16 sixteen
+      ∙ set_at p.id 0 _ (id_crc (front_with 0 p)) 16 z.id
       ∙ sym (append_assoc p.id _ rest)
 
 -- ## The leaf in its place
@@ -166,63 +151,59 @@ with-srom-crc l c z h more =
     ∙ sym (append_assoc c (word_bytes v) (zeros (z - 2)))
     ∙ ap (λ (n : ℕ). (c ++ word_bytes n) ++ zeros (z - 2)) (srom-front l c (zeros z) (omega arith))
 
-module _ (l : Layout) (n : ℕ) (s out : List ℕ) (w : Writable l n s out) where
-  size : SizedFields (plain_from n s)
-  size = from-sized _ _ _ (is-whole w.is)
-
+-- the length that is written to, which what is built for it has too
+module _ {l : Layout} {n : ℕ} {s out : List ℕ} (w : Writable l n s out) where
   pub output-length : length out ≡ image_length l.size
   output-length = right-length l.size (length out) w.right
 
-  -- and so has what is built for it
-  pub right-image : (n : ℕ) → n ≡ image_length l.size → wrong_length l.size n ≡ false
-  right-image n e = ap (wrong_length l.size) (e ∙ sym output-length) ∙ w.right
+  pub right-image : {n : ℕ} → n ≡ image_length l.size → wrong_length l.size n ≡ false
+  right-image e = ap (wrong_length l.size) (e ∙ sym output-length) ∙ w.right
 
-  -- the front and the maker's bytes do not go by the entries
-  same-frame : frame_of l (front_of (head_in s)) (head_in s).maker ≡ frame_of l (front_of (plain_from n s)) (plain_from n s).maker
-  unfolding front_of front_with plain_from
-  same-frame = refl
+module _ {n : ℕ} {s : List ℕ} (is : Counted n s) {l : Layout} {out : List ℕ} (w : Writable l n s out) where
+  size : SizedFields (plain_from n s)
+  size = sized-fields is
 
   regrouped : (f p m : List ℕ) (k z : ℕ) → f ++ (padded k p ++ (m ++ zeros z)) ≡ (f ++ (padded k p ++ m)) ++ zeros z
   regrouped f p m k z = simp append_assoc
 
   -- frame, ID CRC, leaf, SROM CRC
-  board-is : (image₀ image room image₂ : List ℕ) → image₀ ≡ frame_of l (front_with 0 (head_in s)) (head_in s).maker
+  board-is : {image₀ image room image₂ : List ℕ} → image₀ ≡ frame_of l (front_with 0 (plain_from n s)) (plain_from n s).maker
       → image ≡ with_id_crc image₀ → (m : ℕ) → m ≡ image_length l.size - leaf_start
       → room ≡ put (take m (drop leaf_start image)) 0 (leaf_of (plain_from n s))
       → image₂ ≡ with_srom_crc l (put_mid leaf_start m image room)
       → image₂ ≡ board_of l (plain_from n s) ++ zeros (image_length l.size - board_length l)
   unfolding board_of covered_of frame_of front_of
-  board-is image₀ image room image₂ e₀ e m em er e₂ =
+  board-is {image₀} {image} {room} {image₂} e₀ e m em er e₂ =
       let g = geometry l in
       let p : Plain = plain_from n s in
       let z = image_length l.size - checked_length l in
-      let i : image ≡ frame_of l (front_of p) p.maker = e ∙ ap with_id_crc e₀ ∙ with-id-crc s (has-head n s w.is) l ∙ same-frame in
+      let i : image ≡ frame_of l (front_of p) p.maker = e ∙ ap with_id_crc e₀ ∙ with-id-crc (plain_from n s) size l in
       let after : (leaves_end l - leaf_start) + length (p.maker ++ zeros z) ≤ m
       = simp length-append (omega (arith, size.maker, zeros-length z)) in
       let whole : put_mid leaf_start m image room ≡ covered_of l p ++ zeros z
       = ap (put_mid leaf_start m image) er
       ∙ ap (λ (x : List ℕ). put_mid leaf_start m x (put (take m (drop leaf_start x)) 0 (leaf_of p))) i
       ∙ leaf-in-place (front_of p) (leaf_of p) (p.maker ++ zeros z) (leaves_end l - leaf_start) m
-      (front_length p (id_crc (front_with 0 p)) size) (leaf-fits l n s out w) after
+      (front_length p (id_crc (front_with 0 p)) size) (leaf-fits w) after
       ∙ regrouped (front_of p) (leaf_of p) p.maker (leaves_end l - leaf_start) z in
       let left : z - 2 ≡ image_length l.size - board_length l = omega arith in
       e₂ ∙ ap (with_srom_crc l) whole
-      ∙ with-srom-crc l (covered_of l p) z (covered-length l p [] size (leaf-fits l n s out w)) (omega arith)
+      ∙ with-srom-crc l (covered_of l p) z (covered-length l p [] size (leaf-fits w)) (omega arith)
       ∙ ap (λ (k : ℕ). board_of l p ++ zeros k) left
 
   -- and what the output has behind the board
-  pub built-is : (image₀ image room image₂ built : List ℕ) → image₀ ≡ frame_of l (front_with 0 (head_in s)) (head_in s).maker
+  pub built-is : {image₀ image room image₂ built : List ℕ} → image₀ ≡ frame_of l (front_with 0 (plain_from n s)) (plain_from n s).maker
       → image ≡ with_id_crc image₀ → (m : ℕ) → m ≡ image_length l.size - leaf_start
       → room ≡ put (take m (drop leaf_start image)) 0 (leaf_of (plain_from n s))
       → image₂ ≡ with_srom_crc l (put_mid leaf_start m image room)
-      → (end : ℕ) → end ≡ board_length l → built ≡ laid image₂ end (take (length out - end) (drop end out))
+      → {end : ℕ} → end ≡ board_length l → built ≡ laid image₂ end (take (length out - end) (drop end out))
       → built ≡ image_of l (plain_from n s) out
   unfolding image_of
-  built-is image₀ image room image₂ built e₀ e m em er e₂ end ee eb =
+  built-is e₀ e m em er e₂ {end} ee eb =
       let g = geometry l in
       let p : Plain = plain_from n s in
       let z = zeros (image_length l.size - board_length l) in
-      let b = board-length l p out size (leaf-fits l n s out w) in
+      let b = board-length l p out size (leaf-fits w) in
       let tail : take (length out - end) (drop end out) ≡ drop (board_length l) out
       = ap (λ (k : ℕ). take (length out - k) (drop k out)) ee
       ∙ take_all (length out - board_length l) (drop (board_length l) out) (simp length-drop (omega arith)) in
@@ -232,19 +213,22 @@ module _ (l : Layout) (n : ℕ) (s out : List ℕ) (w : Writable l n s out) wher
         length-append (board_of l p) z,
         length-drop (board_length l) out,
         b,
-        output-length,
+        output-length w,
         zeros-length (image_length l.size - board_length l),
       ) in
       eb ∙ ap₂ (λ (x : List ℕ) (k : ℕ). laid x k (take (length out - end) (drop end out)))
-      (board-is image₀ image room image₂ e₀ e m em er e₂) ee
+      (board-is e₀ e m em er e₂) ee
       ∙ ap (laid (board_of l p ++ z) (board_length l)) tail
       ∙ laid_end (board_of l p ++ z) (drop (board_length l) out) (board_length l) long
       ∙ ap (λ (x : List ℕ). x ++ drop (board_length l) out) (take_at (board_of l p) z (board_length l) b)
 
 -- ## The zeros that it is built in
 
-pub in-zeros : (l : Layout) (room : List ℕ) (n : ℕ) → room ≡ zeros large_size → n ≡ image_length l.size
-    → take n room ≡ zeros (image_length l.size)
-in-zeros l room n er en =
-    let g = geometry l in
-    ap₂ take en er ∙ take-zeros (image_length l.size) large_size (omega arith)
+module _ (l : Layout) (room : List ℕ) {n : ℕ} (er : room ≡ zeros large_size) (en : n ≡ image_length l.size) where
+  pub room-fits : n ≤ length room
+  room-fits = let g = geometry l in omega (arith, ap length er, zeros-length large_size)
+
+  pub in-zeros : take n room ≡ zeros (image_length l.size)
+  in-zeros =
+      let g = geometry l in
+      ap₂ take en er ∙ take-zeros (image_length l.size) large_size (omega arith)

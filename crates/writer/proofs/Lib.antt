@@ -1,7 +1,6 @@
-pub mod Tests
-pub mod Bodies
+pub mod Left
+pub mod Counting
 pub mod Openings
-pub mod Parts
 pub mod Loops
 pub mod Sheets
 pub mod Checksums

@@ -1,165 +1,133 @@
--- What the two loops over entries keep. Assumes nothing.
-use Prim.Native.Nat.{ℕ, ◌+◌, ◌*◌, ◌-◌, ◌≤◌, ◌<◌}
-use mathlib.Core.Path.{◌≡◌, refl, sym, ap, ap₂, ◌∙◌}
-use mathlib.Core.Bool.{Bool, true, false, ◌||◌}
-use mathlib.Core.List.{List, ◌++◌, append_assoc, append-nil}
-use native.Mathlib.Omega.{arith}
-use native.Mathlib.Nat.{add-zero}
-use lib.ListN.{length, take, drop, length-append, take-append-drop}
-use lib.Seq.{length-take-le, drop-drop}
-use borrow.Author.Tests.{lt-ltb, le-ltb}
-use Rattle.rom.specs.Bytes.{byte_at, word_at}
+-- What the two passes over entries keep. Assumes nothing.
+use Rattle.std.proofs.Common.{ℕ, ◌+◌, ◌*◌, ◌≡◌, ◌≤◌, ◌<◌, ◌∙◌, refl, sym, ap, true, false, ◌||◌, Bool, List, [], ◌∷◌, ◌++◌, length, arith}
+use Rattle.std.proofs.Common.{lt-ltb, le-ltb}
+use Rattle.std.proofs.Math.ListN.{length-append}
+use Rattle.rom.specs.Bytes.{pick, byte_at, bit}
 use Rattle.rom.specs.Store.{put}
 use Rattle.rom.specs.Refusal.{first_met}
 use Rattle.rom.proofs.Reached.{reached, end, stop, skip}
 use Rattle.rom.proofs.Truth.{or-false}
-use Rattle.rom.proofs.Put.{put-length, put-take, put-drop}
+use Rattle.rom.proofs.Put.{put-none, put-put, put-length}
+use Rattle.format.specs.Block.{sia_size}
 use Rattle.sheet.specs.Record.{Entry}
-use Rattle.sheet.specs.Sheet.{entries_from}
-use Rattle.sheet.specs.Image.{encode, encodes}
+use Rattle.sheet.specs.Image.{opening_of, encode, encodes}
 use Rattle.sheet.specs.Write.{is_bad, any_bad}
-use Rattle.writer.specs.Inside.{entry, opening_size, Parts, Fits, Holds, entry_causes}
-use Rattle.writer.proofs.Openings.{encode-length, size_small}
-use Rattle.writer.proofs.Parts.{entries_none, next, next-body, rests, first}
+use Rattle.sheet.proofs.Blocks.{Good, good-compact, good-21041, good-extended, good-so, opening-compact, opening-21041, opening-extended}
+use Rattle.writer.specs.Inside.{Fits, Holds, entry_causes}
+
+-- ## One entry and those behind it
+
+module _ {all : List Entry} {e : Entry} {es : List Entry} (first : all ≡ e ∷ es) where
+  blocks-length : length (encodes all) ≡ length (encode e) + length (encodes es)
+  unfolding encodes
+  blocks-length = ap (λ (l : List Entry). length (encodes l)) first ∙ length-append (encode e) (encodes es)
+
+  bad-either : (row : ℕ) → any_bad row all ≡ (is_bad row e || any_bad row es)
+  unfolding any_bad
+  bad-either row = ap (any_bad row) first
+
+-- a block that images hold has its length in a byte
+sia-few : (n : ℕ) → sia_size n ≤ 7
+unfolding sia_size pick
+sia-few n = go (bit 6 n)
+  where
+    go : (t : Bool) → pick t 7 1 ≤ 7
+    go true = omega arith
+    go false = omega arith
+
+good-small : (row : ℕ) (e : Entry) → is_bad row e ≡ false → length (encode e) ≤ 255
+good-small row e h = go (good-so row e h)
+  where
+    long : (l : List ℕ) → opening_of e ≡ l → length (encode e) ≡ length l + length e.body
+    long l o = ap (λ (x : List ℕ). length (x ++ e.body)) o ∙ length-append l e.body
+
+    go : Good row e → length (encode e) ≤ 255
+    go (good-compact k c l b) = omega (arith, long [] (opening-compact e k), l)
+    go (good-21041 k c l) = omega (arith, long [] (opening-21041 e k), l, sia-few (byte_at e.body 0))
+    go (good-extended k c l) = omega (arith, long _ (opening-extended e k), l)
 
 -- ## The leaf measured
 
--- where the leaf ends so far, and what is left of its entries
-pub record SizedBodies (row start : ℕ) (all : List Entry) (n : ℕ) (ks ss bs : List ℕ) (end : ℕ) : Type 0 where
-  pub parts : Parts n ks ss bs
-  pub bad : any_bad row (entries_from n ks ss bs) ≡ any_bad row all
-  pub size : end + length (encodes (entries_from n ks ss bs)) ≡ start + length (encodes all)
-  pub few : end + 258 * n ≤ 66048
+-- where the leaf ends so far, and the entries that are left
+pub record SizedBodies (row start : ℕ) (all left : List Entry) (at : ℕ) : Type 0 where
+  pub bad : any_bad row left ≡ any_bad row all
+  pub size : at + length (encodes left) ≡ start + length (encodes all)
+  pub few : at + 255 * length left ≤ 65536
 
-pub sized-start : (row start n : ℕ) (ks ss bs : List ℕ) → n < 256 → start < 256 → Parts n ks ss bs
-    → SizedBodies row start (entries_from n ks ss bs) n ks ss bs start
-sized-start row start n ks ss bs h g p = record { parts = p; bad = refl; size = refl; few = omega arith }
+pub sized-start : {row start : ℕ} {all left : List Entry} → left ≡ all → (length all < 256) × (start < 256)
+    → SizedBodies row start all left start
+sized-start e h = rw e (record { bad = refl; size = refl; few = omega arith })
 
--- with no entry left the leaf's end is found, and decides
-module _ {row start : ℕ} {all : List Entry} {n : ℕ} {ks ss bs : List ℕ} {at : ℕ} (i : SizedBodies row start all n ks ss bs at)
-    (h : n ≤ 0) where
-  none-bad : any_bad row all ≡ false
-  unfolding any_bad
-  none-bad = sym i.bad ∙ ap (any_bad row) (entries_none n ks ss bs h)
+module _ {row start : ℕ} {all left : List Entry} {at : ℕ} (i : SizedBodies row start all left at) where
+  module _ {e : Entry} {es : List Entry} (first : left ≡ e ∷ es) where
+    pub sized-bad : (limit : ℕ) → is_bad row e ≡ true → 25 ≡ first_met (entry_causes limit row start all)
+    unfolding entry_causes
+    sized-bad limit b = reached (stop (sym i.bad ∙ bad-either first row ∙ ap (λ (t : Bool). t || any_bad row es) b))
 
-  at-end : at ≡ start + length (encodes all)
-  unfolding encodes
-  at-end = sym (add-zero at) ∙ ap (λ (l : List Entry). at + length (encodes l)) (sym (entries_none n ks ss bs h)) ∙ i.size
+    module _ (good : is_bad row e ≡ false) {m : ℕ} (em : m ≡ length (encode e)) where
+      pub sized-room : at + m ≤ 65536
+      sized-room = omega (arith, i.few, ap length first, good-small row e good)
 
-  pub sized-long : (limit : ℕ) → limit < at → 26 ≡ first_met (entry_causes limit row start all)
-  unfolding entry_causes
-  sized-long limit l = reached (skip none-bad (stop (lt-ltb limit (start + length (encodes all)) (omega (arith, at-end)))))
+      pub sized-more : SizedBodies row start all es (at + m)
+      sized-more = record {
+        bad = ap (λ (t : Bool). t || any_bad row es) (sym good) ∙ sym (bad-either first row) ∙ i.bad;
+        size = omega (arith, i.size, blocks-length first);
+        few = omega (arith, i.few, ap length first, good-small row e good);
+      }
 
-  pub sized-none : (limit : ℕ) → at ≤ limit → 0 ≡ first_met (entry_causes limit row start all)
-  unfolding entry_causes
-  sized-none limit l = reached (skip none-bad (skip (le-ltb limit (start + length (encodes all)) (omega (arith, at-end))) end))
+  -- with no entry left the leaf's end is found, and decides
+  module _ (none : left ≡ []) where
+    none-bad : any_bad row all ≡ false
+    unfolding any_bad
+    none-bad = sym i.bad ∙ ap (any_bad row) none
+
+    at-end : at ≡ start + length (encodes all)
+    unfolding encodes
+    at-end = omega (arith, i.size, ap (λ (l : List Entry). length (encodes l)) none)
+
+    pub sized-long : (limit : ℕ) → limit < at → 26 ≡ first_met (entry_causes limit row start all)
+    unfolding entry_causes
+    sized-long limit l = reached (skip none-bad (stop (lt-ltb limit (start + length (encodes all)) (omega (arith, at-end)))))
+
+    pub sized-none : (limit : ℕ) → at ≤ limit → 0 ≡ first_met (entry_causes limit row start all)
+    unfolding entry_causes
+    sized-none limit l = reached (skip none-bad (skip (le-ltb limit (start + length (encodes all)) (omega (arith, at-end))) end))
 
 -- ## The leaf written
 
--- the room so far, and what is left of the entries
-pub record FilledRoom (room₀ : List ℕ) (start : ℕ) (all : List Entry) (room : List ℕ) (n : ℕ) (ks ss bs : List ℕ) (to : ℕ) : Type 0 where
-  pub parts : Parts n ks ss bs
-  pub row : ℕ
-  pub good : any_bad row (entries_from n ks ss bs) ≡ false
-  pub fits : to + length (encodes (entries_from n ks ss bs)) ≤ length room
-  pub front : take to room ++ encodes (entries_from n ks ss bs) ≡ take start room₀ ++ encodes all
-  pub back : drop to room ≡ drop to room₀
+-- the room so far, and the entries that are left
+pub record FilledRoom (room₀ : List ℕ) (start : ℕ) (all : List Entry) (room : List ℕ) (left : List Entry) (to : ℕ) : Type 0 where
+  pub holds : Holds room to left
+  pub filled : put room to (encodes left) ≡ put room₀ start (encodes all)
   pub same : length room ≡ length room₀
 
-pub filled-start : (room : List ℕ) (start n : ℕ) (ks ss bs : List ℕ) → Holds room start n ks ss bs
-    → FilledRoom room start (entries_from n ks ss bs) room n ks ss bs start
-filled-start room start n ks ss bs h =
-    record { parts = h.parts; row = h.row; good = h.good; fits = h.fits; front = refl; back = refl; same = refl }
+pub filled-start : {room : List ℕ} {start : ℕ} {all left : List Entry} → left ≡ all → Holds room start all
+    → FilledRoom room start all room left start
+filled-start e h = rw e (record { holds = h; filled = refl; same = refl })
 
-pub filled-end : {room₀ : List ℕ} {start : ℕ} {all : List Entry} {room : List ℕ} {n : ℕ} {ks ss bs : List ℕ} {to : ℕ}
-    → FilledRoom room₀ start all room n ks ss bs to → n ≤ 0 → start ≤ length room₀ → room ≡ put room₀ start (encodes all)
-unfolding encodes put
-filled-end {room₀} {start} {all} {room} {n} {ks} {ss} {bs} {to} i h low =
-    let e = entries_none n ks ss bs h in
-    let f : take to room ≡ take start room₀ ++ encodes all
-    = sym (append-nil (take to room)) ∙ ap (λ (l : List Entry). take to room ++ encodes l) (sym e) ∙ i.front in
-    let m : to ≡ start + length (encodes all)
-    = sym (length-take-le to room (omega (arith, i.fits))) ∙ ap length f ∙ length-append (take start room₀) (encodes all)
-    ∙ ap (λ (k : ℕ). k + length (encodes all)) (length-take-le start room₀ low) in
-    sym (take-append-drop to room) ∙ ap₂ (λ (a b : List ℕ). a ++ b) f (i.back ∙ ap (λ (k : ℕ). drop k room₀) m)
-    ∙ append_assoc (take start room₀) (encodes all) _
-
--- ## A turn of either: the parts that are left hold an entry, whose kind and size were read
-
-module _ (n : ℕ) (ks ss bs : List ℕ) (kind size : ℕ) (h : 0 < n) (p : Parts n ks ss bs) (ek : kind ≡ word_at ks 0)
-    (es : size ≡ byte_at ss 0) where
-  block-length : length (encode (entry kind (take size bs))) ≡ opening_size kind + size
-  block-length = encode-length kind (take size bs) ∙ ap (λ (k : ℕ). opening_size kind + k) (next-body n ks ss bs kind size h p ek es)
-
-  rest-length : length (encodes (entries_from n ks ss bs))
-      ≡ opening_size kind + size + length (encodes (entries_from (n - 1) (drop 2 ks) (drop 1 ss) (drop (byte_at ss 0) bs)))
+module _ {room₀ : List ℕ} {start : ℕ} {all : List Entry} {room : List ℕ} {left : List Entry} {to : ℕ}
+    (i : FilledRoom room₀ start all room left to) where
+  pub filled-end : left ≡ [] → room ≡ put room₀ start (encodes all)
   unfolding encodes
-  rest-length =
-      ap (λ (l : List Entry). length (encodes l)) (first n ks ss bs kind size h p ek es)
-      ∙ length-append (encode (entry kind (take size bs))) _
-      ∙ ap (λ (k : ℕ). k + length (encodes (entries_from (n - 1) (drop 2 ks) (drop 1 ss) (drop (byte_at ss 0) bs)))) block-length
+  filled-end none = sym (put-none room to) ∙ ap (λ (l : List Entry). put room to (encodes l)) (sym none) ∙ i.filled
 
-  rest-bad : (row : ℕ) → any_bad row (entries_from n ks ss bs)
-      ≡ (is_bad row (entry kind (take size bs)) || any_bad row (entries_from (n - 1) (drop 2 ks) (drop 1 ss) (drop (byte_at ss 0) bs)))
-  unfolding any_bad
-  rest-bad row = ap (any_bad row) (first n ks ss bs kind size h p ek es)
+  module _ {e : Entry} {es : List Entry} (first : left ≡ e ∷ es) where
+    good : (is_bad i.holds.row e ≡ false) × (any_bad i.holds.row es ≡ false)
+    good = or-false _ _ (sym (bad-either first i.holds.row) ∙ i.holds.good)
 
-  module _ {row start : ℕ} {all : List Entry} {at : ℕ} (i : SizedBodies row start all n ks ss bs at) where
-    pub sized-bad : (limit : ℕ) → true ≡ is_bad row (entry kind (take size bs)) → 25 ≡ first_met (entry_causes limit row start all)
-    unfolding entry_causes
-    sized-bad limit b =
-        reached (stop (sym i.bad ∙ rest-bad row
-        ∙ ap (λ (t : Bool). t || any_bad row (entries_from (n - 1) (drop 2 ks) (drop 1 ss) (drop (byte_at ss 0) bs))) (sym b)))
+    pub filled-fits : Fits room to e (encode e)
+    filled-fits = record { row = i.holds.row; good = good.0; fits = omega (arith, i.holds.fits, blocks-length first) }
 
-    pub sized-room : (m : ℕ) → m ≡ opening_size kind → size < 256 → at + (m + size) ≤ 66048
-    sized-room m em low = omega (arith, i.few, size_small kind)
-
-    pub sized-more : (m : ℕ) → m ≡ opening_size kind → size < 256 → false ≡ is_bad row (entry kind (take size bs))
-        → SizedBodies row start all (n - 1) (take (length ks - 2) (drop 2 ks)) (take (length ss - 1) (drop 1 ss))
-        (take (length bs - size) (drop size bs)) (at + (m + size))
-    sized-more m em low b =
-        rests n ks ss bs kind size h p ek es (λ (x y z : List ℕ). SizedBodies row start all (n - 1) x y z (at + (m + size)))
-        (record {
-          parts = (next n ks ss bs kind size h p ek es).rest;
-          bad =
-              sym (rest-bad row ∙ ap (λ (t : Bool). t
-              || any_bad row (entries_from (n - 1) (drop 2 ks) (drop 1 ss) (drop (byte_at ss 0) bs)))
-              (sym b)) ∙ i.bad;
-          size = omega (arith, i.size, rest-length);
-          few = omega (arith, i.few, size_small kind);
-        })
-
-  module _ {room₀ : List ℕ} {start : ℕ} {all : List Entry} {room : List ℕ} {to : ℕ}
-      (i : FilledRoom room₀ start all room n ks ss bs to) where
-    both : (is_bad i.row (entry kind (take size bs)) ≡ false)
-        × (any_bad i.row (entries_from (n - 1) (drop 2 ks) (drop 1 ss) (drop (byte_at ss 0) bs)) ≡ false)
-    both = or-false _ _ (sym (rest-bad i.row) ∙ i.good)
-
-    pub filled-fits : Fits room to (entry kind (take size bs)) (encode (entry kind (take size bs)))
-    filled-fits = record { row = i.row; good = both.0; fits = omega (arith, i.fits, rest-length, block-length) }
-
-    pub filled_more : (to₁ : ℕ) (room₁ : List ℕ) → to₁ ≡ to + length (encode (entry kind (take size bs)))
-        → room₁ ≡ put room to (encode (entry kind (take size bs)))
-        → FilledRoom room₀ start all room₁ (n - 1) (take (length ks - 2) (drop 2 ks)) (take (length ss - 1) (drop 1 ss))
-        (take (length bs - size) (drop size bs)) to₁
+    pub filled-more : {room₁ : List ℕ} {to₁ : ℕ} → to₁ ≡ to + length (encode e) → room₁ ≡ put room to (encode e)
+        → FilledRoom room₀ start all room₁ es to₁
     unfolding encodes
-    filled_more to₁ room₁ et er =
-        let l = encode (entry kind (take size bs)) in
-        let left = entries_from (n - 1) (drop 2 ks) (drop 1 ss) (drop (byte_at ss 0) bs) in
+    filled-more {room₁} {to₁} et er =
         let f = filled-fits.fits in
-        let same : length room₁ ≡ length room = ap length er ∙ put-length room to l f in
-        rests n ks ss bs kind size h p ek es (λ (x y z : List ℕ). FilledRoom room₀ start all room₁ (n - 1) x y z to₁)
-        (record {
-          parts = (next n ks ss bs kind size h p ek es).rest;
-          row = i.row;
-          good = both.1;
-          fits = omega (arith, i.fits, rest-length, block-length);
-          front =
-              ap₂ (λ (k : ℕ) (r : List ℕ). take k r ++ encodes left) et er ∙ ap (λ (x : List ℕ). x ++ encodes left) (put-take room to l f)
-              ∙ append_assoc (take to room) l (encodes left)
-              ∙ ap (λ (x : List Entry). take to room ++ encodes x) (sym (first n ks ss bs kind size h p ek es)) ∙ i.front;
-          back =
-              ap₂ drop et er ∙ put-drop room to l f ∙ sym (drop-drop (length l) to room) ∙ ap (drop (length l)) i.back
-              ∙ drop-drop (length l) to room₀ ∙ ap (λ (k : ℕ). drop k room₀) (sym et);
-          same = same ∙ i.same;
-        })
+        let long : length room₁ ≡ length room = ap length er ∙ put-length room to (encode e) f in
+        record {
+          holds = record { row = i.holds.row; good = good.1; fits = omega (arith, i.holds.fits, blocks-length first, long, et) };
+          filled =
+              rw (er, et) (put-put room to (encode e) (encodes es) f)
+              ∙ ap (λ (l : List Entry). put room to (encodes l)) (sym first) ∙ i.filled;
+          same = long ∙ i.same;
+        }

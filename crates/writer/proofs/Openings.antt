@@ -1,124 +1,53 @@
--- What stands before a block's body, and how long a block is. Assumes nothing.
-use Prim.Native.Nat.{ℕ, ◌+◌, ◌≤◌, ◌<◌}
-use mathlib.Core.Path.{◌≡◌, refl, sym, ap, ap₂, ◌∙◌}
-use mathlib.Core.Bool.{Bool, true, false, ◌||◌}
-use mathlib.Core.List.{List, [], ◌∷◌}
-use native.Mathlib.Omega.{arith}
-use lib.ListN.{length, set, length-append}
-use lib.Dec.{eqb, ltb}
-use borrow.Author.Tests.{eq-eqb, ne_eqb, eqb-false, ltb-false}
+-- What stands before a block's body, and the body behind it. Assumes nothing.
+use Rattle.std.proofs.Common.{ℕ, ◌+◌, ◌≡◌, ◌≤◌, ◌<◌, ◌∙◌, sym, ap, false, List, [], ◌∷◌, length, arith}
+use Rattle.std.proofs.lemmas.List.{nil_from_length}
+use Rattle.std.proofs.Math.ListN.{set, length-append}
 use Rattle.rom.specs.Store.{put, laid}
-use Rattle.rom.proofs.Truth.{or-false, pick_true, pick-false}
 use Rattle.rom.proofs.Put.{put-none, put_two, put-put, put-length, laid-put}
-use Rattle.format.specs.Chips.{kind_compact, kind21041}
-use Rattle.sheet.specs.Image.{is_whole, opening_of, encode}
-use Rattle.sheet.specs.Write.{is_other_family, is_bad_body, is_bad}
-use Rattle.writer.specs.Inside.{entry, opening_size, Fits}
-use Rattle.writer.proofs.Tests.{or-first, or-second}
+use Rattle.sheet.specs.Record.{Entry}
+use Rattle.sheet.specs.Image.{opening_of, encode}
+use Rattle.sheet.specs.Write.{is_bad}
+use Rattle.sheet.proofs.Blocks.{Good, good-compact, good-21041, good-extended, good-so, opening-compact, opening-21041, opening-extended}
+use Rattle.writer.specs.Inside.{Fits}
 
-module _ (k : ℕ) where
-  pub whole-compact : k ≡ kind_compact → is_whole k ≡ true
-  unfolding is_whole
-  whole-compact e = or-first (eqb k kind_compact) (eqb k kind21041) (eq-eqb k kind_compact e)
+-- an extended block that images hold has a type of one byte and a length of seven bits
+pub record ExtendedOpening (e : Entry) : Type 0 where
+  pub kind : e.kind < 256
+  pub body : length e.body ≤ 126
+  pub opening : opening_of e ≡ (129 + length e.body) ∷ e.kind ∷ []
 
-  pub whole-21041 : k ≡ kind21041 → is_whole k ≡ true
-  unfolding is_whole
-  whole-21041 e = or-second (eqb k kind_compact) (eqb k kind21041) (eq-eqb k kind21041 e)
+extended : (row : ℕ) (e : Entry) → is_bad row e ≡ false → (length (opening_of e) ≡ 0 → ⊥) → ExtendedOpening e
+extended row e good h = go (good-so row e good)
+  where
+    first : 128 + (1 + length e.body) ≡ 129 + length e.body
+    first = omega arith
 
-  pub not-whole : (k ≡ kind_compact → ⊥) → (k ≡ kind21041 → ⊥) → is_whole k ≡ false
-  unfolding is_whole
-  not-whole e f = rw (ne_eqb k kind_compact e) (ne_eqb k kind21041 f)
-
-  pub size-whole : is_whole k ≡ true → 0 ≡ opening_size k
-  unfolding opening_size
-  size-whole e = sym (pick_true (is_whole k) 0 2 e)
-
-  pub size-two : is_whole k ≡ false → 2 ≡ opening_size k
-  unfolding opening_size
-  size-two e = sym (pick-false (is_whole k) 0 2 e)
-
-  either : (t : Bool) → is_whole k ≡ t → {X : Type 0} → (is_whole k ≡ true → X) → (is_whole k ≡ false → X) → X
-  either true e f g = f e
-  either false e f g = g e
-
-  is-whole : opening_size k ≡ 0 → is_whole k ≡ true
-  is-whole e = either (is_whole k) refl (λ w. w) (λ w. let h = size-two w in absurd (omega arith))
-
-  is-extended : (opening_size k ≡ 0 → ⊥) → is_whole k ≡ false
-  is-extended e = either (is_whole k) refl (λ w. absurd (e (sym (size-whole w)))) (λ w. w)
-
-  pub size_small : opening_size k ≤ 2
-  size_small = either (is_whole k) refl (λ w. let h = size-whole w in omega arith) (λ w. let h = size-two w in omega arith)
-
-  module _ (b : List ℕ) where
-    opening-none : is_whole k ≡ true → opening_of (entry k b) ≡ []
-    unfolding opening_of
-    opening-none e = pick_true (is_whole k) [] _ e
-
-    opening-two : is_whole k ≡ false → opening_of (entry k b) ≡ (129 + length b) ∷ k ∷ []
-    unfolding opening_of
-    opening-two e = pick-false (is_whole k) [] _ e ∙ ap (λ (n : ℕ). n ∷ k ∷ []) first
-      where
-        first : 128 + (1 + length b) ≡ 129 + length b
-        first = omega arith
-
-    pub opening-length : length (opening_of (entry k b)) ≡ opening_size k
-    opening-length =
-        either (is_whole k) refl (λ w. ap length (opening-none w) ∙ size-whole w) (λ w. ap length (opening-two w) ∙ size-two w)
-
-    pub encode-length : length (encode (entry k b)) ≡ opening_size k + length b
-    encode-length = length-append (opening_of (entry k b)) b ∙ ap (λ (n : ℕ). n + length b) opening-length
-
-    -- an extended block that images hold has a type of one byte and a length of seven bits
-    extended-small : (row : ℕ) → is_bad row (entry k b) ≡ false → is_whole k ≡ false → (k < 256) × (length b ≤ 126)
-    unfolding is_bad is_bad_body is_whole
-    extended-small row h w =
-        let f = or-false (ltb kind21041 k) (is_other_family row k || is_bad_body k b) h in
-        let g = or-false (is_other_family row k) (is_bad_body k b) f.1 in
-        let p = or-false (eqb k kind_compact) (eqb k kind21041) w in
-        let a = ltb-false kind21041 k f.0 in
-        let n = eqb-false k kind_compact p.0 in
-        let m = eqb-false k kind21041 p.1 in
-        let l = ltb-false 126 (length b) (sym (pick-false (eqb k kind_compact) _ _ p.0 ∙ pick-false (eqb k kind21041) _ _ p.1)
-        ∙ g.1) in
-        (omega arith, l)
+    go : Good row e → ExtendedOpening e
+    go (good-compact k c l b) = absurd (h (ap length (opening-compact e k)))
+    go (good-21041 k c l) = absurd (h (ap length (opening-21041 e k)))
+    go (good-extended k c l) =
+        record { kind = k; body = l; opening = opening-extended e k ∙ ap (λ (n : ℕ). n ∷ e.kind ∷ []) first }
 
 -- an opening as it is written
-module _ (room : List ℕ) (to size k : ℕ) (b : List ℕ) (fit : Fits room to (entry k b) (opening_of (entry k b)))
-    (is : size ≡ opening_size k) where
-  pub no-opening : size ≡ 0 → room ≡ put room to (opening_of (entry k b))
-  no-opening e = sym (put-none room to) ∙ ap (put room to) (sym (opening-none k b (is-whole k (sym is ∙ e))))
+module _ {room : List ℕ} {to : ℕ} {e : Entry} (fit : Fits room to e (opening_of e)) {size : ℕ} (is : size ≡ length (opening_of e)) where
+  pub no-opening : size ≡ 0 → room ≡ put room to (opening_of e)
+  no-opening z = sym (put-none room to) ∙ ap (put room to) (sym (nil_from_length (opening_of e) (sym is ∙ z)))
 
   module _ (h : size ≡ 0 → ⊥) where
-    extended : is_whole k ≡ false
-    extended = is-extended k (λ z. h (is ∙ z))
+    pub its_opening : ExtendedOpening e
+    its_opening = extended fit.row e fit.good (λ z. h (is ∙ z))
 
-    pub opening-small : (k < 256) × (length b ≤ 126)
-    opening-small = extended-small k b fit.row fit.good extended
+    pub opening_room : to + 2 ≤ length room
+    opening_room = omega (arith, ap length its_opening.opening, fit.fits)
 
-    pub opening-room : to + 2 ≤ length room
-    opening-room = let n = ap length (opening-two k b extended) in omega (arith, fit.fits)
+    pub opening-put : set (set room to (129 + length e.body)) (to + 1) e.kind ≡ put room to (opening_of e)
+    opening-put = put_two room to (129 + length e.body) e.kind opening_room ∙ ap (put room to) (sym its_opening.opening)
 
-    pub opening-put : set (set room to (129 + length b)) (to + 1) k ≡ put room to (opening_of (entry k b))
-    opening-put = put_two room to (129 + length b) k opening-room ∙ ap (put room to) (sym (opening-two k b extended))
-
--- one entry: its opening stands, and its body is put behind it
-module _ (room room₁ : List ℕ) (to size k : ℕ) (b : List ℕ) (fit : Fits room to (entry k b) (encode (entry k b)))
-    (is-size : size ≡ opening_size k) (is-room : room₁ ≡ put room to (opening_of (entry k b))) where
-  pub entry-fits : to + size + length b ≤ length room
-  entry-fits = omega (arith, encode-length k b, fit.fits)
-
-  entry-room : to + size + length b ≤ length room₁
-  entry-room =
-      let l : length room₁ ≡ length room = ap length is-room
-      ∙ put-length room to (opening_of (entry k b)) (omega (arith, entry-fits, opening-length k b)) in
-      omega (arith, entry-fits)
-
-  pub entry-end : to + size + length b ≡ to + length (encode (entry k b))
-  entry-end = omega (arith, encode-length k b)
-
-  pub entry-put : (room₂ : List ℕ) → room₂ ≡ laid room₁ (to + size) b → room₂ ≡ put room to (encode (entry k b))
-  entry-put room₂ e =
-      let n : to + size ≡ to + length (opening_of (entry k b)) = omega (arith, opening-length k b) in
-      e ∙ laid-put room₁ (to + size) b entry-room ∙ ap₂ (λ (r : List ℕ) (m : ℕ). put r m b) is-room n
-      ∙ put-put room to (opening_of (entry k b)) b (omega (arith, entry-fits))
+-- an entry: its opening stands, and its body is put behind it
+pub entry-put : {room one two : List ℕ} {to at : ℕ} {e : Entry} → Fits room to e (encode e) → at ≡ to + length (opening_of e)
+    → one ≡ put room to (opening_of e) → two ≡ laid one at e.body → two ≡ put room to (encode e)
+entry-put {room} {one} {two} {to} {at} {e} fit ea e₁ e₂ =
+    let l = length-append (opening_of e) e.body in
+    let long : length one ≡ length room = ap length e₁ ∙ put-length room to (opening_of e) (omega (arith, fit.fits, l)) in
+    e₂ ∙ laid-put one at e.body (omega (arith, fit.fits, l, long))
+    ∙ rw (e₁, ea) (put-put room to (opening_of e) e.body (omega (arith, fit.fits, l)))

@@ -11,8 +11,8 @@ use Rattle.reader.specs.Reading.{judge_causes}
 use Rattle.sheet.specs.Lists.{sum}
 use Rattle.sheet.specs.Layout.{head_length}
 use Rattle.sheet.specs.Record.{Entry, Plain}
-use Rattle.sheet.specs.Sheet.{sizes_in, entries_from, plain_from}
-use Rattle.sheet.specs.Image.{leaf_start, is_whole, encodes, leaf_of, image_of, newest_in}
+use Rattle.sheet.specs.Sheet.{sizes_in, plain_from}
+use Rattle.sheet.specs.Image.{leaf_start, encodes, leaf_of, image_of, newest_in}
 use Rattle.sheet.specs.Write.{is_bad, any_bad, record_causes}
 
 -- ## Bytes laid into others
@@ -33,18 +33,14 @@ with_srom_crc l image = put image (checked_length l) (word_bytes (srom_crc l ima
 
 -- ## Entries
 
-abbrev pub entry : ℕ → List ℕ → Entry
-entry k b = record { kind = k; body = b }
+-- a sheet of n blocks, from where its places count as in a narrow one, whose length and sum are right
+pub record Counted (n : ℕ) (s : List ℕ) : Type 0 where
+  pub long : length s ≡ head_length + 3 * n + sum (take n (sizes_in n s))
 
--- how many bytes stand before a block's body
-unfoldable pub opening_size : ℕ → ℕ
-opening_size kind = pick (is_whole kind) 0 2
-
--- three parallel parts hold n entries
-pub record Parts (n : ℕ) (kinds sizes bodies : List ℕ) : Type 0 where
-  pub for_kinds : 2 * n ≤ length kinds
-  pub for_sizes : n ≤ length sizes
-  pub for_bodies : sum (take n sizes) ≤ length bodies
+-- three parallel parts, of kinds, body sizes and bodies
+pub record Parts (kinds sizes bodies : List ℕ) : Type 0 where
+  pub for_kinds : length kinds ≡ 2 * length sizes
+  pub for_bodies : sum sizes ≤ length bodies
 
 -- 25 and 26 of entries whose first block stands at `start`, where leaves end before `limit`
 unfoldable pub entry_causes : ℕ → ℕ → ℕ → List Entry → List Cause
@@ -58,37 +54,22 @@ pub record Fits (room : List ℕ) (to : ℕ) (e : Entry) (ys : List ℕ) : Type 
   pub good : is_bad row e ≡ false
   pub fits : to + length ys ≤ length room
 
--- three parallel parts hold n entries that images of some chip hold, and there is room for their blocks from a place on
-pub record Holds (room : List ℕ) (to n : ℕ) (kinds sizes bodies : List ℕ) : Type 0 where
+-- entries that images of some chip hold, and room for their blocks from a place on
+pub record Holds (room : List ℕ) (to : ℕ) (es : List Entry) : Type 0 where
   pub row : ℕ
-  pub parts : Parts n kinds sizes bodies
-  pub good : any_bad row (entries_from n kinds sizes bodies) ≡ false
-  pub fits : to + length (encodes (entries_from n kinds sizes bodies)) ≤ length room
+  pub good : any_bad row es ≡ false
+  pub fits : to + length (encodes es) ≤ length room
 
--- a sheet of n blocks, from where its places count as in a narrow one, whose length and sum are right
-pub record Counted (n : ℕ) (s : List ℕ) : Type 0 where
-  pub total : ℕ
-  pub long : length s ≡ head_length + 3 * n + total
-  pub sums : total ≡ sum (take n (sizes_in n s))
-
--- one that passes 7, 25 and 26, for an output of the right length
+-- a sheet of n blocks that passes 7, 25 and 26, for an output of the right length
 pub record Writable (l : Layout) (n : ℕ) (s out : List ℕ) : Type 0 where
-  pub is : Counted n s
   pub right : wrong_length l.size (length out) ≡ false
   pub number : first_met (record_causes l (plain_from n s)) ≡ 0
 
 -- one whose entries images of its chip hold, and room for its leaf
 pub record Roomy (n : ℕ) (s room : List ℕ) : Type 0 where
-  pub is : Counted n s
   pub good : any_bad (row_of (plain_from n s).chip) (plain_from n s).entries ≡ false
   pub head : 4 ≤ length room
   pub fits : length (leaf_of (plain_from n s)) ≤ length room
-
--- ## What stands before the entries
-
--- the block count does not matter for it
-abbrev pub head_in : List ℕ → Plain
-head_in s = plain_from 0 s
 
 -- ## What is written out
 

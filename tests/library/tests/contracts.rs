@@ -13,9 +13,10 @@ const EXCEPTED: &str = "public functions without a contract";
 const LEAST_FUNCTIONS: usize = 90;
 
 /// What prints, reads the input, or says why a file cannot be had.
-const PRINTS: [&str; 4] = [
+const PRINTS: [&str; 5] = [
     "io::write_all",
     "io::print_hex",
+    "io::print_decimal",
     "io::read_full",
     "rt.arg",
 ];

@@ -1,18 +1,28 @@
--- The refusal's number decides between the walk itself and its step. Assumes nothing.
-use mathlib.Core.Path.{sym, ◌∙◌}
-use Rattle.walk.proofs.Looks.{accepted-looks, look-refused, look-done}
+-- Past all refusals it is a step. Assumes nothing.
+use Rattle.std.proofs.Common.{◌≡◌, not, MatchOption, Some, refl, ap, sym, ◌∙◌, rules, arith}
+use borrow.Author.Tests.{ne_eqb}
+use lib.Dec.{lit<}
+use Rattle.rom.proofs.First.{none_here}
+use Rattle.rom.proofs.Reached.{reached, skip, end}
+use Rattle.walk.specs.Walk.{look_causes, sensed}
+use Rattle.walk.proofs.Looks.{look-done}
+use Rattle.autosense.specs.Inside.{choice_from}
+use Rattle.autosense.proofs.Steps.{chosen_from, stepped_from}
 use Rattle.autosense.proofs.look.Goals as goal
 
-pub returns-then-number-ne-ACCEPTED : goal.returns-then-number-ne-ACCEPTED
-returns-then-number-ne-ACCEPTED c =
-    look-refused _ _ _ c.look_refusal-number.ensures c.if-number-ne-ACCEPTED.true
-
-pub step-next-requires : goal.step-next-requires
-step-next-requires c = (
-  c.aim_of-aim.ensures,
-  accepted-looks _ _ (sym c.look_refusal-number.ensures ∙ c.if-number-ne-ACCEPTED.false),
-)
-
 pub returns : goal.returns
+unfolding look_causes
 returns c =
-    look-done _ _ _ c.look_refusal-number.ensures _ c.if-number-ne-ACCEPTED.false c.step-next.ensures
+    let w = c.args.walk.now in
+    let report = c.args.report.now in
+    let block = c.or_else-block.result in
+    let sense : MatchOption c.in_ok-fixed.fixed (choice_from w block ≡ sensed w report) (λ k. block ≡ Some k) = search rules in
+    let counted = rw c.in_ok-looks.ensures.ok_part at c.checked_add.ensures in
+    look-done w report 0
+    (reached
+    (skip (ap not c.if-not-walk.false)
+    (skip (none_here _ _ (lit< tt) (sym c.in_ok-fixed.ensures.number)).0
+    (skip (ne_eqb _ _ (omega arith)) (skip (sym c.bad_report.ensures ∙ c.if-bad_report.false) end)))))
+    _ refl
+    (stepped_from w report block (chosen_from w report c.in_ok-fixed.fixed block (c.in_ok-fixed.ensures.block report) sense)
+    (search rules) c.unwrap_or-selected.ensures (omega arith) c.count_switch-walk.ensures)

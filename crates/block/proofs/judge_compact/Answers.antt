@@ -16,11 +16,11 @@ pub returns-then-rest-lt4 : goal.returns-then-rest-lt4
 returns-then-rest-lt4 c =
     λ level. past_end level (compact-form _ _ c.requires.0 c.requires.1) c.if-rest-lt4.true
 
-pub returns-then-not-permitted : goal.returns-then-not-permitted
-returns-then-not-permitted c =
+pub returns-then-not-is_permitted : goal.returns-then-not-is_permitted
+returns-then-not-is_permitted c =
     λ level. not-permitted level (compact-form _ _ c.requires.0 c.requires.1)
     c.if-rest-lt4.false refl (known-form level kind_compact (lit≤ tt))
-    (sym c.is_permitted-permitted.ensures ∙ not-true _ (ap not c.if-not-permitted.true))
+    (sym c.is_permitted.ensures ∙ not-true _ (ap not c.if-not-is_permitted.true))
 
 pub returns : goal.returns
 unfolding judged_as facts_of found pick
@@ -29,4 +29,4 @@ returns c =
     ∙ by-fields level
     (compact-form _ _ c.requires.0 c.requires.1)
     c.if-rest-lt4.false refl (known-form level kind_compact (lit≤ tt))
-    (sym c.is_permitted-permitted.ensures ∙ not-false _ (ap not c.if-not-permitted.false))
+    (sym c.is_permitted.ensures ∙ not-false _ (ap not c.if-not-is_permitted.false))

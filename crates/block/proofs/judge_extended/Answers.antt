@@ -32,16 +32,16 @@ returns-then-level-kind c =
     c.requires.1 (rw c.count_at-len.ensures.0)
     c.if-rest-len.false c.if-len-eq0.false byte c.if-level-kind.true
 
-pub returns-then-not-permitted : goal.returns-then-not-permitted
+pub returns-then-not-is_permitted : goal.returns-then-not-is_permitted
 unfolding length_of
-returns-then-not-permitted c =
+returns-then-not-is_permitted c =
     let byte : byte_at c.args.rest.now 1 < 256 =
     omega (arith, c.type_inv.rest 1) in
     extended-not-permitted _ _ _ c.requires.0
     c.requires.1
     (rw c.count_at-len.ensures.0)
     c.if-rest-len.false c.if-len-eq0.false byte
-    c.if-level-kind.false c.is_permitted-permitted.ensures (not-true _ (ap not c.if-not-permitted.true))
+    c.if-level-kind.false (rw c.from.ensures at c.is_permitted.ensures) (not-true _ (ap not c.if-not-is_permitted.true))
 
 pub judge_type-requires : goal.judge_type-requires
 unfolding length_of
@@ -57,7 +57,7 @@ judge_type-requires c =
           c.requires.1
           (rw c.count_at-len.ensures.0)
           c.if-rest-len.false c.if-len-eq0.false byte
-          c.if-level-kind.false c.is_permitted-permitted.ensures (not-false _ (ap not c.if-not-permitted.false));
+          c.if-level-kind.false (rw c.from.ensures at c.is_permitted.ensures) (not-false _ (ap not c.if-not-is_permitted.false));
     }
 
 pub returns : goal.returns
@@ -69,5 +69,5 @@ returns c =
     c.requires.1
     (rw c.count_at-len.ensures.0)
     c.if-rest-len.false c.if-len-eq0.false byte
-    c.if-level-kind.false c.is_permitted-permitted.ensures (not-false _ (ap not c.if-not-permitted.false))
+    c.if-level-kind.false (rw c.from.ensures at c.is_permitted.ensures) (not-false _ (ap not c.if-not-is_permitted.false))
     c.judge_type.ensures

@@ -42,9 +42,9 @@ returns-then-len-unit c =
     (counts-wrong _ _ c.count_at.ensures.0 c.count_at-resets.ensures.0 _
     c.requires.len_value.0 c.requires.unit_bound.1 c.if-len-unit.true)
 
-pub returns-then-more : goal.returns-then-more
+pub returns-then-advertises_more : goal.returns-then-advertises_more
 unfolding phy
-returns-then-more c =
+returns-then-advertises_more c =
     too_much _ _
     (counts-right _ _ c.count_at.ensures.0
     c.count_at-resets.ensures.0 _
@@ -52,7 +52,7 @@ returns-then-more c =
     c.requires.unit_bound.1 c.if-len-unit.false) refl
     (advertised _ _ c.count_at.ensures.0
     c.count_at-resets.ensures.0 c.word_at-capabilities.ensures
-    c.word_at-advertisement.ensures c.advertises_more-more.ensures ∙ c.if-more.true)
+    c.word_at-advertisement.ensures c.advertises_more.ensures ∙ c.if-advertises_more.true)
 
 pub returns : goal.returns
 unfolding phy
@@ -66,4 +66,4 @@ returns c =
     c.requires.unit_bound.1 c.if-len-unit.false) refl
     (advertised _ _ c.count_at.ensures.0
     c.count_at-resets.ensures.0 c.word_at-capabilities.ensures
-    c.word_at-advertisement.ensures c.advertises_more-more.ensures ∙ c.if-more.false)
+    c.word_at-advertisement.ensures c.advertises_more.ensures ∙ c.if-advertises_more.false)

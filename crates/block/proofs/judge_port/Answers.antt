@@ -2,6 +2,7 @@
 use mathlib.Core.Path.{refl, sym, ap, ◌∙◌}
 use mathlib.Core.Bool.{not}
 use borrow.Author.Tests.{le-leb, lt-leb, eq-eqb, ne_eqb}
+use Rattle.rom.specs.Bytes.{is_in}
 use Rattle.format.specs.Chips.{port_codes}
 use Rattle.format.specs.Block.{port, bad_plain_code, bad_command}
 use Rattle.block.proofs.Judged.{bad-code, fine, or_left, or_right, or-none}
@@ -12,25 +13,25 @@ unfolding port bad_plain_code
 returns-then-code-ge64 c =
     bad-code _ _ refl (rw (← c.byte_at-code.ensures) (or_left _ (or_left _ (le-leb _ _ c.if-code-ge64.true))))
 
-pub returns-then-not-fine : goal.returns-then-not-fine
-unfolding port bad_plain_code port_codes
-returns-then-not-fine c =
+pub returns-then-not-contains : goal.returns-then-not-contains
+unfolding port bad_plain_code port_codes is_in
+returns-then-not-contains c =
     bad-code _ _ refl
     (rw (← c.byte_at-code.ensures)
-    (or_left _ (or_right (lt-leb _ _ c.if-code-ge64.false) (ap not (sym c.is_in-fine.ensures) ∙ (ap not c.if-not-fine.true)))))
+    (or_left _ (or_right (lt-leb _ _ c.if-code-ge64.false) (ap not (sym c.contains.ensures.value) ∙ (ap not c.if-not-contains.true)))))
 
 pub returns-then-command-ne0 : goal.returns-then-command-ne0
-unfolding port bad_plain_code bad_command port_codes
+unfolding port bad_plain_code bad_command port_codes is_in
 returns-then-command-ne0 c =
     bad-code _ _ refl
     (rw (← c.byte_at-code.ensures)
     (or_right
     (or-none (lt-leb _ _ c.if-code-ge64.false)
-    (ap not (sym c.is_in-fine.ensures) ∙ (ap not c.if-not-fine.false)))
+    (ap not (sym c.contains.ensures.value) ∙ (ap not c.if-not-contains.false)))
     (rw (← c.word_at-command.ensures, ne_eqb _ _ c.if-command-ne0.true))))
 
 pub returns : goal.returns
-unfolding port bad_plain_code bad_command port_codes
+unfolding port bad_plain_code bad_command port_codes is_in
 returns c =
     rw (
       c.has_bit-active_invalid.ensures,
@@ -42,5 +43,5 @@ returns c =
     (rw (← c.byte_at-code.ensures)
     (or-none
     (or-none (lt-leb _ _ c.if-code-ge64.false)
-    (ap not (sym c.is_in-fine.ensures) ∙ (ap not c.if-not-fine.false)))
+    (ap not (sym c.contains.ensures.value) ∙ (ap not c.if-not-contains.false)))
     (rw (← c.word_at-command.ensures, eq-eqb _ _ c.if-command-ne0.false)))) refl)

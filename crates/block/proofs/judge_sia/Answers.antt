@@ -2,6 +2,7 @@
 use mathlib.Core.Path.{refl, sym, ap, ◌∙◌}
 use mathlib.Core.Bool.{not}
 use borrow.Author.Tests.{le-leb, lt-leb}
+use Rattle.rom.specs.Bytes.{is_in}
 use Rattle.format.specs.Chips.{sia_codes}
 use Rattle.format.specs.Block.{sia, bad_sia_code}
 use Rattle.block.proofs.Judged.{bad-code, fine, or_left, or_right, or-none}
@@ -12,17 +13,17 @@ unfolding sia bad_sia_code
 returns-then-code-ge128 c =
     bad-code _ _ refl (rw (← c.byte_at-code.ensures) (or_left _ (le-leb _ _ c.if-code-ge128.true)))
 
-pub returns-then-not-fine : goal.returns-then-not-fine
-unfolding sia bad_sia_code sia_codes
-returns-then-not-fine c =
+pub returns-then-not-contains : goal.returns-then-not-contains
+unfolding sia bad_sia_code sia_codes is_in
+returns-then-not-contains c =
     bad-code _ _ refl
     (rw (← c.byte_at-code.ensures)
-    (or_right (lt-leb _ _ c.if-code-ge128.false) (ap not (sym c.is_in-fine.ensures) ∙ (ap not c.if-not-fine.true))))
+    (or_right (lt-leb _ _ c.if-code-ge128.false) (ap not (sym c.contains.ensures.value) ∙ (ap not c.if-not-contains.true))))
 
 pub returns : goal.returns
-unfolding sia bad_sia_code sia_codes
+unfolding sia bad_sia_code sia_codes is_in
 returns c =
     rw c.byte_at-code.ensures
     (fine _ _ refl
     (rw (← c.byte_at-code.ensures)
-    (or-none (lt-leb _ _ c.if-code-ge128.false) (ap not (sym c.is_in-fine.ensures) ∙ (ap not c.if-not-fine.false)))) refl)
+    (or-none (lt-leb _ _ c.if-code-ge128.false) (ap not (sym c.contains.ensures.value) ∙ (ap not c.if-not-contains.false)))) refl)

@@ -2,7 +2,7 @@
 use mathlib.Core.Path.{refl, sym, ap, ◌∙◌}
 use mathlib.Core.Bool.{not}
 use borrow.Author.Tests.{le-leb, lt-leb}
-use Rattle.rom.specs.Bytes.{pick}
+use Rattle.rom.specs.Bytes.{pick, is_in}
 use Rattle.format.specs.Chips.{sym_codes}
 use Rattle.format.specs.Block.{symbol, bad_plain_code, length_for}
 use Rattle.block.proofs.Judged.{wrong-length, bad-code, fine, or_left, or_right, or-none, is-wrong, is_right}
@@ -19,17 +19,17 @@ returns-then-code-ge64 c =
     bad-code _ _ (is_right 4 _ c.requires.0 c.if-len-ne8.false)
     (rw (← c.byte_at-code.ensures) (or_left _ (le-leb _ _ c.if-code-ge64.true)))
 
-pub returns-then-not-fine : goal.returns-then-not-fine
-unfolding symbol bad_plain_code length_for pick sym_codes
-returns-then-not-fine c =
+pub returns-then-not-contains : goal.returns-then-not-contains
+unfolding symbol bad_plain_code length_for pick sym_codes is_in
+returns-then-not-contains c =
     bad-code _ _
     (is_right 4 _ c.requires.0
     c.if-len-ne8.false)
     (rw (← c.byte_at-code.ensures)
-    (or_right (lt-leb _ _ c.if-code-ge64.false) (ap not (sym c.is_in-fine.ensures) ∙ (ap not c.if-not-fine.true))))
+    (or_right (lt-leb _ _ c.if-code-ge64.false) (ap not (sym c.contains.ensures.value) ∙ (ap not c.if-not-contains.true))))
 
 pub returns : goal.returns
-unfolding symbol bad_plain_code length_for pick sym_codes
+unfolding symbol bad_plain_code length_for pick sym_codes is_in
 returns c =
     rw (
       c.has_bit-active_invalid.ensures,
@@ -42,4 +42,4 @@ returns c =
     c.if-len-ne8.false)
     (rw (← c.byte_at-code.ensures)
     (or-none (lt-leb _ _ c.if-code-ge64.false)
-    (ap not (sym c.is_in-fine.ensures) ∙ (ap not c.if-not-fine.false)))) refl)
+    (ap not (sym c.contains.ensures.value) ∙ (ap not c.if-not-contains.false)))) refl)

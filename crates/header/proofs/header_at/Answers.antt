@@ -1,4 +1,5 @@
 -- Each field is read where the definition has it. Assumes nothing.
+use Rattle.std.proofs.Common.{sym}
 use Rattle.header.proofs.Headers.{fields_read}
 use Rattle.header.proofs.header_at.Goals as goal
 
@@ -6,7 +7,8 @@ pub returns : goal.returns
 returns c =
     let a = c.args in
     let length = c.header_length in
-    fields_read a.image.now a.arguments a.row a.leaf length.result c.word_at.result
+    rw c.from.ensures
+    (fields_read a.image.now a.arguments a.row a.leaf length.result c.word_at.result
     c.control_byte.result c.base_address.result c.byte_at.result
     c.requires.0 c.requires.1 length.ensures.0 c.word_at.ensures
-    c.control_byte.ensures c.base_address.ensures.0 c.byte_at.ensures
+    c.control_byte.ensures c.base_address.ensures.0 c.byte_at.ensures)

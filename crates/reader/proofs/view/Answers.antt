@@ -1,25 +1,20 @@
 -- The part lies in the image. Assumes nothing.
-use native.Mathlib.Omega.{arith}
+use Rattle.std.proofs.Common.{arith}
 use Rattle.reader.proofs.Readings.{part-inside, part_bytes}
 use Rattle.reader.proofs.view.Goals as goal
 
-pub overflow_add-end : goal.overflow_add-end
-overflow_add-end c =
+pub overflow_add-result : goal.overflow_add-result
+overflow_add-result c =
     let a = c.args in
-    let p = c.view_part-p in
-    omega (arith, part-inside a.image.now a.arguments a.entry p.result p.ensures)
+    omega (arith, part-inside a.image.now a.arguments a.entry _ c.view_part-part.ensures)
 
 pub slice_bounds-result-end : goal.slice_bounds-result-end
-slice_bounds-result-end c =
-    let a = c.args in
-    let p = c.view_part-p in
-    part-inside a.image.now a.arguments a.entry p.result p.ensures
+slice_bounds-result-end c = let a = c.args in part-inside a.image.now a.arguments a.entry _ c.view_part-part.ensures
 
 pub returns : goal.returns
 returns c =
     let a = c.args in
-    let p = c.view_part-p in
     record {
-      result_value = part_bytes a.image.now a.arguments a.entry p.result p.ensures;
-      ref_ptr_value = rw p.ensures;
+      result_value = part_bytes a.image.now a.arguments a.entry _ c.view_part-part.ensures;
+      ref_ptr_value = rw c.view_part-part.ensures;
     }

@@ -1,5 +1,5 @@
 -- One pattern with its values, and size and layout behind it. Assumes nothing.
-use mathlib.Core.List.{append-nil}
+use Rattle.std.proofs.Common.{append-nil}
 use Rattle.rom.specs.Bytes.{pick}
 use Rattle.rom.specs.Geometry.{with_magic}
 use Rattle.text.specs.Written.{text_of}
@@ -12,7 +12,8 @@ unfolding arguments_words pick
 returns-then-arguments c =
     let a = c.args in
     rw c.if-arguments.true
-    (three (text_of a.line) (reader_words a.arguments) _ (layout_words with_magic) c.with-line.ensures
+    (three (text_of a.line) (reader_words a.arguments) _ (layout_words with_magic)
+    (rw (← c.from.ensures, ← c.from-2.ensures, ← c.from-3.ensures) c.with-line.ensures)
     c.size_words-line.ensures c.text.ensures)
 
 pub returns : goal.returns
@@ -20,4 +21,5 @@ unfolding arguments_words pick
 returns c =
     let a = c.args in
     rw (c.if-arguments.false, append-nil)
-    (two (text_of a.line) (reader_words a.arguments) _ c.with-line.ensures c.size_words-line.ensures)
+    (two (text_of a.line) (reader_words a.arguments) _
+    (rw (← c.from.ensures, ← c.from-2.ensures, ← c.from-3.ensures) c.with-line.ensures) c.size_words-line.ensures)

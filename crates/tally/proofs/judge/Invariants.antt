@@ -1,16 +1,16 @@
 -- Each turn counts one block, and what is counted and what is left make up the whole. Assumes nothing.
-use Prim.Native.Nat.{◌-◌, ◌≤◌}
+use Rattle.std.proofs.Common.{◌-◌, ◌<◌, IfSome}
+use Rattle.rom.specs.Geometry.{none}
 use Rattle.leaf.specs.Leaf.{cut}
+use Rattle.tally.specs.Answer.{counted}
 use Rattle.tally.proofs.Modes.{Modes}
 use Rattle.tally.proofs.Counts.{Tallied}
 use Rattle.tally.proofs.judge.Given as goal
 
-abbrev pub invariant-loop-k : goal.invariant-loop-k
-invariant-loop-k l =
-    Tallied l.first_version l.row l.level (cut l.row l.count l.blocks) (cut l.row (l.count - l.k) l.rest) l.k l.t
-    × Modes l.row l.level (cut l.row l.count l.blocks) (cut l.row (l.count - l.k) l.rest) l.modes l.repeated
-    × (l.k ≤ l.count)
-
-abbrev pub decreases-loop-k : goal.decreases-loop-k
-decreases-loop-k l =
-    l.count - l.k
+abbrev pub invariant-loop-number : goal.invariant-loop-number
+invariant-loop-number l = record {
+  counted : Tallied l.first_version l.row l.level (cut l.row l.count l.blocks) (cut l.row (l.count - l.number) l.rest) l.number
+      (counted l.tally);
+  modes : Modes l.row l.level (cut l.row l.count l.blocks) (cut l.row (l.count - l.number) l.rest) l.modes l.repeated;
+  bounded : IfSome l.tally.default_number (λ k. k < none);
+}

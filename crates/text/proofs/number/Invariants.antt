@@ -1,14 +1,8 @@
--- The digits passed spell the number so far, and what is left goes on from it. Assumes nothing.
-use Prim.Native.Nat.{◌-◌, ◌^◌, ◌≤◌, ◌<◌}
-use mathlib.Core.Path.{◌≡◌}
-use lib.ListN.{length, drop}
-use Rattle.text.specs.Numbers.{read_on, decimal_number}
+-- The number so far, with the digits that are left, spells the number; and it has as many digits as are read. Assumes nothing.
+use Rattle.std.proofs.Common.{◌≡◌, ◌^◌, ◌<◌, drop}
+use Rattle.text.specs.Numbers.{read_on}
 use Rattle.text.proofs.number.Given as goal
 
-abbrev pub invariant-loop-i : goal.invariant-loop-i
-invariant-loop-i l =
-    (read_on l.n (drop l.i l.text) ≡ decimal_number l.text) × (l.n < 10 ^ l.i) × (l.i ≤ length l.text)
-
-abbrev pub decreases-loop-i : goal.decreases-loop-i
-decreases-loop-i l =
-    length l.text - l.i
+abbrev pub invariant-loop-byte : goal.invariant-loop-byte
+invariant-loop-byte l =
+    (read_on l.number (drop l.byte-index l.text) ≡ read_on 0 l.text) × (l.number < 10 ^ l.byte-index)

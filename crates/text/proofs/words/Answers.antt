@@ -1,35 +1,20 @@
--- At each turn the words behind the key are those that the lines left have. Assumes nothing.
-use mathlib.Core.Path.{refl}
-use Rattle.text.proofs.Tables.{words-here, words-later, words-shorter, words-none}
+-- The first line that has the key is found among the parts. Assumes nothing.
+use Rattle.std.proofs.Common.{rules, drop, length, refl, ap, ◌∙◌}
+use borrow.Author.Tests.{tests}
+use Rattle.std.proofs.lemmas.Iterator.Splits.{YieldsList-from_slice_split}
+use Rattle.std.proofs.lemmas.Iterator.Search.{find_from_yields_List}
+use Rattle.text.specs.Tables.{has_key}
+use Rattle.text.proofs.Lines.{is_end}
+use Rattle.text.proofs.Tables.{words-found}
 use Rattle.text.proofs.words.Goals as goal
-
-pub loop-rest-init : goal.loop-rest-init
-loop-rest-init c =
-    refl
-
-pub returns-then-found : goal.returns-then-found
-returns-then-found c =
-    let l = c.loop-rest in
-    let t = c.loop-rest-test in
-    let f = c.first_line-line in
-    let h = c.has_key-found in
-    let i = c.if-found in
-    words-here _ _ t.true l.invariant f.ensures h.ensures i.true
-    c.from.ensures c.from-then-found.ensures
-
-pub loop-rest-smaller : goal.loop-rest-smaller
-loop-rest-smaller c =
-    words-shorter _ c.loop-rest-test.true c.behind_line-next.ensures
-
-pub loop-rest-preserved : goal.loop-rest-preserved
-loop-rest-preserved c =
-    let l = c.loop-rest in
-    let t = c.loop-rest-test in
-    let f = c.first_line-line in
-    let h = c.has_key-found in
-    words-later _ _ t.true l.invariant f.ensures h.ensures c.if-found.false
-    c.behind_line-next.ensures
 
 pub returns : goal.returns
 returns c =
-    words-none _ _ c.loop-rest-test.false c.loop-rest.invariant
+    let s = c.args.table.now in
+    let key = c.args.key.now in
+    let found = find_from_yields_List (has_key key) _ _ c.find.result c.find.ensures.ran
+    (YieldsList-from_slice_split _ is_end s c.split.ensures.rest c.split.ensures.done c.split.ensures.closure
+    (λ x b q k. search (rules, tests)))
+    (λ x b q k. search (rules, tests)) in
+    c.from-2.ensures ∙ ap (drop 1) (c.from.ensures ∙ ap (λ x. drop (length key) x.now) c.unwrap_or-line.ensures)
+    ∙ words-found key s _ _ refl found

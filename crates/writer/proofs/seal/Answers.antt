@@ -9,9 +9,15 @@ use Rattle.rom.proofs.Layouts.{geometry, right-length}
 use Rattle.rom.proofs.Put.{laid_word}
 use Rattle.checksum.specs.Crc.{srom_crc}
 use Rattle.checksum.specs.Answer.{srom_answer}
-use Rattle.checksum.proofs.Answers.{answered-value}
+use Rattle.checksum.proofs.Answers.{answered-value, never-refused}
 use Rattle.writer.specs.Inside.{with_srom_crc}
 use Rattle.writer.proofs.seal.Goals as goal
+
+pub unreachable-requires : goal.unreachable-requires
+unfolding srom_answer
+unreachable-requires c =
+    let image = c.args.image.now in
+    let l = c.args.layout in never-refused l.size image (srom_crc l image) _ c.requires c.in_default.ensures
 
 pub returns : goal.returns
 unfolding with_srom_crc srom_answer
@@ -21,5 +27,5 @@ returns c =
     let g = geometry l in
     c.put_word.ensures
     ∙ ap₂ (λ (i v : ℕ). laid image i (word_bytes v)) c.checked_length.ensures
-    (answered-value l.size image (srom_crc l image) _ c.requires c.srom_crc-checksum.ensures)
+    (answered-value l.size image (srom_crc l image) _ c.requires c.in-Ok.ensures)
     ∙ laid_word image (checked_length l) _ (omega (arith, right-length l.size (length image) c.requires))

@@ -1,52 +1,42 @@
--- Each turn measures the block at the running start; what is left makes up the whole. Assumes nothing.
-use native.Mathlib.Omega.{arith}
-use native.Mathlib.Nat.{le_refl}
-use Rattle.maker.proofs.Blocks.{next-turn}
-use Rattle.maker.proofs.Measuring.{measuring-first, measuring-last, measuring-more}
+-- Each turn adds a block's size and its body's. Assumes nothing.
+use Rattle.std.proofs.Common.{ap, arith}
+use Rattle.maker.specs.Blocks.{blocks_left}
+use Rattle.maker.proofs.Turns.{sizes-fit, first-small}
+use Rattle.maker.proofs.Filling.{measured-start, measured-end, measured-room, measured-more}
 use Rattle.maker.proofs.parts.measure.Goals as goal
 
-pub loop-k-init : goal.loop-k-init
-loop-k-init c =
-    measuring-first c.requires.0 c.requires.1
+pub loop-size-init : goal.loop-size-init
+loop-size-init c =
+    measured-start (ap blocks_left c.into_iter-size-iterator.ensures.into_iter_gives)
 
-pub slice_bounds-rest-count : goal.slice_bounds-rest-count
-slice_bounds-rest-count c =
-    c.loop-k.invariant.running.inside
+pub overflow_add-measured : goal.overflow_add-measured
+overflow_add-measured c =
+    let b = c.args.blocks in
+    omega (arith, measured-room c.loop-size.invariant c.in-Some.ensures.steps, sizes-fit b.row b.count b.rest.now b.accepted)
 
-pub slice_bounds-rest-start : goal.slice_bounds-rest-start
-slice_bounds-rest-start = slice_bounds-rest-count
+pub overflow_add-measured-in-loop-size : goal.overflow_add-measured-in-loop-size
+overflow_add-measured-in-loop-size c =
+    let b = c.args.blocks in
+    let w = first-small _ _ _ c.loop-size.size-iterator.accepted c.in-Some.ensures.steps in
+    omega (
+      arith,
+      c.loop-size.invariant.less,
+      w.body,
+      measured-room c.loop-size.invariant c.in-Some.ensures.steps,
+      sizes-fit b.row b.count b.rest.now b.accepted,
+    )
 
-pub slice_bounds-rest-end : goal.slice_bounds-rest-end
-slice_bounds-rest-end c =
-    le_refl _
-
-pub overflow_sub-bodies : goal.overflow_sub-bodies
-overflow_sub-bodies c =
-    (next-turn c.loop-k.invariant.running c.loop-k-test.true
-    c.size_at-size.ensures c.opening_length-opening.ensures).opens
-
-pub overflow_add-bodies : goal.overflow_add-bodies
-overflow_add-bodies c =
-    let i = c.loop-k.invariant in
-    let t = next-turn i.running c.loop-k-test.true c.size_at-size.ensures
-    c.opening_length-opening.ensures in
-    omega (arith, t.reaches, i.less)
-
-pub overflow_add-end : goal.overflow_add-end
-overflow_add-end c =
-    let i = c.loop-k.invariant in
-    let t = next-turn i.running c.loop-k-test.true c.size_at-size.ensures
-    c.opening_length-opening.ensures in
-    omega (arith, t.reaches)
-
-pub loop-k-preserved : goal.loop-k-preserved
-loop-k-preserved c =
-    let i = c.loop-k.invariant in
-    measuring-more i
-    (next-turn i.running c.loop-k-test.true c.size_at-size.ensures
-    c.opening_length-opening.ensures)
+pub loop-size-preserved : goal.loop-size-preserved
+loop-size-preserved c =
+    measured-more c.loop-size.invariant c.in-Some.ensures.steps
+    (first-small _ _ _ c.loop-size.size-iterator.accepted c.in-Some.ensures.steps)
 
 pub returns : goal.returns
 returns c =
-    let both = measuring-last c.loop-k.invariant c.loop-k-test.false in
-    record { value = both.0; end_in_bounds = both.1 }
+    let b = c.args.blocks in
+    let both = measured-end c.loop-size.invariant c.in-None.ensures.steps.0 in
+    record {
+      size = both.0;
+      bodies = both.1;
+      within = (omega (arith, both.0, sizes-fit b.row b.count b.rest.now b.accepted), c.loop-size.invariant.less);
+    }

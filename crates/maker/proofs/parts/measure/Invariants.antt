@@ -1,12 +1,8 @@
--- Each turn measures the block at the running start; what is left makes up the whole. Assumes nothing.
-use Prim.Native.Nat.{◌-◌}
-use Rattle.maker.proofs.Measuring.{Measuring}
+-- Each turn adds a block's size and its body's. Assumes nothing.
+use Rattle.maker.specs.Blocks.{blocks_left}
+use Rattle.maker.proofs.Filling.{MeasuredBlocks}
 use Rattle.maker.proofs.parts.measure.Given as goal
 
-abbrev pub invariant-loop-k : goal.invariant-loop-k
-invariant-loop-k l =
-    Measuring l.row l.first l.count l.leaves l.k l.end l.bodies
-
-abbrev pub decreases-loop-k : goal.decreases-loop-k
-decreases-loop-k l =
-    l.count - l.k
+abbrev pub invariant-loop-size : goal.invariant-loop-size
+invariant-loop-size l =
+    MeasuredBlocks (blocks_left l.blocks) (blocks_left l.size-iterator) l.measured.size l.measured.bodies

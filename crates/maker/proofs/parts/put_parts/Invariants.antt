@@ -1,12 +1,9 @@
--- Each turn lays in the block at the running start; what stands and what is left make up the parts. Assumes nothing.
-use Prim.Native.Nat.{◌-◌}
+-- Each turn lays in the three pieces of a block. Assumes nothing.
+use Rattle.maker.specs.Blocks.{entries_in, blocks_left}
 use Rattle.maker.proofs.Filling.{Filling}
 use Rattle.maker.proofs.parts.put_parts.Given as goal
 
-abbrev pub invariant-loop-k : goal.invariant-loop-k
-invariant-loop-k l =
-    Filling l.row l.first l.count l.leaves l.initial.sheet l.k l.start l.sheet l.body_at
-
-abbrev pub decreases-loop-k : goal.decreases-loop-k
-decreases-loop-k l =
-    l.count - l.k
+abbrev pub invariant-loop-entry : goal.invariant-loop-entry
+invariant-loop-entry l =
+    Filling l.initial.sheet (entries_in (blocks_left l.blocks)) (entries_in (blocks_left l.entry-iterator)) l.sheet l.kind_at l.size_at
+    l.body_at

@@ -6,14 +6,14 @@ use native.Mathlib.Nat.{le_refl}
 use mathlib.Core.Path.{refl}
 use lib.ListN.{length}
 use Rattle.leaf.specs.Leaf.{table_of}
-use Rattle.leaf.proofs.Cuts.{next_fits, part-ends}
+use Rattle.leaf.proofs.Cuts.{next-refusal, next_fits, part-ends}
 use Rattle.leaf.proofs.Stepping.{passing-first}
 use Rattle.reader.proofs.Filling.{fill-place, fill_more, fill_done}
 use Rattle.reader.proofs.table.fill.Goals as goal
 
-pub loop-k-init : goal.loop-k-init
+pub loop-passed-init : goal.loop-passed-init
 unfolding table_of
-loop-k-init c =
+loop-passed-init c =
     let a = c.requires in (
       record {
         passing = passing-first a.blocks_value;
@@ -34,17 +34,20 @@ loop-k-init c =
 
 pub place-free-requires : goal.place-free-requires
 place-free-requires c =
-    let l = c.loop-k in (
-      fill-place _ _ _ _ _ _ l.invariant.0 c.loop-k-test.true c.judge_block-b.ensures,
+    let l = c.loop-passed in (
+      fill-place _ _ _ _ _ _ l.invariant.0 c.loop-passed-test.true c.accepted_block-block.ensures,
       l.invariant.0.filled.room-k,
       l.invariant.0.filled.room-o,
       omega (arith, l.invariant.2, c.requires.listed_in_bounds),
     )
 
+pub accepted_block-block-requires : goal.accepted_block-block-requires
+accepted_block-block-requires c = next-refusal _ _ _ _ c.loop-passed.invariant.0.passing.accepted c.loop-passed-test.true
+
 pub slice_bounds-rest-count : goal.slice_bounds-rest-count
 slice_bounds-rest-count c =
-    next_fits _ _ _ _ c.loop-k.invariant.0.passing.accepted c.loop-k-test.true c.judge_block-b.ensures
-    c.size_of-size.ensures
+    next_fits _ _ _ _ c.loop-passed.invariant.0.passing.accepted c.loop-passed-test.true c.accepted_block-block.ensures
+    c.size-size.ensures
 
 pub slice_bounds-rest-start : goal.slice_bounds-rest-start
 slice_bounds-rest-start = slice_bounds-rest-count
@@ -55,35 +58,35 @@ slice_bounds-rest-end c =
 
 pub overflow_add-at : goal.overflow_add-at
 overflow_add-at c =
-    let f : c.size_of-size.result ≤ length c.loop-k.rest.now =
-    next_fits _ _ _ _ c.loop-k.invariant.0.passing.accepted c.loop-k-test.true c.judge_block-b.ensures
-    c.size_of-size.ensures in
+    let f : c.size-size.result ≤ length c.loop-passed.rest.now =
+    next_fits _ _ _ _ c.loop-passed.invariant.0.passing.accepted c.loop-passed-test.true c.accepted_block-block.ensures
+    c.size-size.ensures in
     omega (
       arith,
-      c.loop-k.invariant.2,
+      c.loop-passed.invariant.2,
       c.requires.listed_in_bounds,
     )
 
-pub loop-k-preserved : goal.loop-k-preserved
-loop-k-preserved c =
-    let l = c.loop-k in
-    let t = c.loop-k-test.true in
-    let z = c.size_of-size.ensures in
+pub loop-passed-preserved : goal.loop-passed-preserved
+loop-passed-preserved c =
+    let l = c.loop-passed in
+    let t = c.loop-passed-test.true in
+    let z = c.size-size.ensures in
     let p = c.place-free.ensures in (
-      fill_more _ _ _ _ _ _ l.invariant.0 t c.judge_block-b.ensures z p.value p.kinds_after p.offsets_after,
+      fill_more _ _ _ _ _ _ l.invariant.0 t c.accepted_block-block.ensures z p.value p.kinds_after p.offsets_after,
       search rules,
-      part-ends l.rest.now l.at _ (next_fits _ _ _ _ l.invariant.0.passing.accepted t c.judge_block-b.ensures z) l.invariant.2,
+      part-ends l.rest.now l.at _ (next_fits _ _ _ _ l.invariant.0.passing.accepted t c.accepted_block-block.ensures z) l.invariant.2,
     )
 
 pub shape_of-kinds : goal.shape_of-kinds
 shape_of-kinds c =
-    c.loop-k.invariant.0.filled.same-k
+    c.loop-passed.invariant.0.filled.same-k
 
 pub shape_of-offsets : goal.shape_of-offsets
 shape_of-offsets c =
-    c.loop-k.invariant.0.filled.same-o
+    c.loop-passed.invariant.0.filled.same-o
 
 pub returns : goal.returns
 returns c =
-    let both = fill_done _ _ _ _ _ _ c.loop-k.invariant.0 c.loop-k-test.false in
+    let both = fill_done _ _ _ _ _ _ c.loop-passed.invariant.0 c.loop-passed-test.false in
     record { kinds_after = both.0; offsets_after = both.1 }

@@ -4,12 +4,8 @@ use lib.ListN.{length}
 use Rattle.reader.proofs.Filling.{FillingTable}
 use Rattle.reader.proofs.table.fill.Given as goal
 
-abbrev pub invariant-loop-k : goal.invariant-loop-k
-invariant-loop-k l =
-    FillingTable l.row l.level l.start l.count l.blocks l.k l.rest l.at l.free l.initial.kinds l.initial.offsets l.kinds l.offsets
-    × (l.k ≤ l.count)
+abbrev pub invariant-loop-passed : goal.invariant-loop-passed
+invariant-loop-passed l =
+    FillingTable l.row l.level l.start l.count l.blocks l._passed l.rest l.at l.free l.initial.kinds l.initial.offsets l.kinds l.offsets
+    × (l._passed ≤ l.count)
     × (l.at + length l.rest ≤ l.start + length l.blocks)
-
-abbrev pub decreases-loop-k : goal.decreases-loop-k
-decreases-loop-k l =
-    l.count - l.k

@@ -4,11 +4,7 @@ use lib.ListN.{length}
 use Rattle.reader.proofs.Finding.{Finding}
 use Rattle.reader.proofs.table.find.Given as goal
 
-abbrev pub invariant-loop-k : goal.invariant-loop-k
-invariant-loop-k l =
-    Finding l.row l.level l.start l.count l.blocks l.k l.rest l.at l.behind l.entry × (l.k ≤ l.count)
+abbrev pub invariant-loop-passed : goal.invariant-loop-passed
+invariant-loop-passed l =
+    Finding l.row l.level l.start l.count l.blocks l._passed l.rest l.at l.behind l.entry × (l._passed ≤ l.count)
     × (l.at + length l.rest ≤ l.start + length l.blocks)
-
-abbrev pub decreases-loop-k : goal.decreases-loop-k
-decreases-loop-k l =
-    l.count - l.k

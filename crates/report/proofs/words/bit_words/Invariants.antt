@@ -1,17 +1,11 @@
--- At each turn the line and the bits that are left are the whole. Assumes nothing.
-use Prim.Native.Nat.{◌-◌, ◌≤◌}
-use mathlib.Core.List.{◌++◌}
+-- At each turn the line and the names that are left are the whole. Assumes nothing.
+use Rattle.std.proofs.Common.{◌++◌, map, drop}
 use Rattle.text.specs.Written.{text_of}
 use Rattle.text.proofs.Building.{Building}
-use Rattle.report.specs.Words.{bits_from, name_in_table, table_words}
+use Rattle.report.specs.Words.{set_names}
 use Rattle.report.proofs.words.bit_words.Given as goal
 
-abbrev pub invariant-loop-bit : goal.invariant-loop-bit
-invariant-loop-bit l =
-    Building (text_of l.initial.line ++ table_words l.table l.first l.other l.bits-2) l.line
-    (bits_from (name_in_table l.table) l.before l.other (16 - l.bit) l.bit l.bits)
-    × (l.bit ≤ 16)
-
-abbrev pub decreases-loop-bit : goal.decreases-loop-bit
-decreases-loop-bit l =
-    16 - l.bit
+abbrev pub invariant-loop-name : goal.invariant-loop-name
+invariant-loop-name l =
+    Building (text_of l.initial.line ++ set_names (map (λ n. n.now) l.names) l.first l.other l.bits-2) l.line
+    (set_names (map (λ n. n.now) (drop l.name-index l.names)) l.before l.other l.bits)

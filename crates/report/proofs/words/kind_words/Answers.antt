@@ -1,25 +1,19 @@
--- Each return is one kind. Assumes nothing.
+-- Of neither form, it is a type by its number. Assumes nothing.
+use Rattle.std.proofs.Common.{◌≡◌, ℕ, ◌≢◌, ◌++◌, arith}
+use borrow.Author.Tests.{ne_eqb}
+use Rattle.rom.specs.Bytes.{pick}
 use Rattle.text.specs.Quoted.{quoted}
 use Rattle.text.specs.Written.{text_of}
-use borrow.Author.Tests.{eq-eqb, ne_eqb}
-use Rattle.rom.specs.Bytes.{pick}
+use Rattle.text.specs.Numbers.{decimal_of}
 use Rattle.report.specs.Words.{kind_words}
 use Rattle.report.proofs.Names.{two}
 use Rattle.report.proofs.words.kind_words.Goals as goal
 
-pub returns-then-kind-eq-KIND_COMPACT : goal.returns-then-kind-eq-KIND_COMPACT
+numbered : (kind : ℕ) → kind ≢ 256 → kind ≢ 257 → kind_words kind ≡ quoted "type " ++ decimal_of kind
 unfolding kind_words pick
-returns-then-kind-eq-KIND_COMPACT c =
-    simp (eq-eqb _ _ c.if-kind-eq-KIND_COMPACT.true) c.text.ensures
+numbered kind a b = simp (ne_eqb kind 256 a, ne_eqb kind 257 b)
 
-pub returns-then-kind-eq-KIND_21041 : goal.returns-then-kind-eq-KIND_21041
-unfolding kind_words pick
-returns-then-kind-eq-KIND_21041 c =
-    simp (ne_eqb _ _ c.if-kind-eq-KIND_COMPACT.false, eq-eqb _ _ c.if-kind-eq-KIND_21041.true) c.text-then-kind-eq-KIND_21041.ensures
-
-pub returns : goal.returns
-unfolding kind_words pick
-returns c =
-    simp (ne_eqb _ _ c.if-kind-eq-KIND_COMPACT.false, ne_eqb _ _ c.if-kind-eq-KIND_21041.false)
-    (two (text_of c.args.line) (quoted "type ") _ c.text-2.ensures
-    c.decimal.ensures)
+pub returns-in_default : goal.returns-in_default
+returns-in_default c =
+    rw (numbered c.args.kind (omega arith) (omega arith), ← c.from.ensures)
+    (two (text_of c.args.line) (quoted "type ") _ c.text-in_default.ensures c.decimal.ensures)

@@ -1,6 +1,0 @@
--- What is left falls at each turn. Assumes nothing.
-use Rattle.drivers.proofs.older.removed_words.Given as goal
-
-abbrev pub decreases-loop-left : goal.decreases-loop-left
-decreases-loop-left l =
-    l.left

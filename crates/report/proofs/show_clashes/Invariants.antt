@@ -1,7 +1,0 @@
--- What is left falls at each turn. Assumes nothing.
-use Prim.Native.Nat.{◌-◌}
-use Rattle.report.proofs.show_clashes.Given as goal
-
-abbrev pub decreases-loop-k : goal.decreases-loop-k
-decreases-loop-k l =
-    l.blocks - l.k
