@@ -90,9 +90,9 @@ pub fn fresh() -> Walk
     }
 }
 
-// Makes a walk fresh, and always succeeds.
+// Makes a walk that is lent fresh.
 #[tactic(auto, unfolding(walk::specs::Walk::clear_for))]
-pub fn clear(walk: &mut Walk)
+pub fn clear_lent(walk: &mut Walk)
     ensures { walked_from (Ok tt) walk.new ≡ clear_for walk.old }
 {
     *walk = fresh();
@@ -173,8 +173,8 @@ fn rows_of(blocks: &[u8], count: u8, row: usize, level: u8, connection: u16) -> 
     rows
 }
 
-// Loads the leaf that the arguments name, if the reader accepts the image, 12 apart.
-pub fn load(walk: &mut Walk, image: &[u8], arguments: Arguments) -> Result<(), Refusal>
+// Loads the leaf that the arguments name into a walk that is lent, if the reader accepts the image, 12 apart.
+pub fn load_lent(walk: &mut Walk, image: &[u8], arguments: Arguments) -> Result<(), Refusal>
     ensures { walked_from result walk.new ≡ load_for walk.old image.now arguments }
 {
     if walk.loaded {
@@ -327,9 +327,9 @@ fn fixed_choice(walk: &Walk) -> Result<Option<u8>, Refusal>
     Ok(Some(block))
 }
 
-// One look at the links: a report has a byte for each block, 1 up, 0 down.
+// One look at the links by a walk that is lent: a report has a byte for each block, 1 up, 0 down.
 #[tactic(auto, unfolding(walk::proofs::Computes::refusal_computes))]
-pub fn look(walk: &mut Walk, report: &[u8]) -> Result<(), Refusal>
+pub fn look_lent(walk: &mut Walk, report: &[u8]) -> Result<(), Refusal>
     ensures { walked_from result walk.new ≡ look_for walk.old report.now }
 {
     if !walk.loaded {
@@ -347,4 +347,52 @@ pub fn look(walk: &mut Walk, report: &[u8]) -> Result<(), Refusal>
     walk.selected = selected;
     walk.looks = looks;
     Ok(())
+}
+
+// ## By value
+
+// A call's number, 0 for acceptance.
+fn number_answered(answer: Result<(), Refusal>) -> u8
+    ensures { result ≡ answer_number answer }
+{
+    match answer {
+        Ok(()) => 0,
+        Err(refusal) => refusal.number(),
+    }
+}
+
+// Loads the leaf that the arguments name, if the reader accepts the image, 12 apart.
+pub fn load(walk: Walk, image: &[u8], arguments: Arguments) -> Walked
+    ensures { result ≡ load_for walk image.now arguments }
+{
+    let mut next = walk;
+    let answer = load_lent(&mut next, image, arguments);
+    Walked {
+        number: number_answered(answer),
+        walk: next,
+    }
+}
+
+// One look at the links: a report has a byte for each block, 1 up, 0 down.
+pub fn look(walk: Walk, report: &[u8]) -> Walked
+    ensures { result ≡ look_for walk report.now }
+{
+    let mut next = walk;
+    let answer = look_lent(&mut next, report);
+    Walked {
+        number: number_answered(answer),
+        walk: next,
+    }
+}
+
+// Makes a walk fresh, and always succeeds.
+pub fn clear(walk: Walk) -> Walked
+    ensures { result ≡ clear_for walk }
+{
+    let mut next = walk;
+    clear_lent(&mut next);
+    Walked {
+        number: 0,
+        walk: next,
+    }
 }

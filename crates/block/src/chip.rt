@@ -16,6 +16,14 @@ pub const ROW_21041: usize = 0;
 pub const ROW_21140: usize = 1;
 
 // Connection types.
+const CONNECTION_TYPES: [&[u16]; CHIP_COUNT] = [
+    CONNECTIONS_21041,
+    CONNECTIONS_21140,
+    CONNECTIONS_21142,
+    CONNECTIONS_21142,
+    CONNECTIONS_21142,
+];
+
 const CONNECTIONS_21041: &[u16] = &[
     0x0000, 0x0100, 0x0204, 0x0400, 0x0001, 0x0002, 0x0800, 0x0900, 0xFFFF,
 ];
@@ -29,6 +37,15 @@ const CONNECTIONS_21140: &[u16] = &[
 const CONNECTIONS_21142: &[u16] = &[
     0x0000, 0x0100, 0x0204, 0x0001, 0x0003, 0x0205, 0x0006, 0x0007, 0x0208, 0x0009, 0x020A, 0x000D,
     0x020E, 0x000F, 0x0010, 0x0211, 0x0800, 0x8800, 0xFFFF, 0x0002,
+];
+
+// Permitted kinds of blocks. A row that lists fewer repeats its first kind.
+static PERMITTED: [[u16; 5]; CHIP_COUNT] = [
+    [KIND_21041; 5],
+    [KIND_COMPACT, 0, 1, 5, KIND_COMPACT],
+    [2, 3, 5, 2, 2],
+    [2, 3, 4, 5, 6],
+    [2, 3, 4, 5, 6],
 ];
 
 // The row of a chip by its decimal number, or 5 where it is none of them. The 21140A counts as 21140.
@@ -55,15 +72,11 @@ pub fn is_first_chip(chip: u16) -> bool
 }
 
 // Whether the chip at a row takes the connection type. Past the last row none does.
+#[tactic(auto, unfolding(crate::proofs::Computes::connections_compute))]
 pub fn is_connection(row: usize, code: u16) -> bool
     ensures { result ≡ is_connection row code }
 {
-    match row {
-        ROW_21041 => CONNECTIONS_21041.contains(&code),
-        ROW_21140 => CONNECTIONS_21140.contains(&code),
-        2 | 3 | 4 => CONNECTIONS_21142.contains(&code),
-        _ => false,
-    }
+    row < CHIP_COUNT && CONNECTION_TYPES[row].contains(&code)
 }
 
 // What a connection type is taken as: a code of edition 1.00 as what 1.01 has in its place, every other as itself.
@@ -95,11 +108,9 @@ pub fn is_read(first_edition: bool, row: usize, code: u16) -> bool
 pub fn is_permitted(row: usize, kind: u16) -> bool
     ensures { result ≡ is_permitted row kind }
 {
-    match row {
-        ROW_21041 => kind == KIND_21041,
-        ROW_21140 => matches!(kind, KIND_COMPACT | 0 | 1 | 5),
-        2 => matches!(kind, 2 | 3 | 5),
-        3 | 4 => matches!(kind, 2..=6),
-        _ => false,
+    if CHIP_COUNT <= row {
+        return false;
     }
+    let [a, b, c, d, e] = PERMITTED[row];
+    kind == a || kind == b || kind == c || kind == d || kind == e
 }

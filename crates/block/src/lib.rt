@@ -7,7 +7,8 @@ pub mod shape;
 
 ghost use Rattle.std.specs.Prelude.{◌≡◌, false, ℕ, ◌+◌, ◌≤◌, ◌<◌};
 ghost use Rattle.rom.specs.Bytes.{byte_at, bit};
-ghost use Rattle.format.specs.Chips.{row21041, newest_level};
+ghost use Rattle.rom.specs.Bytes.{is_in};
+ghost use Rattle.format.specs.Chips.{row21041, newest_level, sia_codes, port_codes, sym_codes};
 ghost use Rattle.format.specs.Block.{length_of, sia_size, counts_as_default, exceeds, length_for, is_wrong, sia, port, symbol};
 ghost use Rattle.format.specs.Block.{phy, sequence};
 ghost use Rattle.block.specs.Inside.{as_medium, as_power, judged, judged_as, phy_length};
@@ -32,13 +33,6 @@ const EXT: u16 = 6;
 const DEFAULT: u16 = 14;
 
 const ACTIVE_INVALID: u16 = 15;
-
-// Media codes of the 21041 and type 2, of compact and type 0, and of type 4.
-const SIA_CODES: [u8; 4] = [0, 1, 2, 4];
-
-const PORT_CODES: [u8; 8] = [0, 1, 3, 4, 5, 6, 7, 8];
-
-const SYM_CODES: [u8; 5] = [3, 5, 6, 7, 8];
 
 // What is said of a listed block, a medium or a PHY. A PHY has no media code, NONE, and a medium no capabilities, 0.
 #[derive(Clone, Copy)]
@@ -116,6 +110,30 @@ fn counts_as_default(code: u8, command: u16) -> bool
     !has_bit(ACTIVE_INVALID, command) && !matches!(code, 4 | 5 | 8) && has_bit(DEFAULT, command)
 }
 
+// Whether a media code is one of the 21041's block and type 2.
+#[tactic(auto, unfolding(format::specs::Chips::sia_codes, rom::specs::Bytes::is_in))]
+fn is_sia_code(code: u8) -> bool
+    ensures { result ≡ is_in code sia_codes }
+{
+    matches!(code, 0 | 1 | 2 | 4)
+}
+
+// Whether it is one of a compact block and type 0.
+#[tactic(auto, unfolding(format::specs::Chips::port_codes, rom::specs::Bytes::is_in))]
+fn is_port_code(code: u8) -> bool
+    ensures { result ≡ is_in code port_codes }
+{
+    matches!(code, 0 | 1 | 3..=8)
+}
+
+// Whether it is one of type 4.
+#[tactic(auto, unfolding(format::specs::Chips::sym_codes, rom::specs::Bytes::is_in))]
+fn is_sym_code(code: u8) -> bool
+    ensures { result ≡ is_in code sym_codes }
+{
+    matches!(code, 3 | 5..=8)
+}
+
 // Whether advertisement bits 9:5 have a 1 where capability bits 15:11 have none.
 fn advertises_more(advertisement: u16, capabilities: u16) -> bool
     ensures { result ≡ exceeds advertisement capabilities }
@@ -134,7 +152,7 @@ fn judge_sia(rest: &[u8], at: usize, kind: u16, size: usize) -> Result<Block, Re
         return Err(Refusal::BlockCode);
     }
     let media_code = code % 64;
-    if !SIA_CODES.contains(&media_code) {
+    if !is_sia_code(media_code) {
         return Err(Refusal::BlockCode);
     }
     Ok(Block::Listed(Medium {
@@ -158,7 +176,7 @@ fn judge_port(rest: &[u8], at: usize, kind: u16, size: usize) -> Result<Block, R
         return Err(Refusal::BlockCode);
     }
     let media_code = code % 64;
-    if !PORT_CODES.contains(&media_code) {
+    if !is_port_code(media_code) {
         return Err(Refusal::BlockCode);
     }
     let command = rom::word_at(rest, ByteOffset(at + 2));
@@ -214,7 +232,7 @@ fn judge_type_4(rest: &[u8], len: usize) -> Result<Block, Refusal>
         return Err(Refusal::BlockCode);
     }
     let media_code = code % 64;
-    if !SYM_CODES.contains(&media_code) {
+    if !is_sym_code(media_code) {
         return Err(Refusal::BlockCode);
     }
     let command = rom::word_at(rest, ByteOffset(7));

@@ -44,7 +44,7 @@ fn show_counts(sheet: RawSheet) {
 
 // Why a sheet is not converted.
 fn show_refused(sheet: RawSheet, refusal: Refusal) {
-    report::show_refusal(refusal);
+    report::show_refusal(refusal.number());
     match refusal {
         Refusal::Sheet => {
             show_lengths(sheet);

@@ -78,27 +78,29 @@ cannot be read, or a file that cannot be read or written.
     Status::Accepted
 }
 
-fn show_number(refusal: Refusal) {
-    Line::new()
-        .right(u64::from(refusal.number()), 4)
-        .to(6)
-        .show(STDOUT);
-    words::show_refusal(refusal, STDOUT);
+fn show_number(number: u8) {
+    Line::new().right(u64::from(number), 4).to(6).show(STDOUT);
+    words::show_refusal(number, STDOUT);
     say(b"");
 }
 
 // The numbers that calls answer with: that of acceptance, and the refusals'.
 fn refusals() -> Status {
-    say(b"   0  accepted");
+    show_number(0);
     for refusal in Refusal::ALL {
-        show_number(refusal);
+        show_number(refusal.number());
     }
     Status::Accepted
 }
 
 // The place of a plain word. Of one that is missing `arguments::read` has complained.
 pub(crate) fn place_of(words: &Words, number: usize) -> Result<usize, Complained> {
-    words.places.get(number).copied().ok_or(Complained)
+    words
+        .places
+        .get(number)
+        .copied()
+        .flatten()
+        .ok_or(Complained)
 }
 
 // The layout of the ROM whose file has so many bytes: of the size that is given, or else of that length.
@@ -114,12 +116,12 @@ fn read_file(rt: &(impl Files + std::io::Input + Env), words: &Words) -> Result<
     input::read_file(rt, place_of(words, 0)?)
 }
 
-// A card's image, how it is read, and the size that a verdict names.
+// A card's image, how it is read, and whether its size was given.
 #[derive(Drop)]
 pub(crate) struct CardFile {
     image: Input,
     arguments: Arguments,
-    named: Option<u16>,
+    given: bool,
 }
 
 impl CardFile {
@@ -143,11 +145,10 @@ fn read_card(
         layout: layout_of(words, image.len()),
         first_edition: words.first_edition.unwrap_or(false),
     };
-    let named = size::named(words.size, image.len());
     Ok(CardFile {
         image,
         arguments,
-        named,
+        given: words.size.is_some(),
     })
 }
 
@@ -156,21 +157,21 @@ fn run(rt: &(impl Files<File = File> + std::io::Input + Env)) -> Result<Status, 
     match words.command {
         Command::Read => {
             let file = read_card(rt, &words)?;
-            Ok(listing::show(file.card(), file.named).into())
+            Ok(listing::show(file.card(), file.given).into())
         }
         Command::Older => {
             let file = read_card(rt, &words)?;
-            Ok(older::show(file.card(), file.named).into())
+            Ok(older::show(file.card(), file.given).into())
         }
         Command::Walk => {
             let file = read_card(rt, &words)?;
-            looks::show(rt, file.card(), file.named, place_of(&words, 2)?)
+            looks::show(rt, file.card(), file.given, place_of(&words, 2)?)
         }
         Command::Sheet => sheets::make(rt, &read_card(rt, &words)?, &words),
         Command::Map => {
             let file = read_card(rt, &words)?;
             let place = place_of(&words, 2)?;
-            picture::show(rt, file.card(), file.named, place, words.force)
+            picture::show(rt, file.card(), file.given, place, words.force)
         }
         Command::Write => sheets::write(rt, &read_file(rt, &words)?, &words),
         Command::Magic => wake::write(rt, read_file(rt, &words)?, &words),

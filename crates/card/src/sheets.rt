@@ -7,7 +7,6 @@ use console::input::Input;
 use console::status::Status;
 use forms::RawSheet;
 use hexadecimal::held;
-use report::size;
 use rom::{Layout, Refusal};
 use sheet::{Form, MOST_STATED};
 use std::fs::File;
@@ -63,14 +62,14 @@ fn show_narrow_length(image: &[u8]) {
 fn show_unmade(file: &CardFile, form: Form, refusal: Refusal) {
     match refusal {
         Refusal::Untidy => {
-            report::show_refusal(refusal);
+            report::show_refusal(refusal.number());
             show_untidy(&file.image, file.arguments.layout);
         }
         Refusal::ImageLength if form == Form::Narrow => {
-            report::show_refused_reading(file.arguments, file.named, refusal);
+            report::show_refused_reading(file.arguments, file.given, refusal.number());
             show_narrow_length(&file.image);
         }
-        _ => report::show_refused(file.card(), file.named, refusal),
+        _ => report::show_refused(file.card(), file.given, refusal.number()),
     }
 }
 
@@ -212,22 +211,22 @@ impl Asked<'_> {
             Refusal::LeafEnd => self.show_leaf_end(),
             Refusal::ConnectionType => self.show_unread(image),
             Refusal::MagicCrc | Refusal::MagicReserved => {
-                report::show_magic_field(&image, self.layout.size, refusal);
+                report::show_magic_field(&image, self.layout.size, refusal.number());
             }
             _ => say(b"  in the image that the sheet asks for"),
         }
     }
 
-    // Why there is no image of the sheet over one that is left as it was, whose size may be named.
-    fn show_refused(self, image: Input, named: Option<u16>, refusal: Refusal) {
+    // Why there is no image of the sheet over one that is left as it was, whose size may have been given.
+    fn show_refused(self, image: Input, given: bool, refusal: Refusal) {
         match refusal {
             Refusal::Sheet => {
-                report::show_refusal(refusal);
+                report::show_refusal(refusal.number());
                 show_lengths(self.sheet);
                 self.show_other_form();
             }
             Refusal::SheetTooLarge => {
-                report::show_refusal(refusal);
+                report::show_refusal(refusal.number());
                 let count = u64::from(self.sheet.count());
                 line::of(
                     b"  # blocks; a leaf has up to #",
@@ -236,7 +235,7 @@ impl Asked<'_> {
                 .print();
             }
             _ => {
-                report::show_refused_size(refusal, named);
+                report::show_refused_size(refusal.number(), given, self.layout.size);
                 self.show_image(image, refusal);
             }
         }
@@ -271,8 +270,7 @@ pub fn write(
     match asked.write(&mut image) {
         Ok(()) => save(rt, &image, place_of(words, 1)?, words.force),
         Err(refusal) => {
-            let named = size::named(words.size, image.len());
-            asked.show_refused(image, named, refusal);
+            asked.show_refused(image, words.size.is_some(), refusal);
             Ok(Status::Refused)
         }
     }

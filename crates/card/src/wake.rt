@@ -4,7 +4,6 @@ use crate::{layout_of, place_of};
 use console::arguments::{Complained, Words};
 use console::input::Input;
 use console::status::Status;
-use report::size;
 use rom::Layout;
 use std::fs::File;
 use std::rt::{Env, Files};
@@ -31,7 +30,7 @@ pub fn write(
     let block = words.block.ok_or(Complained)?;
     let size = layout_of(words, image.len()).size;
     if let Err(refusal) = magic::write(block, &mut image, size) {
-        report::show_refused_size(refusal, size::named(words.size, image.len()));
+        report::show_refused_size(refusal.number(), words.size.is_some(), size);
         report::show_length(&image);
         return Ok(Status::Refused);
     }

@@ -1,9 +1,8 @@
 // The words that the program was started with.
 use crate::command::Command;
-use crate::option::{CommandOption, Expected, Role, chip_of, role_of};
+use crate::option::{CommandOption, Expected, Role, chip_of};
 use crate::value::BYTES;
 use crate::{typed, value};
-use arrayvec::ArrayVec;
 use magic::Magic;
 use std::rt::Env;
 use text::line::Line;
@@ -13,17 +12,17 @@ use text::slice::part;
 const LONGEST: usize = 255;
 
 // The plain words whose places are kept: one more than any command takes, `walk` apart.
-const KEPT: usize = 4;
+pub const KEPT: usize = 4;
 
 // The command's place. What is wrong with the words as a whole is said of it.
 const COMMAND_AT: usize = 1;
 
 // What the words ask for, as far as they say it.
-#[derive(Drop)]
+#[derive(Clone, Copy)]
 pub struct Words {
     pub command: Command,
     // Of the first plain words: those behind the command that are no options and no values of options.
-    pub places: ArrayVec<usize, KEPT>,
+    pub places: [Option<usize>; KEPT],
     pub chip: Option<u16>,
     pub controller: Option<u8>,
     pub level: Option<u8>,
@@ -145,7 +144,7 @@ impl Words {
     fn of(command: Command) -> Words {
         Words {
             command,
-            places: ArrayVec::new(),
+            places: [None; KEPT],
             chip: None,
             controller: None,
             level: None,
@@ -162,17 +161,29 @@ impl Words {
         }
     }
 
-    // One word more, of a role. Plain ones past those that are kept are not counted.
+    // One word more, of a role.
     fn add(&mut self, role: Role, word: &[u8], place: usize) -> Result<(), Wrong> {
         match role {
             Role::Plain => {
-                let _ = self.places.try_push(place);
+                self.keep(place);
                 Ok(())
             }
             Role::Named(option) => self.give(option, place),
             Role::Value(option) => self.set(option, word, place),
             Role::Unknown => Err(self.unknown(place)),
         }
+    }
+
+    // One plain word more. Past those that are kept it is not counted.
+    fn keep(&mut self, place: usize) {
+        if let Some(free) = self.places.iter().position(|kept| kept.is_none()) {
+            self.places[free] = Some(place);
+        }
+    }
+
+    // The place of a plain word, counted from 0.
+    fn place(&self, number: usize) -> Option<usize> {
+        self.places.get(number).copied().flatten()
     }
 
     // What begins as an option does, and is none.
@@ -245,13 +256,13 @@ impl Words {
 
     // Whether there are as many plain words as the command takes.
     fn counted(&self) -> Result<(), Wrong> {
-        if self.places.len() < self.command.fewest() {
+        if self.places.iter().flatten().count() < self.command.fewest() {
             return Err(Wrong::new(b"the command takes more words", COMMAND_AT, PLAIN_WORDS));
         }
         if let Some(most) = self.command.most()
-            && let Some(place) = self.places.get(most)
+            && let Some(place) = self.place(most)
         {
-            return Err(Wrong::new(b"a word too many", *place, PLAIN_WORDS));
+            return Err(Wrong::new(b"a word too many", place, PLAIN_WORDS));
         }
         Ok(())
     }
@@ -259,7 +270,7 @@ impl Words {
     // The chip, for a command that takes one behind its file.
     fn with_chip(&mut self, rt: &impl Env) -> Result<(), Wrong> {
         if self.command.takes_chip()
-            && let Some(place) = self.places.get(1).copied()
+            && let Some(place) = self.place(1)
         {
             let word = typed::word::<LONGEST>(rt, place);
             let chip = chip_of(&word).ok_or(Wrong::new(b"no such chip", place, CHIPS))?;
@@ -313,7 +324,7 @@ fn words_of(rt: &impl Env) -> Result<Words, Wrong> {
     let mut role = Role::Plain;
     for place in COMMAND_AT + 1..end {
         let word = typed::word::<LONGEST>(rt, place);
-        role = role_of(&word, role, command);
+        role = Role::of(&word, role, command);
         words.add(role, &word, place)?;
     }
     if let Role::Named(option) = role

@@ -10,7 +10,7 @@ use crate::option::CommandOption;
 
 #[derive(Clone, Copy, PartialEq, Eq)]
 pub enum Command {
-    Read,
+    Read = 1,
     Older,
     Walk,
     Sheet,

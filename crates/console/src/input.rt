@@ -44,10 +44,15 @@ fn show_line(source: &[u8], number: u32) {
         .complain();
 }
 
+// The bytes as they are, if there is room for them.
+fn raw(rt: &impl Env, bytes: &[u8], place: usize) -> Result<Input, Complained> {
+    ArrayVec::try_from(bytes).map_err(|_| refuse(rt, TOO_MANY, place))
+}
+
 fn decoded(rt: &impl Env, source: &[u8], place: usize) -> Result<Input, Complained> {
     let reading = hexadecimal::decode(source);
     let Some(problem) = reading.held.problem else {
-        return Ok(reading.held.bytes);
+        return raw(rt, &reading.held.bytes, place);
     };
     let complained = refuse(rt, problem_words(problem), place);
     if problem != Problem::NoBytes {
@@ -63,7 +68,7 @@ fn told_apart(rt: &impl Env, source: &[u8], place: usize) -> Result<Input, Compl
     if text::is_text(source) {
         return decoded(rt, source, place);
     }
-    ArrayVec::try_from(source).map_err(|_| refuse(rt, TOO_MANY, place))
+    raw(rt, source, place)
 }
 
 // A read of no bytes tells a file from what is none, as a directory.

@@ -15,7 +15,7 @@ use block::chip;
 
 #[derive(Clone, Copy, PartialEq, Eq)]
 pub enum CommandOption {
-    Controller,
+    Controller = 1,
     Level,
     Size,
     Edition,
@@ -119,15 +119,56 @@ fn option_of(word: &[u8]) -> Role
     }
 }
 
-// The role of a word of a command, behind one of a role.
-#[tactic(auto, unfolding(crate::specs::Roles::role_of, crate::specs::Roles::takes_value, rom::specs::Bytes::pick))]
-pub fn role_of(word: &[u8], before: Role, command: Command) -> Role
-    ensures role { role_as_number result ≡ role_of word.now (role_as_number before) (command_as_number command) }
-    ensures value { (option : CommandOption) → result ≡ Role.Value option → before ≡ Role.Named option }
+impl Role {
+    // The role of a word of a command, behind one of a role.
+    #[tactic(auto, unfolding(crate::specs::Roles::role_of, crate::specs::Roles::takes_value, rom::specs::Bytes::pick))]
+    pub fn of(word: &[u8], before: Role, command: Command) -> Role
+        ensures role { role_as_number result ≡ role_of word.now (role_as_number before) (command_as_number command) }
+        ensures value { (option : CommandOption) → result ≡ Role.Value option → before ≡ Role.Named option }
+    {
+        match before {
+            Role::Named(option) if option.value(command).is_some() => Role::Value(option),
+            _ => option_of(word),
+        }
+    }
+}
+
+// ## Roles by their numbers, as specs/Options.antt has them
+
+const VALUE: u8 = 12;
+
+impl Role {
+    fn number(self) -> u8
+        ensures { result ≡ role_as_number self }
+    {
+        match self {
+            Role::Plain => 0,
+            Role::Named(option) => option as u8,
+            Role::Unknown => 11,
+            Role::Value(_) => VALUE,
+        }
+    }
+}
+
+// Whether an option of a command takes a value. What is no option's number takes none.
+#[tactic(auto, unfolding(crate::specs::Roles::takes_value))]
+fn takes_value(command: u8, option: u8) -> bool
+    ensures { result ≡ takes_value command option }
 {
-    match before {
-        Role::Named(option) if option.value(command).is_some() => Role::Value(option),
-        _ => option_of(word),
+    let taking = CommandOption::Controller as u8..=CommandOption::Command as u8;
+    taking.contains(&option)
+        || option == CommandOption::Magic as u8 && command == Command::Write as u8
+}
+
+// The role of a word of a command, behind one of a role. Any number may be asked about.
+#[tactic(auto, unfolding(crate::specs::Roles::role_of, rom::specs::Bytes::pick))]
+pub fn role_of(word: &[u8], before: u8, command: u8) -> u8
+    ensures { result ≡ role_of word.now before command }
+{
+    if takes_value(command, before) {
+        VALUE
+    } else {
+        option_of(word).number()
     }
 }
 

@@ -14,15 +14,20 @@ pub enum Status {
 
 impl Status {
     pub fn report(self) {
-        io::write_all(
-            FILE,
-            match self {
-                Status::Accepted => b"0",
-                Status::Refused => b"1",
-                Status::Usage => b"2",
-            },
-        );
+        report(self as u8);
     }
+}
+
+// By its number. One past the last counts as the last.
+pub fn report(status: u8) {
+    io::write_all(
+        FILE,
+        match status {
+            0 => b"0",
+            1 => b"1",
+            _ => b"2",
+        },
+    );
 }
 
 impl From<bool> for Status {

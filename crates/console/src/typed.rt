@@ -5,6 +5,7 @@ ghost use Rattle.arrayvec.specs.ArrayVec.{array_vec_len};
 use arrayvec::ArrayVec;
 use std::env::FillError;
 use std::rt::Env;
+use text::slice::part;
 
 // The longest word that is looked at: the longest path is shorter.
 pub(crate) const PATH_MAX: usize = 4096;
@@ -13,9 +14,10 @@ pub(crate) const PATH_MAX: usize = 4096;
 pub fn word<const N: usize>(rt: &impl Env, place: usize) -> ArrayVec<u8, N>
     ensures { array_vec_len result ≤ N }
 {
-    let mut word = ArrayVec::from([0; N]);
-    let length = rt.arg(place, word.as_mut_slice()).unwrap_or(0);
-    word.truncate(length);
+    let mut room = [0; N];
+    let length = rt.arg(place, &mut room).unwrap_or(0);
+    let mut word = ArrayVec::new();
+    let _ = word.try_extend_from_slice(part(&room, 0, length));
     word
 }
 

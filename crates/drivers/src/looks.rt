@@ -4,7 +4,7 @@ use arrayvec::ArrayVec;
 use autosense::{Walk, Way};
 use console::arguments::{Complained, complain};
 use console::command::Command;
-use console::option::{Role, role_of};
+use console::option::Role;
 use console::status::Status;
 use console::typed;
 use reader::Arguments;
@@ -32,7 +32,7 @@ fn check_reports(rt: &impl Env, first: usize) -> Result<(), Complained> {
     let mut role = Role::Plain;
     for place in first..typed::count(rt) {
         let word = typed::word::<LONGEST>(rt, place);
-        role = role_of(&word, role, Command::Walk);
+        role = Role::of(&word, role, Command::Walk);
         if role == Role::Plain && !is_report(&word) {
             return Err(complain(rt, b"no row of 0 and 1", place).suggest(
                 b"a REPORT has a digit for each block: 1 where its link is up",
@@ -111,14 +111,14 @@ fn show_state(line: Line, card: Card, walk: &Walk) {
 // A look with a report, and where the walk stands after it; whether it is accepted.
 fn show_look(card: Card, walk: &mut Walk, report: Word) -> bool {
     let line = report_words(&report);
-    match autosense::look(walk, &links_of(report)) {
+    match autosense::look_lent(walk, &links_of(report)) {
         Ok(()) => {
             show_state(line, card, walk);
             true
         }
         Err(refusal) => {
             line.show(STDOUT);
-            report::show_refusal(refusal);
+            report::show_refusal(refusal.number());
             false
         }
     }
@@ -130,7 +130,7 @@ fn show_looks(rt: &impl Env, card: Card, walk: &mut Walk, first: usize) -> bool 
     let mut role = Role::Plain;
     for place in first..typed::count(rt) {
         let word = typed::word::<LONGEST>(rt, place);
-        role = role_of(&word, role, Command::Walk);
+        role = Role::of(&word, role, Command::Walk);
         if role == Role::Plain {
             accepted &= show_look(card, walk, word);
         }
@@ -149,27 +149,22 @@ fn show_way(line: Line, connection: u16) {
     }
 }
 
-fn show_loaded(arguments: Arguments, named: Option<u16>, walk: &Walk) {
-    report::arguments_words(Line::new().text(b"LOADED  "), arguments, named)
+fn show_loaded(arguments: Arguments, given: bool, walk: &Walk) {
+    report::arguments_words(Line::new().text(b"LOADED  "), arguments, given)
         .with(b", # blocks", [u64::from(walk.blocks), 0, 0, 0])
         .print();
     let line = words::connection_line(b"  connection type ", walk.connection);
     show_way(line, walk.connection);
 }
 
-// Loads the image and takes the looks, whose first report is a word; the status. The image's size may be named.
-pub fn show(
-    rt: &impl Env,
-    card: Card,
-    named: Option<u16>,
-    first: usize,
-) -> Result<Status, Complained> {
+// Loads the image and takes the looks, whose first report is a word; the status. The image's size may have been given.
+pub fn show(rt: &impl Env, card: Card, given: bool, first: usize) -> Result<Status, Complained> {
     check_reports(rt, first)?;
     let mut walk = autosense::fresh();
-    if let Err(refusal) = autosense::load(&mut walk, card.image, card.arguments) {
-        report::show_refused(card, named, refusal);
+    if let Err(refusal) = autosense::load_lent(&mut walk, card.image, card.arguments) {
+        report::show_refused(card, given, refusal.number());
         return Ok(Status::Refused);
     }
-    show_loaded(card.arguments, named, &walk);
+    show_loaded(card.arguments, given, &walk);
     Ok(show_looks(rt, card, &mut walk, first).into())
 }

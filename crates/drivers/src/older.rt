@@ -245,7 +245,7 @@ fn is_fixed(connection: u16) -> bool {
 // The block that a reader's walk selects under a fixed type.
 fn choice(card: Card) -> Option<u8> {
     let mut walk = autosense::fresh();
-    autosense::load(&mut walk, card.image, card.arguments).ok()?;
+    autosense::load_lent(&mut walk, card.image, card.arguments).ok()?;
     autosense::fixed_block(&walk)
 }
 
@@ -350,15 +350,15 @@ fn show_no_promise(level: u8, refusal: Refusal) {
 }
 
 // Shows what each level up to the reader's sees; whether the reader accepts the image. A level that no reader has shows
-// nothing but that. The size may be named.
-pub fn show(card: Card, named: Option<u16>) -> bool {
+// nothing but that. The image's size may have been given.
+pub fn show(card: Card, given: bool) -> bool {
     let reading = reader::judge(card.image, card.arguments);
     match reading {
         Ok(_) => {
             let line = Line::new().text(b"ACCEPTED  ");
-            report::arguments_words(line, card.arguments, named).print();
+            report::arguments_words(line, card.arguments, given).print();
         }
-        Err(refusal) => report::show_refused(card, named, refusal),
+        Err(refusal) => report::show_refused(card, given, refusal.number()),
     }
     if let Err(Refusal::Level) = reading {
         return false;

@@ -1,6 +1,7 @@
 pub mod Form
 pub mod Offset
 pub mod Group
+pub mod Room
 pub mod Held
 pub mod Text
 pub mod Cases

@@ -7,7 +7,7 @@ ghost use Rattle.hexadecimal.specs.Held.{nothing_held, faulted, pushed, with_val
 
 use crate::form::TextForm;
 use crate::group::{Group, Standing};
-use arrayvec::ArrayVec;
+use crate::room::HeldBytes;
 use text::slice::byte_at;
 
 // The most bytes that a text can have: more than any ROM or sheet.
@@ -31,9 +31,9 @@ pub enum Problem {
     NoBytes,
 }
 
-#[derive(Drop)]
+#[derive(Clone, Copy)]
 pub struct Held {
-    pub bytes: ArrayVec<u8, ROOM>,
+    pub bytes: HeldBytes,
     pub problem: Option<Problem>,
 }
 
@@ -42,7 +42,7 @@ impl Held {
         ensures { result ≡ nothing_held }
     {
         Held {
-            bytes: ArrayVec::new(),
+            bytes: HeldBytes::new(),
             problem: None,
         }
     }
@@ -56,8 +56,10 @@ impl Held {
     fn push(&mut self, byte: u8)
         ensures { self.new ≡ pushed byte self.old }
     {
-        if self.bytes.try_push(byte).is_err() {
+        if self.bytes.is_full() {
             self.fault(Problem::TooMany);
+        } else {
+            self.bytes.push(byte);
         }
     }
 

@@ -6,6 +6,7 @@ mod group;
 pub mod held;
 pub mod mode;
 pub mod offset;
+mod room;
 mod row;
 
 ghost use Rattle.std.specs.Prelude.{◌≡◌};
@@ -15,6 +16,7 @@ use held::Held;
 pub use held::Problem;
 use mode::Mode;
 use offset::without_blanks;
+pub use room::HeldBytes;
 use text::{behind_line, first_line};
 
 // What has been read of a text: its bytes, how its lines read, and how many lines that is.

@@ -303,14 +303,14 @@ fn show_unlisted(card: Card, blocks: u8, tally: Tally) {
     }
 }
 
-// Reads the image and shows what it says; whether it is accepted. Its size may be named.
-pub fn show(card: Card, named: Option<u16>) -> bool {
+// Reads the image, whose size may have been given, and shows what it says; whether it is accepted.
+pub fn show(card: Card, given: bool) -> bool {
     let mut kinds = [0u16; 255];
     let mut starts = [0u16; 255];
     match reader::read(card.image, card.arguments, &mut kinds, &mut starts) {
         Ok(Reading { header, tally }) => {
             let verdict = Line::new().text(b"ACCEPTED  ");
-            report::arguments_words(verdict, card.arguments, named).print();
+            report::arguments_words(verdict, card.arguments, given).print();
             show_header(card, header);
             show_counts(card.arguments.chip, header, tally);
             show_magic(card);
@@ -319,7 +319,7 @@ pub fn show(card: Card, named: Option<u16>) -> bool {
             true
         }
         Err(refusal) => {
-            report::show_refused(card, named, refusal);
+            report::show_refused(card, given, refusal.number());
             false
         }
     }

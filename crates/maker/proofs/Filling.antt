@@ -8,41 +8,43 @@ use Rattle.sheet.specs.Layout.{head_length}
 use Rattle.sheet.specs.Record.{Entry}
 use Rattle.sheet.specs.Sheet.{kind_bytes, size_bytes, body_bytes, parts_of}
 use Rattle.sheet.proofs.Sheets.{kind-length, size-length}
-use Rattle.maker.specs.Blocks.{sizes_of, entries_in}
-use Rattle.maker.proofs.Turns.{SmallBlock}
+use Rattle.maker.specs.Blocks.{blocks_left, blocks_end, entries_in}
+use Rattle.maker.specs.declared.blocks.Blocks.{Blocks}
+use Rattle.maker.proofs.Turns.{Running, running-first, running-last, running-more}
 use Rattle.maker.proofs.Sheets.{three-put, parts-long}
 
 -- ## The blocks measured
 
-pub record MeasuredBlocks (all left : List (ℕ × Entry)) (size total : ℕ) : Type 0 where
-  pub sizes : size + sizes_of left ≡ sizes_of all
-  pub bodies : total + length (body_bytes (entries_in left)) ≡ length (body_bytes (entries_in all))
-  pub less : total ≤ size
+pub record MeasuredBlocks (all : Blocks) (left : List (ℕ × ℕ × Entry)) (end total : ℕ) : Type 0 where
+  pub running : Running all left end
+  pub bodies : total + length (body_bytes (entries_in left)) ≡ length (body_bytes (entries_in (blocks_left all)))
+  pub less : total ≤ end
 
-pub measured-start : {all left : List (ℕ × Entry)} → left ≡ all → MeasuredBlocks all left 0 0
-measured-start e = rw e (record { sizes = omega arith; bodies = omega arith; less = omega arith })
+pub measured-start : (all : Blocks) {left : List (ℕ × ℕ × Entry)} → left ≡ blocks_left all → MeasuredBlocks all left all.start 0
+measured-start all e = record { running = running-first all e; bodies = rw e (omega arith); less = omega arith }
 
-module _ {all left : List (ℕ × Entry)} {size total : ℕ} (i : MeasuredBlocks all left size total) where
-  pub measured-end : left ≡ [] → (size ≡ sizes_of all) × (total ≡ length (body_bytes (entries_in all)))
+module _ {all : Blocks} {left : List (ℕ × ℕ × Entry)} {end total : ℕ} (i : MeasuredBlocks all left end total) where
+  pub measured-end : left ≡ [] → (end ≡ blocks_end all) × (total ≡ length (body_bytes (entries_in (blocks_left all))))
   unfolding body_bytes
-  measured-end e =
-      (omega (arith, i.sizes, ap sizes_of e), omega (arith, i.bodies, ap (λ (l : List (ℕ × Entry)). length (body_bytes (entries_in l))) e))
+  measured-end e = (
+    running-last i.running e,
+    omega (arith, i.bodies, ap (λ (l : List (ℕ × ℕ × Entry)). length (body_bytes (entries_in l))) e),
+  )
 
-  module _ {b : ℕ × Entry} {bs : List (ℕ × Entry)} (first : left ≡ b ∷ bs) where
-    bodies-length : length (body_bytes (entries_in left)) ≡ length b.1.body + length (body_bytes (entries_in bs))
+  module _ {b : ℕ × ℕ × Entry} {bs : List (ℕ × ℕ × Entry)} (first : left ≡ b ∷ bs) where
+    bodies-length : length (body_bytes (entries_in left)) ≡ length b.2.body + length (body_bytes (entries_in bs))
     unfolding body_bytes
     bodies-length =
-        ap (λ (l : List (ℕ × Entry)). length (body_bytes (entries_in l))) first ∙ length-append b.1.body (body_bytes (entries_in bs))
+        ap (λ (l : List (ℕ × ℕ × Entry)). length (body_bytes (entries_in l))) first ∙ length-append b.2.body (body_bytes (entries_in bs))
 
-    pub measured-room : size + b.0 ≤ sizes_of all
-    measured-room = omega (arith, i.sizes, ap sizes_of first)
-
-    pub measured-more : SmallBlock b → MeasuredBlocks all bs (size + b.0) (total + length b.1.body)
-    measured-more w = record {
-      sizes = omega (arith, i.sizes, ap sizes_of first);
-      bodies = omega (arith, i.bodies, bodies-length);
-      less = omega (arith, i.less, w.body);
-    }
+    pub measured-more : MeasuredBlocks all bs (b.0 + b.1) (total + length b.2.body)
+    measured-more =
+        let t = running-more i.running first in
+        record {
+          running = t.running;
+          bodies = omega (arith, i.bodies, bodies-length);
+          less = omega (arith, i.less, t.here, t.body);
+        }
 
 -- ## Three parts, each at its own place
 
@@ -177,3 +179,9 @@ module _ {sheet₀ : List ℕ} {all left : List Entry} {sheet : List ℕ} {kind 
           bodies = omega (arith, i.bodies, bodies-are, long);
           same = long ∙ i.same;
         }
+
+-- over blocks: the next of those that are left stands at the running start
+pub record FillingBlocks (all : Blocks) (left : List (ℕ × ℕ × Entry)) (sheet₀ sheet : List ℕ) (kind size body : ℕ) : Type 0 where
+  pub start : ℕ
+  pub running : Running all left start
+  pub filling : Filling sheet₀ (entries_in (blocks_left all)) (entries_in left) sheet kind size body

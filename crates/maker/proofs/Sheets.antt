@@ -1,6 +1,7 @@
 -- What is laid in one behind the other, and that it is the sheet. Assumes nothing.
-use Prim.Native.Nat.{ℕ, ◌+◌, ◌*◌, ◌-◌, ◌≤◌}
+use Prim.Native.Nat.{ℕ, zero, suc, ◌+◌, ◌*◌, ◌-◌, ◌≤◌}
 use native.Mathlib.Omega.{arith}
+use native.Mathlib.Nat.{sub-zero}
 use mathlib.Core.Path.{◌≡◌, refl, sym, ap, ap₂, ◌∙◌}
 use mathlib.Core.List.{List, [], ◌∷◌, ◌++◌, map, append_assoc}
 use lib.ListN.{length, take, drop, length-append, length-drop}
@@ -29,12 +30,12 @@ use Rattle.sheet.specs.Make.{sheet_for}
 use Rattle.sheet.proofs.Blocks.{entries-length}
 use Rattle.sheet.proofs.Sheets.{kind-length, size-length, counts-length}
 use Rattle.format.specs.Block.{size_of}
-use Rattle.leaf.specs.Leaf.{cut}
+use Rattle.leaf.specs.Leaf.{cut, placed, place_by_stepping, start_by_stepping}
 use Rattle.sheet.specs.Image.{entry_from, sizes, leaf_end}
 use Rattle.maker.specs.Inside.{AcceptedBlocks, front_bytes, field_bytes}
-use Rattle.maker.specs.Blocks.{sized_block, sizes_of, entries_in}
+use Rattle.maker.specs.Blocks.{started_block, entries_in}
 use Rattle.maker.specs.declared.source.ReadImage.{ReadImage}
-use Rattle.maker.proofs.Turns.{sized_cut}
+use Rattle.maker.proofs.Turns.{started_cut, drop-take}
 
 -- ## Three parts
 
@@ -167,17 +168,19 @@ parts-long es = simp length-append (omega (arith, kind-length es, size-length es
 
 -- ## What a pass over blocks goes through
 
-entries-are : (row : ℕ) (bs : List (List ℕ)) → entries_in (map (sized_block row) bs) ≡ map (entry_from row) bs
-entries-are row [] = refl
-entries-are row (s ∷ bs) = ap (λ (es : List Entry). entry_from row s ∷ es) (entries-are row bs)
+entries-are : (row at : ℕ) (bs : List (List ℕ)) → entries_in (map (started_block row) (placed row at bs)) ≡ map (entry_from row) bs
+unfolding placed
+entries-are row at [] = refl
+entries-are row at (s ∷ bs) = ap (λ (es : List Entry). entry_from row s ∷ es) (entries-are row (at + size_of row s) bs)
 
-sizes-are : (row : ℕ) (bs : List (List ℕ)) → sizes_of (map (sized_block row) bs) ≡ sizes row bs
-unfolding sizes
-sizes-are row [] = refl
-sizes-are row (s ∷ bs) = ap (λ (n : ℕ). size_of row s + n) (sizes-are row bs)
+-- the blocks' sizes lead from the first start to the end
+stepping-sizes : (row at count : ℕ) (s : List ℕ) → start_by_stepping row at count s ≡ at + sizes row (cut row count s)
+unfolding place_by_stepping cut sizes
+stepping-sizes row at zero s = omega arith
+stepping-sizes row at (suc count) s = omega (arith, stepping-sizes row (at + size_of row s) count (drop (size_of row s) s))
 
-pub count-is : (row count : ℕ) (s : List ℕ) → length (entries_in (sized_cut row count s)) ≡ count
-count-is row count s = ap length (entries-are row (cut row count s)) ∙ entries-length row count s
+pub count-is : (row count at : ℕ) (s : List ℕ) → length (entries_in (started_cut row count at s)) ≡ count
+count-is row count at s = ap length (entries-are row at (cut row count s)) ∙ entries-length row count s
 
 -- ## The sheet of an image that is read
 
@@ -189,34 +192,41 @@ module _ (l : Layout) (edition : Bool) (chip : ℕ) {image : List ℕ} {r : Judg
   unfolding newest_in
   image-long = whole-image image (newest_in l edition chip) c.header
 
-  -- its leaf's blocks
-  module _ {rest : List ℕ} (q : rest ≡ up_to_leaves_end l image r.start) where
-    pub read-accepted : AcceptedBlocks r.row r.answer.blocks rest
-    unfolding newest_in
-    read-accepted = rw q (reading-blocks c)
-
-    pub read-entries : entries_in (sized_cut r.row r.answer.blocks rest) ≡ (image_from l chip image).entries
-    unfolding image_from accepted_reading accepted_answer newest_in
-    read-entries = entries-are r.row (cut r.row r.answer.blocks rest) ∙ rw (q, c.known) refl
-
-    pub read-end : r.start + sizes_of (sized_cut r.row r.answer.blocks rest) ≡ leaf_end l chip image
-    unfolding leaf_end accepted_reading accepted_answer newest_in
-    read-end = ap (λ (n : ℕ). r.start + n) (sizes-are r.row (cut r.row r.answer.blocks rest)) ∙ rw (q, c.known) refl
-
-    pub read-within : r.start + length rest ≤ image_length l.size
+  -- its leaf's blocks, in the image up to where leaves end
+  module _ {leaves : List ℕ} (q : leaves ≡ up_to_leaves_end l image 0) where
+    read-leaf : drop r.start leaves ≡ up_to_leaves_end l image r.start
     unfolding up_to_leaves_end newest_in
-    read-within =
-        let g = geometry l in
-        omega (
-          arith,
-          ap length q ∙ length-take-le (leaves_end l - r.start) (drop r.start image)
-              (omega (arith, length-drop r.start image, reading-end c, reading-start c)),
-          reading-start c,
-        )
+    read-leaf =
+        let e : leaves_end l - 0 ≡ r.start + (leaves_end l - r.start) = omega (arith, reading-start c) in
+        ap (drop r.start) (q ∙ ap (λ (n : ℕ). take n image) e) ∙ drop-take r.start (leaves_end l - r.start) image
+
+    leaves-long : length leaves ≡ leaves_end l
+    unfolding up_to_leaves_end newest_in
+    leaves-long =
+        ap length q ∙ ap (λ (n : ℕ). length (take n image)) (sub-zero (leaves_end l)) ∙ length-take-le (leaves_end l) image (reading-end c)
+
+    pub read-inside : r.start ≤ length leaves
+    unfolding newest_in
+    read-inside = omega (arith, leaves-long, reading-start c)
+
+    pub read-accepted : AcceptedBlocks r.row r.answer.blocks (drop r.start leaves)
+    unfolding newest_in
+    read-accepted = rw read-leaf (reading-blocks c)
+
+    pub read-entries : entries_in (started_cut r.row r.answer.blocks r.start (drop r.start leaves)) ≡ (image_from l chip image).entries
+    unfolding image_from accepted_reading accepted_answer newest_in
+    read-entries = entries-are r.row r.start (cut r.row r.answer.blocks (drop r.start leaves)) ∙ rw (read-leaf, c.known) refl
+
+    pub read-end : start_by_stepping r.row r.start r.answer.blocks (drop r.start leaves) ≡ leaf_end l chip image
+    unfolding leaf_end accepted_reading accepted_answer newest_in
+    read-end = stepping-sizes r.row r.start r.answer.blocks (drop r.start leaves) ∙ rw (read-leaf, c.known) refl
+
+    pub read-within : length leaves ≤ image_length l.size
+    read-within = let g = geometry l in omega (arith, leaves-long)
 
   pub read-count : r.answer.blocks ≡ length (image_from l chip image).entries
   read-count =
-      sym (count-is r.row r.answer.blocks (up_to_leaves_end l image r.start)) ∙ ap length (read-entries refl)
+      sym (count-is r.row r.answer.blocks r.start (drop r.start (up_to_leaves_end l image 0))) ∙ ap length (read-entries refl)
 
   -- part by part
   pub read-content : front_bytes image ++ (field_bytes l chip r.answer image ++ parts_of (image_from l chip image).entries)

@@ -1,9 +1,10 @@
--- An accepted block's size and body, and the blocks behind it. Assumes nothing.
-use Rattle.std.proofs.Common.{ℕ, zero, suc, ◌+◌, ◌-◌, ◌%◌, ◌≡◌, ◌≤◌, ◌∙◌, refl, ap, Bool, true, false, ◌&&◌, not, List, [], ◌∷◌, map}
-use Rattle.std.proofs.Common.{length, take, drop, length-drop, arith, eqb, leb}
+-- An accepted block's size and body, the blocks behind it, and where a pass over them stands. Assumes nothing.
+use Rattle.std.proofs.Common.{ℕ, zero, suc, ◌+◌, ◌-◌, ◌%◌, ◌≡◌, ◌≤◌, ◌<◌, ◌∙◌, refl, sym, ap, Bool, true, false, ◌&&◌, not}
+use Rattle.std.proofs.Common.{List, [], ◌∷◌, map, length, take, drop, length-drop, arith, eqb, leb}
+use native.Mathlib.Nat.{zero-add, sub-zero, suc-add}
 use Rattle.std.proofs.lemmas.Bool.{eqb-false}
 use Rattle.std.proofs.Math.Dec.{lit<}
-use lib.Seq.{length-take-le, take_all}
+use lib.Seq.{length-take-le, take-nil, drop-drop}
 use Rattle.rom.specs.Bytes.{pick, byte_at, bit}
 use Rattle.rom.proofs.First.{none_here}
 use Rattle.rom.proofs.Truth.{or-false}
@@ -11,12 +12,14 @@ use Rattle.format.specs.Chips.{newest_level}
 use Rattle.format.specs.Block.{is21041, is_extended, length_of, sia_size, size_of, kind_of, causes, refusal_of}
 use Rattle.block.proofs.Seen.{fits}
 use Rattle.block.proofs.Whole.{size_small}
-use Rattle.leaf.specs.Leaf.{cut}
-use Rattle.leaf.proofs.Cuts.{first-accepted}
+use Rattle.leaf.specs.Leaf.{cut, PlacedBlock, placed, start_by_stepping}
+use Rattle.leaf.proofs.Cuts.{rest_part, first-accepted}
+use Rattle.leaf.proofs.Stepping.{Passing, passing-first, passing-more}
 use Rattle.sheet.specs.Record.{Entry}
 use Rattle.sheet.specs.Image.{opening_length, body_of}
 use Rattle.maker.specs.Inside.{AcceptedBlocks}
-use Rattle.maker.specs.Blocks.{sized_block, sizes_of}
+use Rattle.maker.specs.Blocks.{started_block, leaf_left, blocks_left, blocks_end}
+use Rattle.maker.specs.declared.blocks.Blocks.{Blocks}
 
 -- ## An accepted block
 
@@ -36,91 +39,156 @@ some-length : (row : ℕ) (s : List ℕ) → refusal_of row newest_level s ≡ 0
 unfolding refusal_of causes
 some-length row s e = (or-false (is_extended row s && eqb (length_of s) 0) _ (none_here _ _ (lit< tt) (none_here _ _ (lit< tt) e).1).0).0
 
-pub record FittingBlock (row : ℕ) (s : List ℕ) : Type 0 where
+record FittingBlock (row : ℕ) (s : List ℕ) : Type 0 where
   pub inside : size_of row s ≤ length s
   pub opens : opening_length row s ≤ size_of row s
   pub small : size_of row s ≤ 128
+  pub body : take (size_of row s - opening_length row s) (drop (opening_length row s) s) ≡ body_of row s
   pub long : length (body_of row s) ≡ size_of row s - opening_length row s
+
+pub drop-take : (n m : ℕ) (s : List ℕ) → drop n (take (n + m) s) ≡ take m (drop n s)
+drop-take zero m s = rw zero-add refl
+drop-take (suc n) m [] = rw suc-add (sym (take-nil m))
+drop-take (suc n) m (x ∷ s) = rw suc-add (drop-take n m s)
 
 fitting-block : (row : ℕ) (s : List ℕ) → refusal_of row newest_level s ≡ 0 → FittingBlock row s
 unfolding body_of
 fitting-block row s e =
     let f = fits row newest_level s e in
+    let o = opening-inside row s (some-length row s e) in
+    let n : opening_length row s + (size_of row s - opening_length row s) ≡ size_of row s = omega (arith, o) in
     record {
       inside = f;
-      opens = opening-inside row s (some-length row s e);
+      opens = o;
       small = size_small row s;
+      body =
+          sym (drop-take (opening_length row s) (size_of row s - opening_length row s) s)
+          ∙ ap (λ (k : ℕ). drop (opening_length row s) (take k s)) n;
       long =
           length-drop (opening_length row s) (take (size_of row s) s)
           ∙ ap (λ (k : ℕ). k - opening_length row s) (length-take-le (size_of row s) s f);
     }
 
--- ## It and the blocks behind it
+-- ## It and the blocks behind it, the first standing at `at`
 
-abbrev pub sized_cut : ℕ → ℕ → List ℕ → List (ℕ × Entry)
-sized_cut row count s = map (sized_block row) (cut row count s)
+abbrev pub started_cut : ℕ → ℕ → ℕ → List ℕ → List (ℕ × ℕ × Entry)
+started_cut row count at s = map (started_block row) (placed row at (cut row count s))
 
-pub record Turn (row count : ℕ) (s : List ℕ) : Type 0 where
+record Turn (row count at : ℕ) (s : List ℕ) : Type 0 where
   pub fitting : FittingBlock row s
-  pub left : sized_cut row count s ≡ sized_block row s ∷ sized_cut row (count - 1) (drop (size_of row s) s)
+  pub left : started_cut row count at s
+      ≡ started_block row (record { start = at; rest = s }) ∷ started_cut row (count - 1) (at + size_of row s) (drop (size_of row s) s)
   pub next : AcceptedBlocks row (count - 1) (drop (size_of row s) s)
 
-pub body_turn : (row count : ℕ) (s : List ℕ) → AcceptedBlocks row count s → (count ≡ 0 → ⊥) → Turn row count s
-unfolding cut
-body_turn row zero s a h = absurd (h refl)
-body_turn row (suc n) s a h =
+body_turn : (row count at : ℕ) (s : List ℕ) → AcceptedBlocks row count s → (count ≡ 0 → ⊥) → Turn row count at s
+unfolding cut placed
+body_turn row zero at s a h = absurd (h refl)
+body_turn row (suc n) at s a h =
     let one : suc n - 1 ≡ n = omega arith in
     let both = first-accepted row newest_level s (cut row n (drop (size_of row s) s)) a in
     record { fitting = fitting-block row s both.0; left = rw one refl; next = rw one both.1 }
 
-pub sized-none : (row count : ℕ) (s : List ℕ) → count ≡ 0 → sized_cut row count s ≡ []
-unfolding cut
-sized-none row count s e = rw e refl
+pub blocks-none : (row count at : ℕ) (s : List ℕ) → count ≡ 0 → started_cut row count at s ≡ []
+unfolding cut placed
+blocks-none row count at s e = rw e refl
 
--- as the code finds it
-module _ (row count : ℕ) (s : List ℕ) (a : AcceptedBlocks row count s) (h : count ≡ 0 → ⊥) {size : ℕ} (es : size ≡ size_of row s) where
-  t : Turn row count s
-  t = body_turn row count s a h
+none-blocks : (row count at : ℕ) (s : List ℕ) → started_cut row count at s ≡ [] → count ≡ 0
+unfolding cut placed
+none-blocks row zero at s e = refl
+none-blocks row (suc n) at s e = cc
 
-  pub size-fits : size ≤ length s
-  size-fits = omega (arith, es, t.fitting.inside)
+-- as the code finds it, in the leaf's rest as it is sliced
+module _ (row count start : ℕ) (leaves : List ℕ) (inside : start ≤ length leaves) (a : AcceptedBlocks row count (drop start leaves))
+    (h : count ≡ 0 → ⊥) where
+  abbrev rest : List ℕ
+  rest = take (length leaves - start) (drop start leaves)
 
-  pub left-accepted : {rest : List ℕ} → rest ≡ drop size s → AcceptedBlocks row (count - 1) rest
-  left-accepted er = rw (er, es) t.next
+  t : Turn row count start (drop start leaves)
+  t = body_turn row count start (drop start leaves) a h
 
-  module _ {opening : ℕ} (eo : opening ≡ opening_length row s) {block : List ℕ} (eb : block ≡ take size s) where
-    pub opening-fits : opening ≤ length block
-    opening-fits = omega (arith, ap length eb, length-take-le size s size-fits, es, eo, t.fitting.opens)
+  module _ {size : ℕ} (es : size ≡ size_of row rest) where
+    size-is : size ≡ size_of row (drop start leaves)
+    size-is = rw (rest_part start leaves) at es
 
-    body-is : take (length block - opening) (drop opening block) ≡ body_of row s
-    unfolding body_of
-    body-is =
-        take_all (length block - opening) (drop opening block) (omega (arith, length-drop opening block)) ∙ rw (eb, es, eo) refl
+    pub size-fits : size ≤ length rest
+    size-fits = rw rest_part (omega (arith, size-is, t.fitting.inside))
 
-    pub first-block : {kind : ℕ} {rest : List ℕ} → kind ≡ kind_of row s → rest ≡ drop size s
-        → sized_cut row count s ≡ (size, record { kind = kind; body = take (length block - opening) (drop opening block) })
-        ∷ sized_cut row (count - 1) rest
-    first-block ek er = t.left ∙ rw (body-is, ek, er, es) refl
+    pub next-inside : start + size ≤ length leaves
+    next-inside = omega (arith, size-is, t.fitting.inside, length-drop start leaves)
 
--- ## What is known of the blocks that are left
+    behind : drop size (drop start leaves) ≡ drop (start + size) leaves
+    behind = drop-drop size start leaves
 
-pub sizes-fit : (row count : ℕ) (s : List ℕ) → AcceptedBlocks row count s → sizes_of (sized_cut row count s) ≤ length s
-unfolding cut
-sizes-fit row zero s a = omega arith
-sizes-fit row (suc n) s a =
-    let t = body_turn row (suc n) s a (λ e. omega arith) in
-    let one : suc n - 1 ≡ n = omega arith in
-    omega (arith, sizes-fit row n (drop (size_of row s) s) (rw one at t.next), t.fitting.inside, length-drop (size_of row s) s)
+    pub left-accepted : AcceptedBlocks row (count - 1) (drop (start + size) leaves)
+    left-accepted = rw (← behind, size-is) t.next
 
-pub record SmallBlock (b : ℕ × Entry) : Type 0 where
-  pub size : b.0 ≤ 128
-  pub body : length b.1.body ≤ b.0
+    module _ {opening : ℕ} (eo : opening ≡ opening_length row rest) where
+      opening-is : opening ≡ opening_length row (drop start leaves)
+      opening-is = rw (rest_part start leaves) at eo
 
-pub first-small : (row count : ℕ) (s : List ℕ) → AcceptedBlocks row count s → {b : ℕ × Entry} {bs : List (ℕ × Entry)}
-    → sized_cut row count s ≡ b ∷ bs → SmallBlock b
-unfolding cut
-first-small row zero s a e = cc
-first-small row (suc n) s a {b} e =
-    let t = body_turn row (suc n) s a (λ z. omega arith) in
-    let is : b ≡ sized_block row s = cc in
-    rw is (record { size = t.fitting.small; body = omega (arith, t.fitting.long) })
+      pub opening-fits : opening ≤ size
+      opening-fits = omega (arith, size-is, opening-is, t.fitting.opens)
+
+      body-is : take (size - opening) (drop opening rest) ≡ body_of row (drop start leaves)
+      body-is = rw (rest_part start leaves, size-is, opening-is) t.fitting.body
+
+      pub first-block : {kind : ℕ} → kind ≡ kind_of row rest
+          → started_cut row count start (drop start leaves)
+          ≡ (start, size, record { kind = kind; body = take (size - opening) (drop opening rest) })
+          ∷ started_cut row (count - 1) (start + size) (drop (start + size) leaves)
+      first-block ek =
+          let k = rw (rest_part start leaves) at ek in t.left ∙ rw (body-is, k, ← behind, size-is) refl
+
+-- ## What a pass keeps: some blocks are passed, and the next one's start is the one that stepping from the first gives
+
+pub record Running (all : Blocks) (left : List (ℕ × ℕ × Entry)) (start : ℕ) : Type 0 where
+  pub passed : ℕ
+  pub passing : Passing all.row newest_level all.start all.count (leaf_left all) passed start (drop start all.leaves.now)
+  pub blocks : left ≡ started_cut all.row (all.count - passed) start (drop start all.leaves.now)
+  pub inside : start ≤ length all.leaves.now
+  pub within : passed ≤ all.count
+
+pub running-first : (all : Blocks) {left : List (ℕ × ℕ × Entry)} → left ≡ blocks_left all → Running all left all.start
+running-first all e =
+    record { passed = 0; passing = passing-first all.accepted; blocks = rw sub-zero e; inside = all.inside; within = omega arith }
+
+-- a turn: the block at the start, and how the pass goes on behind it
+pub record NextBlock (all : Blocks) (start : ℕ) (b : ℕ × ℕ × Entry) (bs : List (ℕ × ℕ × Entry)) : Type 0 where
+  pub here : b.0 ≡ start
+  pub small : b.1 ≤ 128
+  pub body : length b.2.body ≤ b.1
+  pub running : Running all bs (b.0 + b.1)
+
+module _ {all : Blocks} {left : List (ℕ × ℕ × Entry)} {start : ℕ} (i : Running all left start) where
+  pub running-last : left ≡ [] → start ≡ blocks_end all
+  running-last e =
+      let z = none-blocks all.row (all.count - i.passed) start (drop start all.leaves.now) (sym i.blocks ∙ e) in
+      let n : i.passed ≡ all.count = omega (arith, i.within, z) in
+      ap (λ (q : PlacedBlock). q.start) i.passing.stands ∙ ap (λ (k : ℕ). start_by_stepping all.row all.start k (leaf_left all)) n
+
+  pub running-more : {b : ℕ × ℕ × Entry} {bs : List (ℕ × ℕ × Entry)} → left ≡ b ∷ bs → NextBlock all start b bs
+  running-more {b} {bs} e =
+      let rest = drop start all.leaves.now in
+      let some : all.count - i.passed ≡ 0 → ⊥
+      = λ z. let none = i.blocks ∙ blocks-none all.row (all.count - i.passed) start rest z in cc in
+      let t = body_turn all.row (all.count - i.passed) start rest i.passing.accepted some in
+      let l = t.left in
+      let is : b ≡ started_block all.row (record { start = start; rest = rest }) = cc in
+      let bs-is : bs ≡ started_cut all.row (all.count - i.passed - 1) (start + size_of all.row rest) (drop (size_of all.row rest) rest)
+      = cc in
+      let on : drop (start + size_of all.row rest) all.leaves.now ≡ drop (size_of all.row rest) rest
+      = sym (drop-drop (size_of all.row rest) start all.leaves.now) in
+      let less : i.passed < all.count = omega (arith, some) in
+      let n : all.count - (i.passed + 1) ≡ all.count - i.passed - 1 = omega arith in
+      rw is (record {
+        here = refl;
+        small = t.fitting.small;
+        body = omega (arith, t.fitting.long);
+        running = record {
+          passed = i.passed + 1;
+          passing = passing-more i.passing less refl on;
+          blocks = rw (n, on) bs-is;
+          inside = omega (arith, t.fitting.inside, length-drop start all.leaves.now, i.inside);
+          within = omega (arith, less);
+        };
+      })

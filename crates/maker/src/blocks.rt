@@ -1,46 +1,50 @@
 // The blocks of an accepted leaf, one after another, as the entries of a sheet. Blocks of unknown types are carried too.
-ghost use Rattle.std.specs.Prelude.{◌≡◌};
+ghost use Rattle.std.specs.Prelude.{◌≡◌, ◌≤◌, length, drop};
 ghost use Rattle.sheet.specs.Image.{opening_length};
 ghost use Rattle.maker.specs.Inside.{AcceptedBlocks};
 
 use block::shape;
 use forms::LentEntry;
 
-// The blocks that are left: the leaf's bytes from the first of them on, how many they are, and the chip's row.
+// The blocks that are left: the image up to where leaves end, where the next block starts in it, how many they are, and the chip's row.
 #[derive(Drop)]
 pub(crate) struct Blocks<'a> {
-    pub rest: &'a [u8],
+    pub leaves: &'a [u8],
+    pub start: usize,
     pub count: u8,
     pub row: usize,
-    ghost accepted: { AcceptedBlocks row count rest.now },
+    ghost inside: { start ≤ length leaves.now },
+    ghost accepted: { AcceptedBlocks row count (drop start leaves.now) },
 }
 
-// Each block's size, and its entry.
+// Each block's start and size, and its entry.
 impl<'a> Iterator for Blocks<'a> {
     ghost use Rattle.std.specs.Iterator.{YieldsFirstBy, item_count};
-    ghost use Rattle.maker.specs.Blocks.{sized_entry, blocks_left};
+    ghost use Rattle.maker.specs.Blocks.{lent_block, blocks_left};
 
-    type Item = (usize, LentEntry<'a>);
+    type Item = (usize, usize, LentEntry<'a>);
 
-    ghost next_gives = { YieldsFirstBy sized_entry blocks_left };
+    ghost next_gives = { YieldsFirstBy lent_block blocks_left };
 
     ghost remaining = { item_count blocks_left };
 
-    fn next(&mut self) -> Option<(usize, LentEntry<'a>)> {
+    fn next(&mut self) -> Option<(usize, usize, LentEntry<'a>)> {
         if self.count == 0 {
             return None;
         }
-        let size = shape::size_at(self.rest, self.row);
-        let opening = opening_length(self.rest, self.row);
-        let kind = shape::kind_at(self.rest, self.row);
-        let (block, rest) = self.rest.split_at(size);
+        let start = self.start;
+        let rest = &self.leaves[start..];
+        let size = shape::size_at(rest, self.row);
+        let opening = opening_length(rest, self.row);
+        let kind = shape::kind_at(rest, self.row);
+        let body = &rest[opening..size];
         *self = Blocks {
-            rest,
+            leaves: self.leaves,
+            start: start + size,
             count: self.count - 1,
             row: self.row,
         };
-        let body = &block[opening..];
-        Some((size, LentEntry { kind, body }))
+        Some((start, size, LentEntry { kind, body }))
     }
 }
 

@@ -45,7 +45,7 @@ pub fn make(
         reading,
     };
     let measured = parts::measure(source.blocks());
-    if !source.is_tidy(reading.header.start + measured.size) {
+    if !source.is_tidy(measured.end) {
         return Err(Refusal::Untidy);
     }
     let head = form.shift() + sheet::HEAD_LENGTH;

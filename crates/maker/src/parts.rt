@@ -3,26 +3,29 @@ ghost use Rattle.std.specs.Prelude.{◌≡◌, [], ◌∷◌, ◌+◌, ◌≤◌
 ghost use Rattle.rom.specs.Store.{word_bytes, put};
 ghost use Rattle.sheet.specs.Layout.{head_length};
 ghost use Rattle.sheet.specs.Sheet.{body_bytes, parts_of};
-ghost use Rattle.maker.specs.Blocks.{sizes_of, entries_in, blocks_left};
+ghost use Rattle.maker.specs.Blocks.{blocks_left, blocks_end, entries_in};
 
 use super::blocks::Blocks;
 use forms::LentEntry;
 
-// How many bytes blocks have, and how many their bodies.
+// Where blocks end, and how many bytes their bodies have.
 #[derive(Clone, Copy)]
 pub(crate) struct Measured {
-    pub size: usize,
+    pub end: usize,
     pub bodies: usize,
 }
 
 pub(crate) fn measure(blocks: Blocks) -> Measured
-    ensures size { result.size ≡ sizes_of (blocks_left blocks.entry) }
+    ensures end { result.end ≡ blocks_end blocks.entry }
     ensures bodies { result.bodies ≡ length (body_bytes (entries_in (blocks_left blocks.entry))) }
-    ensures within { (result.size ≤ length blocks.entry.rest.now) × (result.bodies ≤ result.size) }
+    ensures within { (result.end ≤ length blocks.entry.leaves.now) × (result.bodies ≤ result.end) }
 {
-    let mut measured = Measured { size: 0, bodies: 0 };
-    for (size, entry) in blocks {
-        measured.size += size;
+    let mut measured = Measured {
+        end: blocks.start,
+        bodies: 0,
+    };
+    for (start, size, entry) in blocks {
+        measured.end = start + size;
         measured.bodies += entry.body.len();
     }
     measured
@@ -51,7 +54,7 @@ pub(crate) fn put_parts(sheet: &mut [u8], blocks: Blocks)
     let mut kind_at = sheet::HEAD_LENGTH;
     let mut size_at = kind_at + 2 * count;
     let mut body_at = size_at + count;
-    for (_, entry) in blocks {
+    for (_, _, entry) in blocks {
         put_entry(sheet, entry, kind_at, size_at, body_at);
         kind_at += 2;
         size_at += 1;

@@ -30,18 +30,19 @@ pub(crate) struct ReadImage<'a> {
 }
 
 impl<'a> ReadImage<'a> {
-    ghost use Rattle.maker.specs.Blocks.{sizes_of, entries_in, blocks_left};
+    ghost use Rattle.maker.specs.Blocks.{blocks_left, blocks_end, entries_in};
 
     // The blocks of its leaf.
     pub(crate) fn blocks(self) -> Blocks<'a>
         ensures entries { entries_in (blocks_left result)
             ≡ (image_from self.entry.layout self.entry.chip self.entry.bytes.now).entries }
-        ensures end { self.entry.reading.header.start + sizes_of (blocks_left result)
-            ≡ leaf_end self.entry.layout self.entry.chip self.entry.bytes.now }
-        ensures within { self.entry.reading.header.start + length result.rest.now ≤ image_length self.entry.layout.size }
+        ensures start { result.start ≡ self.entry.reading.header.start }
+        ensures end { blocks_end result ≡ leaf_end self.entry.layout self.entry.chip self.entry.bytes.now }
+        ensures within { length result.leaves.now ≤ image_length self.entry.layout.size }
     {
         Blocks {
-            rest: header::up_to_leaves_end(self.bytes, self.layout, self.reading.header.start),
+            leaves: header::up_to_leaves_end(self.bytes, self.layout, 0),
+            start: self.reading.header.start,
             count: self.reading.header.blocks,
             row: self.reading.header.row,
         }

@@ -9,14 +9,14 @@ use console::output::Output;
 use console::status::Status;
 use magic::field_at;
 use reader::{Arguments, Header};
-use report::{size, words};
+use report::words;
 use rom::{Layout, Refusal};
 use std::fs::File;
 use std::rt::{Env, Files};
 use survey::{Card, Place};
-use text::line;
 use text::line::{Line, say};
 use text::slice::byte_at;
+use text::{decimal_words, line};
 
 // ## What a byte belongs to
 
@@ -150,29 +150,33 @@ impl Field {
     }
 
     fn colour(self) -> &'static [u8] {
-        match self {
-            Field::Private => b"#f4f4f4",
-            Field::Id => b"#d9d9d9",
-            Field::IdCrc | Field::SromCrc | Field::MagicCrc => b"#b8b8b8",
-            Field::Version => b"#cfe2f3",
-            Field::Count => b"#a9cce8",
-            Field::Address => b"#bcd4f5",
-            Field::Controller => b"#d8c9ee",
-            Field::Reserved => b"#ece4f6",
-            Field::Leaf => b"#fff2b3",
-            Field::Medium => b"#cdebc5",
-            Field::Phy => b"#9fd5b5",
-            Field::Reset => b"#fbd9a8",
-            Field::Power => b"#e9a58d",
-            Field::Unknown => b"#e0218a",
-            Field::Refused => b"#d7301f",
-            Field::Maker => b"#e6ded0",
-            Field::Password => b"#a3dde0",
-            Field::WakeAddress => b"#c9eef0",
-            Field::Command => b"#7cc8cd",
-        }
+        decimal_words(COLOURS, self.number())
     }
 }
+
+// The colours of the fields, by the numbers that the page's styles have.
+const COLOURS: &[u8] = b"0 #f4f4f4
+1 #d9d9d9
+2 #b8b8b8
+3 #cfe2f3
+4 #a9cce8
+5 #bcd4f5
+6 #d8c9ee
+7 #ece4f6
+8 #fff2b3
+9 #cdebc5
+10 #9fd5b5
+11 #fbd9a8
+12 #e9a58d
+13 #e0218a
+14 #d7301f
+15 #e6ded0
+16 #b8b8b8
+17 #a3dde0
+18 #c9eef0
+19 #7cc8cd
+20 #b8b8b8
+";
 
 // A byte's field, and the number of the controller or of the block that it is of.
 #[derive(Clone, Copy)]
@@ -456,8 +460,7 @@ fn draw_title(file: i32, card: Card, refused: Option<Refusal>) {
         [u64::from(arguments.chip), 0, 0, 0],
     );
     let line = magic_words(line, arguments.layout);
-    let named = size::named(None, card.image.len());
-    end_text(report::size_words(line, named), file);
+    end_text(report::size_words(line, false, arguments.layout.size), file);
     draw_verdict(file, card, refused);
 }
 
@@ -480,7 +483,7 @@ fn draw_verdict(file: i32, card: Card, refused: Option<Refusal>) {
         Some(refusal) => {
             line.with(b"refused #: ", [u64::from(refusal.number()), 0, 0, 0])
                 .show(file);
-            words::show_refusal(refusal, file);
+            words::show_refusal(refusal.number(), file);
             end_text(Line::new(), file);
         }
     }
@@ -555,18 +558,18 @@ fn draw(file: i32, card: Card, refused: Option<Refusal>) -> bool {
     io::write_all(file, b"</svg>\n")
 }
 
-// Draws the picture of an image to the file that a word names. An image of another length than its size, which may be named,
-// has none.
+// Draws the picture of an image to the file that a word names. An image of another length than its size, which may have been
+// given, has none.
 pub fn show(
     rt: &(impl Files<File = File> + Env),
     card: Card,
-    named: Option<u16>,
+    given: bool,
     place: usize,
     force: bool,
 ) -> Result<Status, Complained> {
     let refused = reader::judge(card.image, card.arguments).err();
     if let Some(refusal) = refused {
-        report::show_refused(card, named, refusal);
+        report::show_refused(card, given, refusal.number());
     }
     if refused == Some(Refusal::ImageLength) {
         return Ok(Status::Refused);

@@ -4,7 +4,7 @@ use Rattle.rom.specs.declared.refusal.Refusal.{Refusal}
 use Rattle.rom.specs.Numbers.{refusal_number}
 use Rattle.header.specs.declared.Header.{Header}
 use Rattle.header.specs.Header.{HeaderAnswer, header_read}
-use Rattle.tally.specs.declared.Tally.{Tally}
+use Rattle.tally.specs.declared.sorts.Tally.{Tally}
 use Rattle.tally.specs.Answer.{counted}
 use Rattle.leaf.specs.Tally.{TallyAnswer}
 use Rattle.reader.specs.declared.Answer.{Answer}

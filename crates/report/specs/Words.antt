@@ -1,5 +1,5 @@
 -- Words for what a card says.
-use Rattle.std.specs.Prelude.{ℕ, ◌/◌, ◌%◌, Bool, List, [], ◌∷◌, ◌++◌, eqb, leb, get_or, map, Option, Some, None}
+use Rattle.std.specs.Prelude.{ℕ, ◌/◌, ◌%◌, Bool, List, [], ◌∷◌, ◌++◌, eqb, leb, get_or, map}
 use Prim.Native.String.{String}
 use Rattle.rom.specs.declared.Layout.{Layout}
 use Rattle.rom.specs.Bytes.{pick, byte_at}
@@ -10,6 +10,7 @@ use Rattle.format.specs.Chips.{kind_compact, kind21041, taken_as}
 use Rattle.image.specs.declared.Arguments.{Arguments}
 use Rattle.image.specs.Image.{is_first_version}
 use Rattle.survey.specs.declared.Place.{Place}
+use Rattle.report.specs.Sizes.{is_named}
 
 -- a pattern of text with its values
 abbrev pub says : String → List ℕ → List ℕ
@@ -51,9 +52,8 @@ abbrev pub layout_words : Layout → List ℕ
 layout_words l = pick l.magic (quoted ", Magic Packet layout") []
 
 -- a size, where it is named
-abbrev pub size_words : Option ℕ → List ℕ
-size_words (Some size) = says ", size #" (size ∷ 0 ∷ 0 ∷ 0 ∷ [])
-size_words None = []
+unfoldable pub size_words : Bool → ℕ → List ℕ
+size_words given size = pick (is_named given size) (says ", size #" (size ∷ 0 ∷ 0 ∷ 0 ∷ [])) []
 
 -- the edition in which an image of version 1 is read
 unfoldable pub edition_words : List ℕ → Bool → List ℕ
@@ -71,9 +71,9 @@ connection_words code = says "@" (code ∷ 0 ∷ 0 ∷ 0 ∷ []) ++ pick (eqb (t
 abbrev pub reader_words : Arguments → List ℕ
 reader_words a = says "chip #, controller #, level #" (a.chip ∷ a.controller ∷ a.level ∷ 0 ∷ [])
 
--- the arguments of a reading, and its size where that is named
-unfoldable pub arguments_words : Option ℕ → Arguments → List ℕ
-arguments_words named a = reader_words a ++ (size_words named ++ layout_words a.layout)
+-- the arguments of a reading, and whether its size was given
+unfoldable pub arguments_words : Bool → Arguments → List ℕ
+arguments_words given a = reader_words a ++ (size_words given a.layout.size ++ layout_words a.layout)
 
 abbrev pub start_words : ℕ → Place → List ℕ
 start_words number place = says "block # at byte #, " (number ∷ place.start ∷ 0 ∷ 0 ∷ [])

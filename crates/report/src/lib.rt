@@ -5,7 +5,6 @@ pub mod size;
 pub mod words;
 
 ghost use Rattle.std.specs.Prelude.{◌≡◌, ◌++◌};
-ghost use Rattle.rom.specs.Numbers.{refusal_number};
 ghost use Rattle.text.specs.Written.{text_of, fitted};
 ghost use Rattle.format.specs.Block.{is_known};
 ghost use Rattle.block.specs.Answer.{verdict_of};
@@ -66,13 +65,14 @@ pub fn six_words(line: Line, bytes: &[u8]) -> Line
 }
 
 // A size, where it is named.
-#[tactic(auto, using(crate::proofs::Names::none_more))]
-pub fn size_words(line: Line, named: Option<u16>) -> Line
-    ensures { text_of result ≡ fitted (text_of line ++ size_words named) }
+#[tactic(auto, using(crate::proofs::Names::none_more), unfolding(crate::specs::Words::size_words, rom::specs::Bytes::pick))]
+pub fn size_words(line: Line, given: bool, size: u16) -> Line
+    ensures { text_of result ≡ fitted (text_of line ++ size_words given size) }
 {
-    match named {
-        Some(size) => line.with(b", size #", [u64::from(size), 0, 0, 0]),
-        None => line,
+    if size::is_named(given, size) {
+        line.with(b", size #", [u64::from(size), 0, 0, 0])
+    } else {
+        line
     }
 }
 
@@ -90,10 +90,10 @@ pub fn edition_words(line: Line, card: Card) -> Line
     }
 }
 
-// The arguments of a reading, and its size where that is named.
+// The arguments of a reading, and its size where that is named: it was given, or is not the smaller.
 #[tactic(auto, using(crate::proofs::Names::two, crate::proofs::Names::three), unfolding(crate::proofs::Computes::arguments_words_compute))]
-pub fn arguments_words(line: Line, arguments: Arguments, named: Option<u16>) -> Line
-    ensures { text_of result ≡ fitted (text_of line ++ arguments_words named arguments) }
+pub fn arguments_words(line: Line, arguments: Arguments, given: bool) -> Line
+    ensures { text_of result ≡ fitted (text_of line ++ arguments_words given arguments) }
 {
     let line = line.with(
         b"chip #, controller #, level #",
@@ -104,7 +104,7 @@ pub fn arguments_words(line: Line, arguments: Arguments, named: Option<u16>) -> 
             0,
         ],
     );
-    let line = size_words(line, named);
+    let line = size_words(line, given, arguments.layout.size);
     if arguments.layout.magic {
         return line.text(b", Magic Packet layout");
     }
@@ -234,7 +234,7 @@ fn repeated_modes(card: Card, blocks: u8) -> u8 {
 }
 
 // The blocks that refusal 18 is about, or 31.
-fn show_clashes(card: Card, refusal: Refusal) {
+fn show_clashes(card: Card, number: u8) {
     let Ok(Header { blocks, .. }) = header::read_header(card.image, card.arguments) else {
         return;
     };
@@ -242,7 +242,7 @@ fn show_clashes(card: Card, refusal: Refusal) {
     for k in 0..blocks {
         if let Some(place) = card.block_place(k) {
             let line = place_words(Line::new().to(2), k, place);
-            if refusal == Refusal::Clash {
+            if number == Refusal::Clash.number() {
                 show_clashing(block_at(card, place.start), line);
             } else {
                 show_shared(repeated & mode_at(card, place.start), line);
@@ -402,8 +402,8 @@ fn show_magic_reserved(image: &[u8], size: u16) {
 }
 
 // What a refusal of the block is about.
-pub fn show_magic_field(image: &[u8], size: u16, refusal: Refusal) {
-    if refusal == Refusal::MagicCrc {
+pub fn show_magic_field(image: &[u8], size: u16, number: u8) {
+    if number == Refusal::MagicCrc.number() {
         show_magic_crc(image, size);
     } else {
         show_magic_reserved(image, size);
@@ -450,30 +450,31 @@ fn in_other(arguments: Arguments) -> Arguments
     }
 }
 
-// Whether an image that is refused, and that with 3, is accepted with a Magic Packet block, or without it.
+// Whether an image that is refused with a number, and that is 3, is accepted with a Magic Packet block, or without it.
 #[tactic(auto, using(crate::proofs::Accepted::accepted_number), unfolding(crate::specs::Layouts::is_accepted_otherwise))]
-fn is_accepted_otherwise(card: Card, refusal: Refusal) -> bool
-    ensures { result ≡ is_accepted_otherwise card.entry.image.now card.entry.arguments (refusal_number refusal) }
+fn is_accepted_otherwise(card: Card, number: u8) -> bool
+    ensures { result ≡ is_accepted_otherwise card.entry.image.now card.entry.arguments number }
 {
-    refusal == Refusal::SromCrc && reader::judge(card.image, otherwise(card.arguments)).is_ok()
+    number == Refusal::SromCrc.number()
+        && reader::judge(card.image, otherwise(card.arguments)).is_ok()
 }
 
 // Whether one that is refused with 1 is accepted for the size that its length says.
 #[tactic(auto, using(crate::proofs::Accepted::accepted_number), unfolding(crate::specs::Layouts::is_accepted_by_length))]
-fn is_accepted_by_length(card: Card, refusal: Refusal) -> bool
-    ensures { result ≡ is_accepted_by_length card.entry.image.now card.entry.arguments (refusal_number refusal) }
+fn is_accepted_by_length(card: Card, number: u8) -> bool
+    ensures { result ≡ is_accepted_by_length card.entry.image.now card.entry.arguments number }
 {
     let Card { image, arguments } = card;
-    refusal == Refusal::ImageLength
+    number == Refusal::ImageLength.number()
         && reader::judge(image, of_length(arguments, image.len())).is_ok()
 }
 
 // Whether one that is refused with 11 is accepted in the other edition, as only an image of version 1 can be.
 #[tactic(auto, using(crate::proofs::Accepted::accepted_number), unfolding(crate::specs::Layouts::is_accepted_in_other))]
-fn is_accepted_in_other(card: Card, refusal: Refusal) -> bool
-    ensures { result ≡ is_accepted_in_other card.entry.image.now card.entry.arguments (refusal_number refusal) }
+fn is_accepted_in_other(card: Card, number: u8) -> bool
+    ensures { result ≡ is_accepted_in_other card.entry.image.now card.entry.arguments number }
 {
-    refusal == Refusal::ConnectionType
+    number == Refusal::ConnectionType.number()
         && reader::judge(card.image, in_other(card.arguments)).is_ok()
 }
 
@@ -487,19 +488,19 @@ pub fn show_other_edition(first_edition: bool) {
 }
 
 // Nobody at a bench knows layout or edition beforehand.
-fn show_otherwise(card: Card, refusal: Refusal) {
-    if is_accepted_otherwise(card, refusal) {
+fn show_otherwise(card: Card, number: u8) {
+    if is_accepted_otherwise(card, number) {
         if card.arguments.layout.magic {
             say(b"  accepted without --magic");
         } else {
             say(b"  accepted with --magic");
         }
     }
-    if is_accepted_by_length(card, refusal) {
+    if is_accepted_by_length(card, number) {
         let size = size::by_length(card.image.len());
         line::of(b"  accepted with --size #", [u64::from(size), 0, 0, 0]).print();
     }
-    if is_accepted_in_other(card, refusal) {
+    if is_accepted_in_other(card, number) {
         show_other_edition(card.arguments.first_edition);
     }
 }
@@ -522,62 +523,65 @@ fn show_type(image: &[u8]) {
 }
 
 // What a refusal of the reader is about: a field of the header, a block, the blocks that clash, or a field of the Magic
-// Packet block. Chip and level are no part of the image.
-fn show_where(card: Card, refusal: Refusal) {
+// Packet block. Chip and level are no part of the image. 0 and 12, with which no reading is refused, are shown as 5 and as 15
+// are, and each other such number as 30 is.
+fn show_where(card: Card, number: u8) {
     let Card { image, arguments } = card;
     let layout = arguments.layout;
-    match refusal {
-        Refusal::ImageLength => show_length(image),
-        Refusal::Version | Refusal::FirstVersionChip => show_version(card),
-        Refusal::SromCrc => show_srom_crc(image, layout),
-        Refusal::IdCrc => show_id_crc(image, layout.size),
-        Refusal::ControllerCount | Refusal::Controller => show_count(image, layout),
-        Refusal::Address => show_address(image),
-        Refusal::LeafHeader => show_leaf(card),
-        Refusal::ConnectionType => show_unread(card),
-        Refusal::BlockEnd => {
+    match words::refusal_of(number) {
+        Some(Refusal::ImageLength) => show_length(image),
+        Some(Refusal::Version | Refusal::FirstVersionChip) => show_version(card),
+        Some(Refusal::SromCrc) => show_srom_crc(image, layout),
+        Some(Refusal::IdCrc) => show_id_crc(image, layout.size),
+        Some(Refusal::ControllerCount | Refusal::Controller) => show_count(image, layout),
+        Some(Refusal::Chip | Refusal::Level) => {}
+        Some(Refusal::Address) => show_address(image),
+        Some(Refusal::LeafHeader) => show_leaf(card),
+        Some(Refusal::ConnectionType) => show_unread(card),
+        Some(Refusal::BlockEnd) => {
             show_refused_block(card);
             show_leaves_end(layout);
         }
-        Refusal::BlockType => {
+        Some(Refusal::BlockType) => {
             show_refused_block(card);
             show_type(image);
         }
-        Refusal::BlockLength | Refusal::BlockCode | Refusal::Advertisement => {
-            show_refused_block(card);
-        }
-        Refusal::Clash | Refusal::RepeatedMode => show_clashes(card, refusal),
-        Refusal::MagicCrc | Refusal::MagicReserved => {
-            show_magic_field(image, layout.size, refusal);
-        }
-        _ => {}
+        Some(
+            Refusal::ArrayLength
+            | Refusal::BlockLength
+            | Refusal::BlockCode
+            | Refusal::Advertisement,
+        ) => show_refused_block(card),
+        Some(Refusal::Clash | Refusal::RepeatedMode) => show_clashes(card, number),
+        None if number == 0 => show_count(image, layout),
+        _ => show_magic_field(image, layout.size, number),
     }
 }
 
 // A refusal in words, without its place.
-pub fn show_refusal(refusal: Refusal) {
-    line::of(b"REFUSED #: ", [u64::from(refusal.number()), 0, 0, 0]).show(STDOUT);
-    words::show_refusal(refusal, STDOUT);
+pub fn show_refusal(number: u8) {
+    line::of(b"REFUSED #: ", [u64::from(number), 0, 0, 0]).show(STDOUT);
+    words::show_refusal(number, STDOUT);
     say(b"");
 }
 
 // A refusal with the size that is asked for, where it is named.
-pub fn show_refused_size(refusal: Refusal, named: Option<u16>) {
-    show_refusal(refusal);
-    if let Some(size) = named {
+pub fn show_refused_size(number: u8, given: bool, size: u16) {
+    show_refusal(number);
+    if size::is_named(given, size) {
         line::of(b"  size #", [u64::from(size), 0, 0, 0]).print();
     }
 }
 
 // A refusal with the arguments of its reading.
-pub fn show_refused_reading(arguments: Arguments, named: Option<u16>, refusal: Refusal) {
-    show_refusal(refusal);
-    arguments_words(Line::new().to(2), arguments, named).print();
+pub fn show_refused_reading(arguments: Arguments, given: bool, number: u8) {
+    show_refusal(number);
+    arguments_words(Line::new().to(2), arguments, given).print();
 }
 
 // A refused reading: the number, what it means, and where.
-pub fn show_refused(card: Card, named: Option<u16>, refusal: Refusal) {
-    show_refused_reading(card.arguments, named, refusal);
-    show_where(card, refusal);
-    show_otherwise(card, refusal);
+pub fn show_refused(card: Card, given: bool, number: u8) {
+    show_refused_reading(card.arguments, given, number);
+    show_where(card, number);
+    show_otherwise(card, number);
 }

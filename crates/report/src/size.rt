@@ -1,6 +1,6 @@
 // The size of the ROM whose bytes a file holds.
 ghost use Rattle.std.specs.Prelude.{◌≡◌};
-ghost use Rattle.report.specs.Sizes.{size_by_length, size_for, named_size};
+ghost use Rattle.report.specs.Sizes.{size_by_length, size_for, is_named};
 
 // By the file's length. One that is no ROM's counts as the smaller, for which it is refused.
 #[tactic(auto, unfolding(crate::specs::Sizes::size_by_length, rom::specs::Bytes::pick))]
@@ -22,11 +22,10 @@ pub fn size_for(said: Option<u16>, length: usize) -> u16
     said.unwrap_or(by_length(length))
 }
 
-// The size that a verdict names: it was given, or is not the smaller.
-#[tactic(auto, unfolding(crate::proofs::Computes::named_size_computes))]
-pub fn named(said: Option<u16>, length: usize) -> Option<u16>
-    ensures { result ≡ named_size said length }
+// Whether a verdict names it: it was given, or is not the smaller.
+#[tactic(auto, unfolding(crate::proofs::Computes::is_named_computes))]
+pub(crate) fn is_named(given: bool, size: u16) -> bool
+    ensures { result ≡ is_named given size }
 {
-    let size = size_for(said, length);
-    (said.is_some() || size != rom::SMALL_SIZE).then_some(size)
+    given || size != rom::SMALL_SIZE
 }

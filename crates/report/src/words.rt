@@ -1,6 +1,7 @@
 // Words for numbers: the one list of each. Media, connection types, the bits of a Magic command and those of a mode byte are
 // named as 000 names them.
-ghost use Rattle.std.specs.Prelude.{◌≡◌, ◌++◌, map};
+ghost use Rattle.std.specs.Prelude.{◌≡◌, ◌++◌, map, IfSome};
+ghost use Rattle.rom.specs.Numbers.{refusal_number};
 ghost use Rattle.text.specs.Written.{text_of, fitted};
 ghost use Rattle.report.specs.Words.{media_words, connection_words, kind_words, medium_words};
 ghost use Rattle.report.specs.Words.{set_names, command_words, mode_words};
@@ -8,16 +9,31 @@ ghost use Rattle.report.specs.Words.{set_names, command_words, mode_words};
 use block::chip;
 use rom::Refusal;
 use std::io::{Cursor, Write};
+use text::hex_words;
 use text::line::Line;
 use text::slice::{byte_at, part};
 
 // The words of every refusal are shorter.
 const ROOM: usize = 128;
 
-// The words of a refusal end what they stand in, and go to a file.
-pub fn show_refusal(refusal: Refusal, file: i32) {
+// The refusal with a number.
+pub(crate) fn refusal_of(number: u8) -> Option<Refusal>
+    ensures { IfSome result (λ refusal. refusal_number refusal ≡ number) }
+{
+    Refusal::ALL
+        .iter()
+        .copied()
+        .find(|refusal| refusal.number() == number)
+}
+
+// The words of a number end what they stand in, and go to a file. 0 is acceptance; that of no refusal has none.
+pub fn show_refusal(number: u8, file: i32) {
     let mut cursor = Cursor::new([0u8; ROOM]);
-    let _ = write!(cursor, "{refusal}");
+    let _ = match refusal_of(number) {
+        Some(refusal) => write!(cursor, "{refusal}"),
+        None if number == 0 => write!(cursor, "accepted"),
+        None => Ok(()),
+    };
     let length = cursor.position() as usize;
     let room = cursor.into_inner();
     io::write_all(file, part(&room, 0, length));
@@ -72,37 +88,34 @@ pub fn connection_line(name: &[u8], connection: u16) -> Line {
     Line::new().to(name.len())
 }
 
-fn connection_name(connection: u16) -> &'static [u8] {
-    match connection {
-        0x0000 => b"10BaseT",
-        0x0100 => b"10BaseT with Nway",
-        0x0204 => b"10BaseT full duplex",
-        0x0400 => b"10BaseT without link pass test",
-        0x0001 => b"10Base2 (BNC)",
-        0x0002 => b"10Base5 (AUI)",
-        0x0003 => b"100BaseTx",
-        0x0205 => b"100BaseTx full duplex",
-        0x0006 => b"100BaseT4",
-        0x0007 => b"100BaseFx",
-        0x0208 => b"100BaseFx full duplex",
-        0x0009 => b"MII 10BaseT",
-        0x020a => b"MII 10BaseT full duplex",
-        0x000d => b"MII 100BaseTx",
-        0x020e => b"MII 100BaseTx full duplex",
-        0x000f => b"MII 100BaseT4",
-        0x0010 => b"MII 100BaseFx",
-        0x0211 => b"MII 100BaseFx full duplex",
-        0x0800 => b"autosense, at power-up and later",
-        0x8800 => b"autosense at power-up only",
-        0x0900 => b"autosense with Nway",
-        0xffff => b"none selected",
-        _ => b"",
-    }
-}
+// Connection types, as 000 names them.
+const CONNECTIONS: &[u8] = b"0000 10BaseT
+0100 10BaseT with Nway
+0204 10BaseT full duplex
+0400 10BaseT without link pass test
+0001 10Base2 (BNC)
+0002 10Base5 (AUI)
+0003 100BaseTx
+0205 100BaseTx full duplex
+0006 100BaseT4
+0007 100BaseFx
+0208 100BaseFx full duplex
+0009 MII 10BaseT
+020a MII 10BaseT full duplex
+000d MII 100BaseTx
+020e MII 100BaseTx full duplex
+000f MII 100BaseT4
+0010 MII 100BaseFx
+0211 MII 100BaseFx full duplex
+0800 autosense, at power-up and later
+8800 autosense at power-up only
+0900 autosense with Nway
+ffff none selected
+";
 
 // Ends a line with a connection type, by what it is taken as.
 pub fn show_connection(line: Line, connection: u16) {
-    line.text(connection_name(chip::taken_as(connection)))
+    line.text(hex_words(CONNECTIONS, chip::taken_as(connection)))
         .print();
 }
 

@@ -91,12 +91,7 @@ pub extern "C" fn srom_fresh() -> Walk
 pub extern "C" fn srom_load(walk: Walk, image: &[u8], arguments: Arguments) -> Walked
     ensures { result ≡ load_for walk image.now arguments }
 {
-    let mut next = walk;
-    let answer = autosense::load(&mut next, image, arguments);
-    Walked {
-        number: number_of(answer),
-        walk: next,
-    }
+    autosense::load(walk, image, arguments)
 }
 
 // Looks at the links, one byte a block.
@@ -104,12 +99,7 @@ pub extern "C" fn srom_load(walk: Walk, image: &[u8], arguments: Arguments) -> W
 pub extern "C" fn srom_look(walk: Walk, report: &[u8]) -> Walked
     ensures { result ≡ look_for walk report.now }
 {
-    let mut next = walk;
-    let answer = autosense::look(&mut next, report);
-    Walked {
-        number: number_of(answer),
-        walk: next,
-    }
+    autosense::look(walk, report)
 }
 
 // Makes a walk fresh.
@@ -117,12 +107,7 @@ pub extern "C" fn srom_look(walk: Walk, report: &[u8]) -> Walked
 pub extern "C" fn srom_clear(walk: Walk) -> Walked
     ensures { result ≡ clear_for walk }
 {
-    let mut next = walk;
-    autosense::clear(&mut next);
-    Walked {
-        number: 0,
-        walk: next,
-    }
+    autosense::clear(walk)
 }
 
 // What the Magic Packet block of an image says.

@@ -2,7 +2,7 @@
 use Prim.Native.Nat.{ℕ, ◌≤◌, ◌<◌}
 use mathlib.Core.List.{List}
 use mathlib.Core.Path.{◌≡◌, ap, sym, ◌∙◌}
-use mathlib.Core.Bool.{Bool, false}
+use mathlib.Core.Bool.{Bool, true, false}
 use borrow.Author.Tests.{ne_eqb, lt-ltb, le-ltb}
 use Rattle.rom.specs.Geometry.{none}
 use Rattle.rom.specs.Bytes.{pick}
@@ -15,7 +15,7 @@ use Rattle.header.specs.Header.{found_header, header_for}
 use Rattle.header.proofs.Headers.{read_number, no-refusal, read_found, read_count}
 use Rattle.leaf.specs.Leaf.{cut, first_from, place_by_stepping}
 use Rattle.leaf.proofs.Stepping.{placed-stepping}
-use Rattle.survey.specs.Survey.{has_leaf, no_place, place_at, place_for, is_refused, refused_for}
+use Rattle.survey.specs.Survey.{has_leaf, has_block, no_place, place_at, place_for, is_refused, refused_for}
 
 module _ (image : List ℕ) (a : Arguments) (h : HeaderAnswer) (eh : h ≡ header_for image a) where
   -- ## A refused header
@@ -27,6 +27,9 @@ module _ (image : List ℕ) (a : Arguments) (h : HeaderAnswer) (eh : h ≡ heade
     pub no-leaf-place : (k : ℕ) → no_place ≡ place_for image a k
     unfolding place_for pick
     no-leaf-place k = simp no-leaf
+
+    pub no-leaf-block : (k : ℕ) → false ≡ has_block image a k
+    no-leaf-block k = simp no-leaf
 
     pub no-leaf-refused : none ≡ refused_for image a
     unfolding refused_for pick
@@ -47,6 +50,12 @@ module _ (image : List ℕ) (a : Arguments) (h : HeaderAnswer) (eh : h ≡ heade
     pub no-block-place : (k : ℕ) → h.blocks ≤ k → no_place ≡ place_for image a k
     unfolding place_for pick
     no-block-place k l = simp (accepted, le-ltb k (count_for image a) (rw count at l))
+
+    pub no-block-there : (k : ℕ) → h.blocks ≤ k → false ≡ has_block image a k
+    no-block-there k l = simp (accepted, le-ltb k (count_for image a) (rw count at l))
+
+    pub block-there : (k : ℕ) → k < h.blocks → true ≡ has_block image a k
+    block-there k l = simp (accepted, lt-ltb k (count_for image a) (rw count at l))
 
     pub block-stands : (rest : List ℕ) → rest ≡ up_to_leaves_end a.layout image h.start → (k : ℕ) → k < h.blocks
         → place_at h.row (place_by_stepping h.row h.start k rest) ≡ place_for image a k

@@ -16,6 +16,10 @@ use Rattle.survey.specs.declared.Place.{Place}
 abbrev pub has_leaf : List ℕ → Arguments → Bool
 has_leaf image a = eqb (first_met (header_causes image a)) 0
 
+-- whether it has a leaf with a block k
+abbrev pub has_block : List ℕ → Arguments → ℕ → Bool
+has_block image a k = has_leaf image a && ltb k (count_for image a)
+
 -- ## Where a block stands
 
 abbrev pub no_place : Place
@@ -33,7 +37,7 @@ abbrev pub standing_for : List ℕ → Arguments → ℕ → PlacedBlock
 standing_for image a k = get_or (placed (row_for a) (start_for image a) (blocks_for image a)) k (record { start = 0; rest = [] })
 
 unfoldable pub place_for : List ℕ → Arguments → ℕ → Place
-place_for image a k = pick (has_leaf image a && ltb k (count_for image a)) (place_at (row_for a) (standing_for image a k)) no_place
+place_for image a k = pick (has_block image a k) (place_at (row_for a) (standing_for image a k)) no_place
 
 -- ## Which block is refused
 

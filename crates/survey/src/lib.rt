@@ -2,10 +2,12 @@
 // stands, and which one a refusal names.
 #![tactic(auto)]
 
-ghost use Rattle.std.specs.Prelude.{◌≡◌, ◌<◌, drop};
+ghost use Rattle.std.specs.Prelude.{◌≡◌, ◌<◌, drop, IfSome};
+ghost use Rattle.std.specs.Option.{is_some};
+ghost use Rattle.rom.specs.Geometry.{none};
 ghost use Rattle.rom.specs.Numbers.{number_or_none};
 ghost use Rattle.leaf.specs.Leaf.{cut, first_from, place_by_stepping};
-ghost use Rattle.survey.specs.Survey.{place_at, place_for, place_or_nowhere, is_refused, refused_for};
+ghost use Rattle.survey.specs.Survey.{has_block, place_at, place_for, place_or_nowhere, is_refused, refused_for};
 
 use block::shape;
 use reader::Arguments;
@@ -54,14 +56,15 @@ fn find_place(blocks: &[u8], start: usize, row: usize, number: u8) -> Place
 
 // The number of the first block of a leaf that a reader of a level refuses.
 fn first_refused(blocks: &[u8], count: u8, row: usize, level: u8, first_version: bool) -> Option<u8>
-    ensures { number_or_none result ≡ first_from (is_refused first_version row level) 0 (cut row count blocks.now) }
+    ensures value { number_or_none result ≡ first_from (is_refused first_version row level) 0 (cut row count blocks.now) }
+    ensures below { IfSome result (λ number. number < none) }
 {
     let mut rest = blocks;
     for k in 0..count {
-        let Ok(block) = block::judge_in(rest, row, level, first_version) else {
-            return Some(k);
-        };
-        rest = behind(rest, block.size());
+        match block::judge_in(rest, row, level, first_version) {
+            Ok(block) => rest = behind(rest, block.size()),
+            Err(_) => return Some(k),
+        }
     }
     None
 }
@@ -69,7 +72,8 @@ fn first_refused(blocks: &[u8], count: u8, row: usize, level: u8, first_version:
 impl Card<'_> {
     // Where a block stands, by its number; nowhere where the header is refused or there is no such block.
     pub fn block_place(self, number: u8) -> Option<Place>
-        ensures { place_or_nowhere result ≡ place_for self.entry.image.now self.entry.arguments number }
+        ensures value { place_or_nowhere result ≡ place_for self.entry.image.now self.entry.arguments number }
+        ensures found { is_some result ≡ has_block self.entry.image.now self.entry.arguments number }
     {
         let Ok(header) = header::read_header(self.image, self.arguments) else {
             return None;
@@ -83,7 +87,8 @@ impl Card<'_> {
 
     // The number of the first block that is refused, where the header is not.
     pub fn refused_block(self) -> Option<u8>
-        ensures { number_or_none result ≡ refused_for self.entry.image.now self.entry.arguments }
+        ensures value { number_or_none result ≡ refused_for self.entry.image.now self.entry.arguments }
+        ensures below { IfSome result (λ number. number < none) }
     {
         let Ok(header) = header::read_header(self.image, self.arguments) else {
             return None;

@@ -1,9 +1,9 @@
 -- What the code's tally answers, as the definitions have it.
-use Rattle.std.specs.Prelude.{ℕ, Result, Ok, Err}
+use Rattle.std.specs.Prelude.{Result, Ok, Err}
 use Rattle.rom.specs.declared.refusal.Refusal.{Refusal}
 use Rattle.rom.specs.Numbers.{refusal_number, number_or_none}
 use Rattle.leaf.specs.Tally.{TallyAnswer, no_tally}
-use Rattle.tally.specs.declared.Tally.{Tally}
+use Rattle.tally.specs.declared.sorts.Tally.{Tally}
 
 abbrev pub counted : Tally → TallyAnswer
 counted t = record {

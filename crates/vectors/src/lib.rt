@@ -9,7 +9,7 @@ use arrayvec::ArrayVec;
 use image::Arguments;
 use rom::{Layout, Refusal};
 use text::line::{Line, STDIN, STDOUT};
-use text::slice::{byte_at, word_at};
+use text::slice::{byte_at, part, word_at};
 
 // More records than any input has.
 pub const RECORDS: u32 = 1_000_000;
@@ -32,8 +32,8 @@ pub fn next_bytes<const N: usize>(length: usize) -> ArrayVec<u8, N>
     if length <= N {
         io::read_full(STDIN, &mut room[..length]);
     }
-    let mut bytes = ArrayVec::from(room);
-    bytes.truncate(length);
+    let mut bytes = ArrayVec::new();
+    let _ = bytes.try_extend_from_slice(part(&room, 0, length));
     bytes
 }
 

@@ -77,12 +77,12 @@ fn take(
     arguments: Arguments,
 ) -> Result<(), Refusal> {
     match call {
-        WalkCall::Load => autosense::load(walk, image, arguments),
+        WalkCall::Load => autosense::load_lent(walk, image, arguments),
         WalkCall::Clear => {
-            autosense::clear(walk);
+            autosense::clear_lent(walk);
             Ok(())
         }
-        WalkCall::Look(report) => autosense::look(walk, &report),
+        WalkCall::Look(report) => autosense::look_lent(walk, &report),
     }
 }
 

@@ -46,7 +46,7 @@ impl<'a> CountedSheet<'a> {
         rom::byte_at(self.bytes, ByteOffset(sheet::CONTROL_AT))
     }
 
-    pub fn entries(self) -> Entries<'a>
+    pub fn lent_entries(self) -> Entries<'a>
         ensures { entries_left result ≡ (plain_from self.entry.blocks self.entry.bytes.now).entries }
     {
         let (kinds, rest) = self.bytes[sheet::HEAD_LENGTH..].split_at(2 * usize::from(self.blocks));

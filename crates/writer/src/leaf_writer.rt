@@ -75,5 +75,5 @@ pub(crate) fn put_leaf(room: &mut [u8], sheet: CountedSheet)
     ensures { room.new ≡ put room.old 0 (leaf_of (plain_from sheet.entry.blocks sheet.entry.bytes.now)) }
 {
     let start = put_head(room, sheet);
-    put_entries(room, start, sheet.entries());
+    put_entries(room, start, sheet.lent_entries());
 }

@@ -46,7 +46,7 @@ fn check_record(sheet: CountedSheet, layout: Layout) -> Result<(), Refusal>
         return Err(Refusal::SheetEntry);
     }
     let start = sheet::LEAF_START + header::header_length(row);
-    entries::check_entries(sheet.entries(), row, start, layout.leaves_end())
+    entries::check_entries(sheet.lent_entries(), row, start, layout.leaves_end())
 }
 
 // What stands before the leaf, but for the ID CRC: one controller, and its leaf at 30.

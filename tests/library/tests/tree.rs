@@ -137,7 +137,7 @@ fn is_of_library(file: &Path) -> bool {
 }
 
 /// Words that several modules have for what is theirs: they are written behind the module's name, as `magic::read`.
-const BEHIND_THEIR_MODULE: [(&str, &str); 9] = [
+const BEHIND_THEIR_MODULE: [(&str, &str); 8] = [
     (
         "judge",
         "of a leaf's blocks, of a Magic Packet block, of an image",
@@ -147,7 +147,6 @@ const BEHIND_THEIR_MODULE: [(&str, &str); 9] = [
     ("of", "the CRC that the module is about"),
     ("from", "an answer to C, of what the call gives"),
     ("TABLE", "its table"),
-    ("entries", "the media of a block; the parts of a counted sheet"),
     ("next", "an iterator's"),
     ("srom_crc", "the library's call, and the same exported"),
 ];

@@ -13,12 +13,12 @@ unfolding port bad_plain_code
 returns-then-code-ge64 c =
     bad-code _ _ refl (rw (← c.byte_at-code.ensures) (or_left _ (or_left _ (le-leb _ _ c.if-code-ge64.true))))
 
-pub returns-then-not-contains : goal.returns-then-not-contains
+pub returns-then-not-is_port_code : goal.returns-then-not-is_port_code
 unfolding port bad_plain_code port_codes is_in
-returns-then-not-contains c =
+returns-then-not-is_port_code c =
     bad-code _ _ refl
     (rw (← c.byte_at-code.ensures)
-    (or_left _ (or_right (lt-leb _ _ c.if-code-ge64.false) (ap not (sym c.contains.ensures.value) ∙ (ap not c.if-not-contains.true)))))
+    (or_left _ (or_right (lt-leb _ _ c.if-code-ge64.false) (ap not (sym c.is_port_code.ensures) ∙ (ap not c.if-not-is_port_code.true)))))
 
 pub returns-then-command-ne0 : goal.returns-then-command-ne0
 unfolding port bad_plain_code bad_command port_codes is_in
@@ -27,7 +27,7 @@ returns-then-command-ne0 c =
     (rw (← c.byte_at-code.ensures)
     (or_right
     (or-none (lt-leb _ _ c.if-code-ge64.false)
-    (ap not (sym c.contains.ensures.value) ∙ (ap not c.if-not-contains.false)))
+    (ap not (sym c.is_port_code.ensures) ∙ (ap not c.if-not-is_port_code.false)))
     (rw (← c.word_at-command.ensures, ne_eqb _ _ c.if-command-ne0.true))))
 
 pub returns : goal.returns
@@ -43,5 +43,5 @@ returns c =
     (rw (← c.byte_at-code.ensures)
     (or-none
     (or-none (lt-leb _ _ c.if-code-ge64.false)
-    (ap not (sym c.contains.ensures.value) ∙ (ap not c.if-not-contains.false)))
+    (ap not (sym c.is_port_code.ensures) ∙ (ap not c.if-not-is_port_code.false)))
     (rw (← c.word_at-command.ensures, eq-eqb _ _ c.if-command-ne0.false)))) refl)

@@ -13,12 +13,12 @@ unfolding sia bad_sia_code
 returns-then-code-ge128 c =
     bad-code _ _ refl (rw (← c.byte_at-code.ensures) (or_left _ (le-leb _ _ c.if-code-ge128.true)))
 
-pub returns-then-not-contains : goal.returns-then-not-contains
+pub returns-then-not-is_sia_code : goal.returns-then-not-is_sia_code
 unfolding sia bad_sia_code sia_codes is_in
-returns-then-not-contains c =
+returns-then-not-is_sia_code c =
     bad-code _ _ refl
     (rw (← c.byte_at-code.ensures)
-    (or_right (lt-leb _ _ c.if-code-ge128.false) (ap not (sym c.contains.ensures.value) ∙ (ap not c.if-not-contains.true))))
+    (or_right (lt-leb _ _ c.if-code-ge128.false) (ap not (sym c.is_sia_code.ensures) ∙ (ap not c.if-not-is_sia_code.true))))
 
 pub returns : goal.returns
 unfolding sia bad_sia_code sia_codes is_in
@@ -26,4 +26,4 @@ returns c =
     rw c.byte_at-code.ensures
     (fine _ _ refl
     (rw (← c.byte_at-code.ensures)
-    (or-none (lt-leb _ _ c.if-code-ge128.false) (ap not (sym c.contains.ensures.value) ∙ (ap not c.if-not-contains.false)))) refl)
+    (or-none (lt-leb _ _ c.if-code-ge128.false) (ap not (sym c.is_sia_code.ensures) ∙ (ap not c.if-not-is_sia_code.false)))) refl)

@@ -19,14 +19,14 @@ returns-then-code-ge64 c =
     bad-code _ _ (is_right 4 _ c.requires.0 c.if-len-ne8.false)
     (rw (← c.byte_at-code.ensures) (or_left _ (le-leb _ _ c.if-code-ge64.true)))
 
-pub returns-then-not-contains : goal.returns-then-not-contains
+pub returns-then-not-is_sym_code : goal.returns-then-not-is_sym_code
 unfolding symbol bad_plain_code length_for pick sym_codes is_in
-returns-then-not-contains c =
+returns-then-not-is_sym_code c =
     bad-code _ _
     (is_right 4 _ c.requires.0
     c.if-len-ne8.false)
     (rw (← c.byte_at-code.ensures)
-    (or_right (lt-leb _ _ c.if-code-ge64.false) (ap not (sym c.contains.ensures.value) ∙ (ap not c.if-not-contains.true))))
+    (or_right (lt-leb _ _ c.if-code-ge64.false) (ap not (sym c.is_sym_code.ensures) ∙ (ap not c.if-not-is_sym_code.true))))
 
 pub returns : goal.returns
 unfolding symbol bad_plain_code length_for pick sym_codes is_in
@@ -42,4 +42,4 @@ returns c =
     c.if-len-ne8.false)
     (rw (← c.byte_at-code.ensures)
     (or-none (lt-leb _ _ c.if-code-ge64.false)
-    (ap not (sym c.contains.ensures.value) ∙ (ap not c.if-not-contains.false)))) refl)
+    (ap not (sym c.is_sym_code.ensures) ∙ (ap not c.if-not-is_sym_code.false)))) refl)

@@ -1,5 +1,5 @@
 -- The reading, the measured leaf, tidiness and room decide before the first store. Assumes nothing.
-use Rattle.std.proofs.Common.{ℕ, List, ◌≡◌, ◌+◌, ◌≤◌, sym, ap, ◌∙◌, length, arith}
+use Rattle.std.proofs.Common.{ℕ, List, ◌≡◌, ◌≤◌, sym, ap, ◌∙◌, length, arith}
 use Rattle.std.proofs.lemmas.Result.{err_from_is_err_and}
 use Rattle.rom.specs.Refusal.{first_met}
 use Rattle.image.specs.declared.Arguments.{Arguments}
@@ -38,15 +38,10 @@ pub invariant_of-source : goal.invariant_of-source
 unfolding newest_in
 invariant_of-source c = record { read = c.in_ok-reading.ensures.reading }
 
-pub overflow_add-reading : goal.overflow_add-reading
-overflow_add-reading c =
-    let g = geometry c.args.layout in
-    omega (arith, c.blocks-2.ensures.within, c.measure-measured.ensures.within.0)
-
 pub returns-then-not-is_tidy : goal.returns-then-not-is_tidy
 unfolding newest_in answer_from
 returns-then-not-is_tidy c =
-    let end = ap (λ n. c.in_ok-reading.reading.header.start + n) c.measure-measured.ensures.size ∙ c.blocks-2.ensures.end in
+    let end = c.measure-measured.ensures.end ∙ c.blocks-2.ensures.end in
     let both = refused _ _ _ _ _ _ (not-accepted Untidy)
     (make-untidy _ _ _ _ _ (sym c.if-is_beyond.ensures) (judged _ _ c.in_ok-reading.ensures.reading)
     end _ (sym c.if-not-is_tidy.ensures)) in
@@ -55,7 +50,7 @@ returns-then-not-is_tidy c =
 pub returns-then-buffer-length : goal.returns-then-buffer-length
 unfolding newest_in answer_from
 returns-then-buffer-length c =
-    let end = ap (λ n. c.in_ok-reading.reading.header.start + n) c.measure-measured.ensures.size ∙ c.blocks-2.ensures.end in
+    let end = c.measure-measured.ensures.end ∙ c.blocks-2.ensures.end in
     let total = c.measure-measured.ensures.bodies ∙ ap (λ es. length (body_bytes es)) c.blocks-2.ensures.entries in
     let long = made-length-is c.args.form c.args.layout c.args.first_edition c.args.image.now c.args.chip c.in_ok-reading.ensures.reading
     (ok-number c.in_ok-reading.reading) c.shift-head.ensures c.from.ensures total in
@@ -86,7 +81,7 @@ put_sheet-requires c =
 pub returns : goal.returns
 unfolding newest_in answer_from
 returns c =
-    let end = ap (λ n. c.in_ok-reading.reading.header.start + n) c.measure-measured.ensures.size ∙ c.blocks-2.ensures.end in
+    let end = c.measure-measured.ensures.end ∙ c.blocks-2.ensures.end in
     let total = c.measure-measured.ensures.bodies ∙ ap (λ es. length (body_bytes es)) c.blocks-2.ensures.entries in
     let long = made-length-is c.args.form c.args.layout c.args.first_edition c.args.image.now c.args.chip c.in_ok-reading.ensures.reading
     (ok-number c.in_ok-reading.reading) c.shift-head.ensures c.from.ensures total in

@@ -1,6 +1,6 @@
 -- Each turn counts one block, and what is counted and what is left make up the whole. Assumes nothing.
-use Rattle.std.proofs.Common.{rules, arith, refl, ap, sym, ◌∙◌}
-use native.Mathlib.Nat.{le_refl, sub-zero}
+use Rattle.std.proofs.Common.{rules, arith, refl}
+use native.Mathlib.Nat.{sub-zero}
 use Rattle.std.proofs.lemmas.Result.{err_from_is_err_and}
 use Rattle.rom.proofs.Refusals.{not-accepted}
 use Rattle.leaf.specs.Tally.{no_tally}
@@ -10,9 +10,8 @@ use Rattle.tally.proofs.judge.Goals as goal
 
 pub loop-number-init : goal.loop-number-init
 loop-number-init c = record {
-  counted = rw (c.new-tally.ensures.start, sub-zero) (counted_start _ _ _ _);
+  counted = rw (c.new-tally.ensures, sub-zero) (counted_start _ _ _ _);
   modes = rw sub-zero (modes-start _ _ _);
-  bounded = rw c.new-tally.ensures.without_default tt;
 }
 
 pub returns-in_err-block : goal.returns-in_err-block
@@ -25,19 +24,21 @@ returns-in_err-block c =
 
 pub slice_bounds-rest-count : goal.slice_bounds-rest-count
 slice_bounds-rest-count c =
-    judge-fits _ _ _ _ _ c.loop-number.invariant.counted c.loop-number-test.true c.in_ok-block.ensures c.with-tally.ensures.grown refl
-    c.size.ensures
+    omega (
+      arith,
+      judge-fits _ _ _ _ _ c.loop-number.invariant.counted c.loop-number-test.true c.in_ok-block.ensures c.with-tally.ensures refl
+          c.size-size.ensures,
+    )
 
 pub slice_bounds-rest-start : goal.slice_bounds-rest-start
 slice_bounds-rest-start = slice_bounds-rest-count
 
 pub loop-number-preserved : goal.loop-number-preserved
 loop-number-preserved c = let inv = c.loop-number.invariant in record {
-  counted = judge-more _ _ _ _ _ inv.counted c.loop-number-test.true c.in_ok-block.ensures c.with-tally.ensures.grown refl c.size.ensures
+  counted = judge-more _ _ _ _ _ inv.counted c.loop-number-test.true c.in_ok-block.ensures c.with-tally.ensures refl c.size-size.ensures
       c.ranges.count.fits;
-  modes = judge-modes _ _ _ _ _ inv.counted c.loop-number-test.true c.in_ok-block.ensures c.with-tally.ensures.grown refl c.size.ensures
+  modes = judge-modes _ _ _ _ _ inv.counted c.loop-number-test.true c.in_ok-block.ensures c.with-tally.ensures refl c.size-size.ensures
       inv.modes c.mode-mode.ensures (search rules);
-  bounded = c.with-tally.ensures.bounded;
 }
 
 pub returns-then-clashes : goal.returns-then-clashes
@@ -51,5 +52,8 @@ returns-then-repeated-ne0 c =
 
 pub returns : goal.returns
 returns c =
-    judge-done _ _ _ _ _ c.loop-number.invariant.counted c.loop-number-test.false c.clashes.ensures c.if-clashes.false
-    c.loop-number.invariant.modes c.if-repeated-ne0.false
+    grind (
+      arith,
+      judge-done _ _ _ _ _ c.loop-number.invariant.counted c.loop-number-test.false c.clashes.ensures c.if-clashes.false
+          c.loop-number.invariant.modes c.if-repeated-ne0.false,
+    )

@@ -15,11 +15,11 @@ returns-then-is_stray_control c =
 pub check_entries-requires : goal.check_entries-requires
 check_entries-requires c =
     let few : c.args.sheet.blocks < 256 = search rules in (
-      omega (arith, ap length c.entries.ensures, entry-count c.args.sheet.blocks c.args.sheet.bytes.now),
+      omega (arith, ap length c.lent_entries.ensures, entry-count c.args.sheet.blocks c.args.sheet.bytes.now),
       omega (arith, c.header_length-start.ensures),
     )
 
 pub returns : goal.returns
 returns c =
     record-entries c.args.layout _ c.row-row.ensures c.if-row-ge-CHIP_COUNT.false c.control.ensures (sym c.if-is_stray_control.ensures)
-    c.leaves_end.ensures c.header_length-start.ensures.0 c.entries.ensures c.check_entries.ensures
+    c.leaves_end.ensures c.header_length-start.ensures.0 c.lent_entries.ensures c.check_entries.ensures

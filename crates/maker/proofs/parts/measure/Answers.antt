@@ -1,42 +1,27 @@
--- Each turn adds a block's size and its body's. Assumes nothing.
+-- Each turn goes on behind a block, and adds its body's size. Assumes nothing.
 use Rattle.std.proofs.Common.{ap, arith}
 use Rattle.maker.specs.Blocks.{blocks_left}
-use Rattle.maker.proofs.Turns.{sizes-fit, first-small}
-use Rattle.maker.proofs.Filling.{measured-start, measured-end, measured-room, measured-more}
+use Rattle.maker.proofs.Filling.{measured-start, measured-end, measured-more}
 use Rattle.maker.proofs.parts.measure.Goals as goal
 
-pub loop-size-init : goal.loop-size-init
-loop-size-init c =
-    measured-start (ap blocks_left c.into_iter-size-iterator.ensures.into_iter_gives)
+pub loop-start-init : goal.loop-start-init
+loop-start-init c =
+    measured-start c.args.blocks (ap blocks_left c.into_iter-start-iterator.ensures.into_iter_gives)
 
 pub overflow_add-measured : goal.overflow_add-measured
 overflow_add-measured c =
-    let b = c.args.blocks in
-    omega (arith, measured-room c.loop-size.invariant c.in-Some.ensures.steps, sizes-fit b.row b.count b.rest.now b.accepted)
+    let i = measured-more c.loop-start.invariant c.in-Some.ensures.steps in omega (arith, i.running.inside)
 
-pub overflow_add-measured-in-loop-size : goal.overflow_add-measured-in-loop-size
-overflow_add-measured-in-loop-size c =
-    let b = c.args.blocks in
-    let w = first-small _ _ _ c.loop-size.size-iterator.accepted c.in-Some.ensures.steps in
-    omega (
-      arith,
-      c.loop-size.invariant.less,
-      w.body,
-      measured-room c.loop-size.invariant c.in-Some.ensures.steps,
-      sizes-fit b.row b.count b.rest.now b.accepted,
-    )
+pub overflow_add-measured-in-loop-start : goal.overflow_add-measured-in-loop-start
+overflow_add-measured-in-loop-start c =
+    let i = measured-more c.loop-start.invariant c.in-Some.ensures.steps in omega (arith, i.less, i.running.inside)
 
-pub loop-size-preserved : goal.loop-size-preserved
-loop-size-preserved c =
-    measured-more c.loop-size.invariant c.in-Some.ensures.steps
-    (first-small _ _ _ c.loop-size.size-iterator.accepted c.in-Some.ensures.steps)
+pub loop-start-preserved : goal.loop-start-preserved
+loop-start-preserved c =
+    measured-more c.loop-start.invariant c.in-Some.ensures.steps
 
 pub returns : goal.returns
 returns c =
-    let b = c.args.blocks in
-    let both = measured-end c.loop-size.invariant c.in-None.ensures.steps.0 in
-    record {
-      size = both.0;
-      bodies = both.1;
-      within = (omega (arith, both.0, sizes-fit b.row b.count b.rest.now b.accepted), c.loop-size.invariant.less);
-    }
+    let i = c.loop-start.invariant in
+    let both = measured-end i c.in-None.ensures.steps.0 in
+    record { end = both.0; bodies = both.1; within = (i.running.inside, i.less) }

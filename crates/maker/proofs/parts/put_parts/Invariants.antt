@@ -1,9 +1,8 @@
--- Each turn lays in the three pieces of a block. Assumes nothing.
-use Rattle.maker.specs.Blocks.{entries_in, blocks_left}
-use Rattle.maker.proofs.Filling.{Filling}
+-- Each turn lays in the three pieces of the block at the running start. Assumes nothing.
+use Rattle.maker.specs.Blocks.{blocks_left}
+use Rattle.maker.proofs.Filling.{FillingBlocks}
 use Rattle.maker.proofs.parts.put_parts.Given as goal
 
 abbrev pub invariant-loop-entry : goal.invariant-loop-entry
 invariant-loop-entry l =
-    Filling l.initial.sheet (entries_in (blocks_left l.blocks)) (entries_in (blocks_left l.entry-iterator)) l.sheet l.kind_at l.size_at
-    l.body_at
+    FillingBlocks l.blocks (blocks_left l.entry-iterator) l.initial.sheet l.sheet l.kind_at l.size_at l.body_at

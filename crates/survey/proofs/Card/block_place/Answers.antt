@@ -4,19 +4,26 @@ use Rattle.rom.proofs.Layouts.{geometry}
 use Rattle.rom.proofs.Refusals.{not-accepted}
 use Rattle.header.specs.Header.{no_header}
 use Rattle.header.proofs.Headers.{read-start}
-use Rattle.survey.proofs.Leaves.{no-leaf-place, no-block-place, block-stands}
+use Rattle.survey.proofs.Leaves.{no-leaf-place, no-leaf-block, no-block-place, no-block-there, block-stands, block-there}
 use Rattle.survey.proofs.Card.block_place.Goals as goal
 
 pub returns-in_default : goal.returns-in_default
 unfolding no_header
 returns-in_default c =
     let a = c.args.self in
-    no-leaf-place a.image.now a.arguments _ c.in_default.ensures (not-accepted c.in_default.field-0) c.args.number
+    let refused = not-accepted c.in_default.field-0 in
+    record {
+      value = no-leaf-place a.image.now a.arguments _ c.in_default.ensures refused c.args.number;
+      found = no-leaf-block a.image.now a.arguments _ c.in_default.ensures refused c.args.number;
+    }
 
 pub returns-then-header-number : goal.returns-then-header-number
 returns-then-header-number c =
     let a = c.args.self in
-    no-block-place a.image.now a.arguments _ c.in-Ok.ensures refl c.args.number c.if-header-number.true
+    record {
+      value = no-block-place a.image.now a.arguments _ c.in-Ok.ensures refl c.args.number c.if-header-number.true;
+      found = no-block-there a.image.now a.arguments _ c.in-Ok.ensures refl c.args.number c.if-header-number.true;
+    }
 
 pub find_place-requires : goal.find_place-requires
 find_place-requires c =
@@ -27,6 +34,9 @@ find_place-requires c =
 pub returns : goal.returns
 returns c =
     let a = c.args.self in
-    c.find_place.ensures
-    ∙ block-stands a.image.now a.arguments _ c.in-Ok.ensures refl _ c.up_to_leaves_end-rest.ensures.result_value c.args.number
-    c.if-header-number.false
+    record {
+      value = c.find_place.ensures
+          ∙ block-stands a.image.now a.arguments _ c.in-Ok.ensures refl _ c.up_to_leaves_end-rest.ensures.result_value c.args.number
+          c.if-header-number.false;
+      found = block-there a.image.now a.arguments _ c.in-Ok.ensures refl c.args.number c.if-header-number.false;
+    }

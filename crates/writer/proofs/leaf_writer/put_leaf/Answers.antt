@@ -4,8 +4,8 @@ use Rattle.writer.proofs.leaf_writer.put_leaf.Goals as goal
 
 pub put_entries-requires : goal.put_entries-requires
 put_entries-requires c =
-    leaf-holds c.requires c.put_head-start.ensures.value c.put_head-start.ensures.room_after c.entries.ensures
+    leaf-holds c.requires c.put_head-start.ensures.value c.put_head-start.ensures.room_after c.lent_entries.ensures
 
 pub returns : goal.returns
 returns c =
-    leaf-put c.requires c.put_head-start.ensures.value c.put_head-start.ensures.room_after c.entries.ensures c.put_entries.ensures
+    leaf-put c.requires c.put_head-start.ensures.value c.put_head-start.ensures.room_after c.lent_entries.ensures c.put_entries.ensures

@@ -1,7 +1,7 @@
 -- The three parts stand one behind the other. Assumes nothing.
 use Rattle.std.proofs.Common.{ℕ, ◌*◌, ap, refl}
 use Rattle.writer.proofs.Counting.{counted-parts, counted-entries}
-use Rattle.writer.proofs.counted.CountedSheet.entries.Goals as goal
+use Rattle.writer.proofs.counted.CountedSheet.lent_entries.Goals as goal
 
 pub invariant_of-result : goal.invariant_of-result
 invariant_of-result c =

@@ -8,7 +8,7 @@ use Rattle.walk.specs.Walk.{look_causes, sensed}
 use Rattle.walk.proofs.Looks.{look-done}
 use Rattle.autosense.specs.Inside.{choice_from}
 use Rattle.autosense.proofs.Steps.{chosen_from, stepped_from}
-use Rattle.autosense.proofs.look.Goals as goal
+use Rattle.autosense.proofs.look_lent.Goals as goal
 
 pub returns : goal.returns
 unfolding look_causes

@@ -6,7 +6,7 @@ use Rattle.reader.specs.Reading.{refused_answer, refused_reading}
 use Rattle.reader.proofs.Answered.{ok-number, err-number, number-unwrapped}
 use Rattle.reader.proofs.Readings.{accepted-judged, reading-blocks}
 use Rattle.walk.proofs.Loads.{load-loaded, load-refused, load-done}
-use Rattle.autosense.proofs.load.Goals as goal
+use Rattle.autosense.proofs.load_lent.Goals as goal
 
 pub returns-then-walk : goal.returns-then-walk
 returns-then-walk c = load-loaded _ _ _ c.if-walk.true
