@@ -39,7 +39,7 @@ some-length : (row : ℕ) (s : List ℕ) → refusal_of row newest_level s ≡ 0
 unfolding refusal_of causes
 some-length row s e = (or-false (is_extended row s && eqb (length_of s) 0) _ (none_here _ _ (lit< tt) (none_here _ _ (lit< tt) e).1).0).0
 
-record FittingBlock (row : ℕ) (s : List ℕ) : Type 0 where
+pub record FittingBlock (row : ℕ) (s : List ℕ) : Type 0 where
   pub inside : size_of row s ≤ length s
   pub opens : opening_length row s ≤ size_of row s
   pub small : size_of row s ≤ 128
@@ -74,13 +74,13 @@ fitting-block row s e =
 abbrev pub started_cut : ℕ → ℕ → ℕ → List ℕ → List (ℕ × ℕ × Entry)
 started_cut row count at s = map (started_block row) (placed row at (cut row count s))
 
-record Turn (row count at : ℕ) (s : List ℕ) : Type 0 where
+pub record Turn (row count at : ℕ) (s : List ℕ) : Type 0 where
   pub fitting : FittingBlock row s
   pub left : started_cut row count at s
       ≡ started_block row (record { start = at; rest = s }) ∷ started_cut row (count - 1) (at + size_of row s) (drop (size_of row s) s)
   pub next : AcceptedBlocks row (count - 1) (drop (size_of row s) s)
 
-body_turn : (row count at : ℕ) (s : List ℕ) → AcceptedBlocks row count s → (count ≡ 0 → ⊥) → Turn row count at s
+pub body_turn : (row count at : ℕ) (s : List ℕ) → AcceptedBlocks row count s → (count ≡ 0 → ⊥) → Turn row count at s
 unfolding cut placed
 body_turn row zero at s a h = absurd (h refl)
 body_turn row (suc n) at s a h =

@@ -2,7 +2,7 @@
 use Rattle.rom.specs.Bytes.{pick}
 use Rattle.rom.specs.Geometry.{other_size}
 use Rattle.report.specs.Words.{arguments_words, connection_words}
-use Rattle.report.specs.Sizes.{is_named}
+use Rattle.report.specs.Sizes.{named_size, is_named}
 
 unfoldable pub arguments_words_compute : Unit {0}
 unfolding pick arguments_words
@@ -15,3 +15,7 @@ connection_computes = tt
 unfoldable pub is_named_computes : Unit {0}
 unfolding other_size is_named
 is_named_computes = tt
+
+unfoldable pub named_size_computes : Unit {0}
+unfolding pick other_size named_size is_named
+named_size_computes = tt

@@ -1,6 +1,6 @@
 -- The size of the ROM whose bytes a file holds.
-use Rattle.std.specs.Prelude.{ℕ, Bool, ◌||◌, eqb, Option}
-use Rattle.std.specs.Option.{unwrap_or}
+use Rattle.std.specs.Prelude.{ℕ, Bool, ◌||◌, eqb, Option, Some, None}
+use Rattle.std.specs.Option.{is_some, unwrap_or}
 use Rattle.rom.specs.Bytes.{pick}
 use Rattle.rom.specs.Geometry.{small_size, large_size, other_size}
 
@@ -15,3 +15,7 @@ size_for said length = unwrap_or said (size_by_length length)
 -- whether a verdict names it: it was given, or is not the smaller
 unfoldable pub is_named : Bool → ℕ → Bool
 is_named given size = given || other_size size
+
+-- the size that it names
+unfoldable pub named_size : Option ℕ → ℕ → Option ℕ
+named_size said length = pick (is_named (is_some said) (size_for said length)) (Some (size_for said length)) None

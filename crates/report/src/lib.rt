@@ -2,6 +2,8 @@
 #![tactic(auto)]
 
 pub mod size;
+#[cfg(test)]
+mod tests;
 pub mod words;
 
 ghost use Rattle.std.specs.Prelude.{◌≡◌, ◌++◌};
